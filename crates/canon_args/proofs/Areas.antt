@@ -8,7 +8,8 @@ use Rattle.canon_context.specs.declared.fault.Fault.TheVariants as fault
 use Rattle.canon_leaves.specs.Parts.{LeavesStop, Part}
 use Rattle.canon_ledger.specs.Ledger.{LedgerState}
 use Rattle.canon_lift_parts.proofs.Refusals.{named_in, refused_before, refused_by}
-use Rattle.canon_reading.specs.Reading.{Lifts, Reading, Refused, Setting, stop_of}
+use Rattle.canon_reading.specs.Reading.{Lifts, Reading, Refused, Setting}
+use Rattle.canon_context.specs.Faults.{stop_of}
 use Rattle.canon_reading.specs.Spots.{flat_in, pointer_in, stored}
 use Rattle.canon_model.specs.Layout.{align, flat, members_flat, size}
 use Rattle.canon_model.specs.Memory.{Inside}

@@ -17,7 +17,8 @@ use Rattle.canon_ledger.specs.declared.fault.ResourceFault.{ResourceFault}
 use Rattle.canon_lift_parts.proofs.Exactness.{lifts_exactly_there}
 use Rattle.canon_reading.specs.Laws.{IsLifted, LiftsExactly}
 use Rattle.canon_reading.specs.OfTrees.{IsFaulted, IsOfTrees, IsPriced}
-use Rattle.canon_reading.specs.Reading.{AreTaken, Lifts, Reading, Refused, Setting, stop_of}
+use Rattle.canon_reading.specs.Reading.{AreTaken, Lifts, Reading, Refused, Setting}
+use Rattle.canon_context.specs.Faults.{stop_of}
 use Rattle.canon_reading.specs.Spots.{Represents, Spot, flat_in, stored}
 use Rattle.canon_reading.specs.Ways.{AreLiftedBy}
 use Rattle.canon_model.proofs.Faults.{fault_excludes}

@@ -18,7 +18,7 @@ use Rattle.canon_ledger.specs.Handles as handles
 use Rattle.canon_ledger.specs.Handles.{Handles, Lender, OpenScope, StepAnswer, dropped, host_table, lifted_own, no_scope, number_of, one_borrow_less, removing_resource, table_at, with_table}
 use Rattle.canon_ledger.specs.Index.{GivenIndex}
 use Rattle.canon_ledger.specs.Ledger as ledger
-use Rattle.canon_ledger.specs.Ledger.{Done, HostDrop, HostLiftBorrow, HostLiftOwn, HostLowerBorrow, HostLowerOwn, HostRemove, LedgerState, LedgerStep, do_step, is_stale, plainly, removed_once_told, run, unless_stale}
+use Rattle.canon_ledger.specs.Ledger.{Done, HostDrop, HostLiftBorrow, HostLiftOwn, HostLowerBorrow, HostLowerOwn, HostRemove, LedgerState, LedgerStep, do_step, is_stale, plainly, removed_once_told, run_steps, unless_stale}
 use Rattle.canon_ledger.specs.declared.fault.ResourceFault.{ResourceFault}
 use Rattle.canon_ledger.specs.declared.fault.ResourceFault.TheVariants as fault
 use Rattle.canon_context.specs.Host.{HostSteps, IsHostStep, lenders_in}
@@ -86,7 +86,7 @@ module _ (lent : List (List Lender)) where
     step_keeps (HostLowerBorrow None rep) of_host = same
     step_keeps _ of_host = absurd of_host
 
-  run_keeps : (steps : List LedgerStep) (l : LedgerState) → All IsHostStep steps → AreLent l.handles → AreLent (run steps l).handles
+  run_keeps : (steps : List LedgerStep) (l : LedgerState) → All IsHostStep steps → AreLent l.handles → AreLent (run_steps steps l).handles
   run_keeps [] l each same = same
   run_keeps (s ∷ steps) l each same = run_keeps steps (do_step s l).after (λ k d less. each (suc k) d (omega (arith, less))) (step_keeps l same s (each 0 s (omega arith)))
 

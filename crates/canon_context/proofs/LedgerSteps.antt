@@ -1,9 +1,9 @@
 -- What the ledger is after steps of it, up to one that may be refused.
 use Rattle.std.proofs.Common.{List, [], inl, inr, ◌≡◌, ◌∷◌}
-use Rattle.canon_ledger.specs.Ledger.{LedgerState, LedgerStep, Partway, Through, do_step, run}
+use Rattle.canon_ledger.specs.Ledger.{LedgerState, LedgerStep, Partway, Through, do_step, run_steps}
 use Rattle.canon_context.specs.Lifter.{IsAfterSteps}
 
-through_run : (l m : LedgerState) (steps : List LedgerStep) → Through l steps m → m ≡ run steps l
+through_run : (l m : LedgerState) (steps : List LedgerStep) → Through l steps m → m ≡ run_steps steps l
 through_run l m [] h = h
 through_run l m (step ∷ steps) (a, ok, rest) = through_run (do_step step l).after m steps rest
 

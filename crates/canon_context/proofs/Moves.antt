@@ -3,7 +3,7 @@ use Rattle.std.proofs.Common.{◌≡◌, ◌++◌, ◌∙◌, Err, List, None, O
 use Rattle.std.proofs.lemmas.List.{append-nil, append_cancel_left}
 use Rattle.canon_lowering.specs.Lowering.{Ending, Reallocated, done, misaligned, out_of_bounds, refused, short, trapped}
 use Rattle.canon_memory.specs.Guest.{GuestIn, OnAnswer, Seen, guest_in, moment}
-use Rattle.canon_memory.specs.Journal.{Adds, realloc_events}
+use Rattle.canon_memory.specs.Journal.{AddsEvents, realloc_events}
 use Rattle.canon_memory.specs.declared.event.Event.{Event}
 use Rattle.canon_model.specs.Requests.{Call}
 use Rattle.canon_context.specs.Lowers.{answer_of, ending_of, guest_answer}
@@ -31,27 +31,27 @@ module _ {G : Type 0} (L : GuestLaws G) where
   moves_at g h short m = tt
 
   -- by these events, which were added
-  moves_added : (g h : GuestIn G) (es : List Event) → Adds (L.seen g.guest).journal (L.seen h.guest).journal es → L.moves g es h → MovesBy L.seen L.moves g h
+  moves_added : (g h : GuestIn G) (es : List Event) → AddsEvents (L.seen g.guest).journal (L.seen h.guest).journal es → L.moves g es h → MovesBy L.seen L.moves g h
   moves_added g h es added m told events et eh =
-      let same : told ++ events ≡ told ++ es = same_some _ _ (sym eh ∙ subst (λ (j : Option (List Event)). Adds j (L.seen h.guest).journal es) et added) in
+      let same : told ++ events ≡ told ++ es = same_some _ _ (sym eh ∙ subst (λ (j : Option (List Event)). AddsEvents j (L.seen h.guest).journal es) et added) in
       subst (λ (xs : List Event). L.moves g xs h) (sym (append_cancel_left told events es same)) m
 
-  adds_none : (j : Option (List Event)) → Adds j j []
+  adds_none : (j : Option (List Event)) → AddsEvents j j []
   adds_none None = refl
   adds_none (Some es) = ap Some (sym (append-nil es))
 
   pub moves_none : (g : GuestIn G) (e : Ending) → Moves L.seen L.moves g g e
   moves_none g e = moves_at g g e (moves_added g g [] (adds_none (L.seen g.guest).journal) (L.stays g))
 
-  moves_both : (g h k : GuestIn G) (es fs : List Event) → Adds (L.seen g.guest).journal (L.seen h.guest).journal es → Adds (L.seen h.guest).journal (L.seen k.guest).journal fs → MovesBy L.seen L.moves g h → MovesBy L.seen L.moves h k → MovesBy L.seen L.moves g k
+  moves_both : (g h k : GuestIn G) (es fs : List Event) → AddsEvents (L.seen g.guest).journal (L.seen h.guest).journal es → AddsEvents (L.seen h.guest).journal (L.seen k.guest).journal fs → MovesBy L.seen L.moves g h → MovesBy L.seen L.moves h k → MovesBy L.seen L.moves g k
   moves_both g h k es fs add add2 m n told events et ek =
-      let eh : (L.seen h.guest).journal ≡ Some (told ++ es) = subst (λ (j : Option (List Event)). Adds j (L.seen h.guest).journal es) et add in
-      let ek2 : (L.seen k.guest).journal ≡ Some ((told ++ es) ++ fs) = subst (λ (j : Option (List Event)). Adds j (L.seen k.guest).journal fs) eh add2 in
+      let eh : (L.seen h.guest).journal ≡ Some (told ++ es) = subst (λ (j : Option (List Event)). AddsEvents j (L.seen h.guest).journal es) et add in
+      let ek2 : (L.seen k.guest).journal ≡ Some ((told ++ es) ++ fs) = subst (λ (j : Option (List Event)). AddsEvents j (L.seen k.guest).journal fs) eh add2 in
       let same : told ++ events ≡ told ++ (es ++ fs) = same_some _ _ (sym ek ∙ ek2) ∙ append_assoc told es fs in
       subst (λ (xs : List Event). L.moves g xs k) (sym (append_cancel_left told events (es ++ fs) same)) (L.goes_on g h k es fs (m told es et eh) (n (told ++ es) fs eh ek2))
 
   -- what was done, and then what the ending is of
-  pub moves_then : (g h k : GuestIn G) (e : Ending) (es fs : List Event) → Adds (L.seen g.guest).journal (L.seen h.guest).journal es → Adds (L.seen h.guest).journal (L.seen k.guest).journal fs
+  pub moves_then : (g h k : GuestIn G) (e : Ending) (es fs : List Event) → AddsEvents (L.seen g.guest).journal (L.seen h.guest).journal es → AddsEvents (L.seen h.guest).journal (L.seen k.guest).journal fs
       → Moves L.seen L.moves g h done → Moves L.seen L.moves h k e → Moves L.seen L.moves g k e
   moves_then g h k done es fs add add2 m n = moves_both g h k es fs add add2 m n
   moves_then g h k refused es fs add add2 m n = moves_both g h k es fs add add2 m n

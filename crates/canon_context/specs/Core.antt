@@ -6,7 +6,7 @@ use Rattle.canon_ledger.specs.Ledger.{LedgerState}
 use Rattle.canon_ledger.specs.Places.{table_of_index}
 use Rattle.canon_memory.specs.Guest.{GuestIn, Moment, Seen, guest_in, moment}
 use Rattle.canon_model.specs.Text.{Encoding}
-use Rattle.canon_types.specs.Table.{HasResource, Table}
+use Rattle.canon_types.specs.Table.{HasResource, TypeTable}
 use Rattle.canon_context.specs.Component.{encoding_at}
 use Rattle.canon_context.specs.declared.component.Component.{Component}
 
@@ -19,11 +19,11 @@ pub record Parts (T G : Type 0) : Type 0 where
   pub ledger : LedgerState
   pub fuel : ℕ
 
-abbrev pub component_types : {T G : Type 0} → Parts T G → Table
+abbrev pub component_types : {T G : Type 0} → Parts T G → TypeTable
 component_types core = core.component.types.types
 
 -- where the index is one of a component, its resource type is known
-abbrev pub HasKnownType : Table → TypedResourceIndex → Type 0
+abbrev pub HasKnownType : TypeTable → TypedResourceIndex → Type 0
 HasKnownType types (HostIndex i) = Unit {0}
 HasKnownType types (ComponentIndex ty i) = HasResource types ty
 

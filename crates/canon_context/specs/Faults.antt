@@ -1,9 +1,9 @@
 -- Faults of a guest, and refusals of the ledger.
-use Rattle.std.specs.Prelude.{◌≡◌, Bool, Err, Ok, Result, false, true, ℕ}
+use Rattle.std.specs.Prelude.{◌≡◌, Bool, Err, Ok, Result, false, true, ℕ, Option, None}
 use Rattle.canon_ledger.specs.declared.fault.ResourceFault.{ResourceFault}
 use Rattle.canon_ledger.specs.declared.fault.ResourceFault.TheVariants as resource
 use Rattle.canon_ledger.specs.Ledger.{Did, Done, LedgerState}
-use Rattle.canon_leaves.specs.Parts.{Part, borrow_in, is_defined_here, table_for, tell}
+use Rattle.canon_leaves.specs.Parts.{Part, borrow_in, is_defined_here, refusal_of, table_for, tell}
 use Rattle.canon_types.specs.Instance.{Instance}
 use Rattle.canon_memory.specs.declared.error.GuestFault.{GuestFault}
 use Rattle.canon_memory.specs.declared.error.GuestFault.TheVariants as guest
@@ -22,6 +22,11 @@ resource_fault e = fault.Resource e
 abbrev pub faulted : {A : Type 0} → Result A ResourceFault → Result A Fault
 faulted (Ok a) = Ok a
 faulted (Err e) = Err (resource_fault e)
+
+-- the refusal that stopped a walk, if it was the ledger's; out of memory is none
+abbrev pub stop_of : Fault → Option ResourceFault
+stop_of (fault.Resource e) = refusal_of e
+stop_of _ = None
 
 -- a step of the ledger, its refusal reported as a fault
 pub record Stepped {A : Type 0} (d : Done A) (result : Result A Fault) (l l2 : LedgerState) : Type 0 where

@@ -3,7 +3,7 @@ use Rattle.std.specs.Prelude.{◌≡◌, All, List, None, map}
 use Rattle.std.specs.Borrow.{Bor, MutBor}
 use Rattle.std.specs.Fn.{Shared}
 use Rattle.canon_ledger.specs.Handles.{Lender}
-use Rattle.canon_ledger.specs.Ledger.{HostDrop, HostLiftBorrow, HostLiftOwn, HostLowerBorrow, HostLowerOwn, HostRemove, LedgerState, LedgerStep, run}
+use Rattle.canon_ledger.specs.Ledger.{HostDrop, HostLiftBorrow, HostLiftOwn, HostLowerBorrow, HostLowerOwn, HostRemove, LedgerState, LedgerStep, run_steps}
 use Rattle.canon_ledger.specs.Reached.{known_in, ledger_in, reference_in, scope_in}
 use Rattle.canon_types.specs.declared.types.TypeFunc.{TypeFunc}
 use Rattle.canon_context.specs.Core.{Parts}
@@ -25,7 +25,7 @@ IsHostStep _ = ⊥
 pub record HostSteps (before after : LedgerState) : Type 0 where
   pub steps : List LedgerStep
   pub each : All IsHostStep steps
-  pub is : after ≡ run steps before
+  pub is : after ≡ run_steps steps before
 
 -- the open scopes, each with the handles that are lent to it
 abbrev pub lenders_in : LedgerState → List (List Lender)

@@ -1,7 +1,7 @@
 -- What is lifted from, and what that does to the ledger.
 use Rattle.std.specs.Prelude.{List, ℕ, ◌≡◌}
 use Rattle.canon_indices.specs.Options.{encoding_of}
-use Rattle.canon_ledger.specs.Ledger.{LedgerState, LedgerStep, run}
+use Rattle.canon_ledger.specs.Ledger.{LedgerState, LedgerStep, run_steps}
 use Rattle.canon_model.specs.Text.{Encoding}
 use Rattle.canon_types.specs.Instance.{Instance}
 use Rattle.canon_context.specs.Core.{Parts, encoding_by}
@@ -25,4 +25,4 @@ IsOneOrigin source = source.types.now ≡ source.instance.now.types
 
 -- the second is what the first becomes by some steps of the ledger, refused or not
 abbrev pub IsAfterSteps : LedgerState → LedgerState → Type 0
-IsAfterSteps before after = (steps : List LedgerStep) × (after ≡ run steps before)
+IsAfterSteps before after = (steps : List LedgerStep) × (after ≡ run_steps steps before)

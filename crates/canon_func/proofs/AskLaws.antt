@@ -13,7 +13,7 @@ use Rattle.canon_context.specs.Host.{HostSteps}
 use Rattle.canon_context.specs.declared.fault.Fault.{Fault}
 use Rattle.canon_context.specs.declared.fault.Fault.TheVariants as fault
 use Rattle.canon_context.specs.declared.host.HostStop.{HostStop}
-use Rattle.canon_value_parts.specs.Resources.{stop_of}
+use Rattle.canon_context.specs.Faults.{stop_of}
 use Rattle.canon_host.specs.Forms.{in_view}
 use Rattle.canon_host.specs.HostSide.{Answering, LoggedEntry}
 use Rattle.canon_host.specs.Serves.{Steps, Values}

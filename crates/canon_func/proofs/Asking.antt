@@ -8,7 +8,7 @@ use Rattle.canon_memory.specs.declared.event.Event.TheVariants as event
 use Rattle.canon_memory.specs.declared.guest.Step.{Step}
 use Rattle.canon_memory.specs.declared.guest.Step.TheVariants as step
 use Rattle.canon_memory.specs.Guest.{Goes, Moment, Seen, moment}
-use Rattle.canon_memory.specs.Journal.{Adds, trap_event}
+use Rattle.canon_memory.specs.Journal.{AddsEvents, trap_event}
 use Rattle.canon_ledger.specs.Ledger.{Did, Done, LedgerState}
 use Rattle.canon_ledger.specs.declared.fault.ResourceFault.{ResourceFault}
 use Rattle.canon_ledger.specs.declared.fault.ResourceFault.TheVariants as resource
@@ -22,7 +22,7 @@ use Rattle.canon_host.specs.HostSide.{LoggedEntry, Giving, HostSide, host_side}
 use Rattle.canon_context.specs.declared.component.Component.{Component}
 use Rattle.canon_context.specs.declared.component.Export.{Export}
 use Rattle.canon_context.specs.declared.component.Import.TheVariants as import
-use Rattle.canon_types.specs.Table.{Table, tuple_members}
+use Rattle.canon_types.specs.Table.{TypeTable, tuple_members}
 use Rattle.canon_host.specs.Asked.{IsAsked}
 use Rattle.canon_host.specs.declared.asked.Asked.{Asked}
 use Rattle.canon_func.specs.Asks.{AskStops, IsAskOf, IsServed, Limits, ask_step, builtin_of, host_words, import_words}
@@ -260,11 +260,11 @@ module _ {T G : Type 0} (a b : Parts T G) where
   ledger_kept log refusals same = λ i. record (host_side a log refusals) { ledger = same i }
 
 -- how many words the results take in a row, by the types of the core
-pub row_counted : {T G : Type 0} (a m : Parts T G) (asked : Asked) (export : Export) (types : Table) (component : Component) (count : ℕ) → SameButHost a m → component ≡ m.component → types ≡ component.types.types
+pub row_counted : {T G : Type 0} (a m : Parts T G) (asked : Asked) (export : Export) (types : TypeTable) (component : Component) (count : ℕ) → SameButHost a m → component ≡ m.component → types ≡ component.types.types
     → count ≡ row_words (tuple_members types asked.func.results) → count ≡ row_words (asked_results (export_callee a.component export) asked)
 row_counted a m asked export types component count same is types_are counted =
     counted ∙ ap (λ t. row_words (tuple_members t asked.func.results)) (types_are ∙ (ap (λ (k : Component). k.types.types) is ∙ ap (λ (k : Parts _ _). k.component.types.types) same))
 
 -- a journal that was exposed is exposed once the parameters were lowered
-pub told_after_lowering : (a b : Moment) (events : List Event) → Adds a.guest.journal b.guest.journal events → IsSome a.guest.journal → IsSome b.guest.journal
+pub told_after_lowering : (a b : Moment) (events : List Event) → AddsEvents a.guest.journal b.guest.journal events → IsSome a.guest.journal → IsSome b.guest.journal
 told_after_lowering a b events added told = told_after a.guest.journal b.guest.journal events added told

@@ -6,15 +6,15 @@ use Rattle.std.proofs.lemmas.Bool.{cases_lt, le-leb, lt-leb}
 use Rattle.std.proofs.lemmas.Bool.Decides.{nat_tests}
 use Rattle.canon_model.specs.Layout.{flat, members_flat}
 use Rattle.canon_model.specs.Shape.{Members, member_count, of_places, product}
-use Rattle.canon_types.specs.Table.{Table, members_of}
+use Rattle.canon_types.specs.Table.{TypeTable, members_of}
 use Rattle.canon_types.specs.declared.types.InterfaceType.{InterfaceType}
 use Rattle.canon_context.specs.declared.component.Component.{Component}
 use Rattle.canon_context.specs.declared.component.Export.{Export}
-use Rattle.canon_func.specs.Call.{entry_refusal, refusal, words_within}
+use Rattle.canon_func.specs.Call.{call_refusal, entry_refusal, words_within}
 use Rattle.canon_func.specs.Stores.{Callee, export_callee, params_in, results_in}
 use Rattle.canon_func.specs.declared.error.Error.TheVariants as error
 
-pub member_count-members_of : (t : Table) (types : List InterfaceType) → member_count (members_of t types) ≡ length types
+pub member_count-members_of : (t : TypeTable) (types : List InterfaceType) → member_count (members_of t types) ≡ length types
 member_count-members_of t [] = refl
 member_count-members_of t (x ∷ xs) = ap suc (member_count-members_of t xs)
 
@@ -44,10 +44,10 @@ module _ (callee : Callee) (params results : ℕ) (trapped : Bool) where
   abbrev pub Counts : Bool
   Counts = (params == member_count callee.params) && (results == member_count callee.results)
 
-  pub by_count : (b : Bool) → b ≡ Counts → b ≡ false → Some error.WrongCount ≡ refusal callee params results trapped
+  pub by_count : (b : Bool) → b ≡ Counts → b ≡ false → Some error.WrongCount ≡ call_refusal callee params results trapped
   by_count b e h = rw (sym e ∙ h)
 
-  pub by_entry : (b : Bool) → b ≡ Counts → b ≡ true → entry_refusal callee trapped ≡ refusal callee params results trapped
+  pub by_entry : (b : Bool) → b ≡ Counts → b ≡ true → entry_refusal callee trapped ≡ call_refusal callee params results trapped
   by_entry b e h = rw (sym e ∙ h) refl
 
 module _ (callee : Callee) (trapped : Bool) where
@@ -61,7 +61,7 @@ module _ (callee : Callee) (trapped : Bool) where
   by_none async t = rw (async, t) refl
 
 -- as counted by the table
-pub counts_of : (component : Component) (e : Export) (t : Table) (params results : ℕ) (trapped b : Bool) → t ≡ component.types.types
+pub counts_of : (component : Component) (e : Export) (t : TypeTable) (params results : ℕ) (trapped b : Bool) → t ≡ component.types.types
     → b ≡ (params == member_count (params_in t (slice_get t.funcs e.ty))) && (results == member_count (results_in t (slice_get t.funcs e.ty))) → b ≡ Counts (export_callee component e) params results trapped
 counts_of component e t params results trapped b same h =
     h ∙ ap (λ v. (params == member_count (params_in v (slice_get v.funcs e.ty))) && (results == member_count (results_in v (slice_get v.funcs e.ty)))) same

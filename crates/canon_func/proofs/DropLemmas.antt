@@ -7,7 +7,7 @@ use Rattle.canon_ledger.specs.Ledger.{LedgerState, enter, host_resource_drop, le
 use Rattle.canon_memory.specs.declared.event.Event.{Event}
 use Rattle.canon_memory.specs.Counts.{Rose}
 use Rattle.canon_memory.specs.Guest.{Goes, GuestIn, Moment, Seen, guest_in, moment}
-use Rattle.canon_memory.specs.Journal.{Adds}
+use Rattle.canon_memory.specs.Journal.{AddsEvents}
 use Rattle.canon_context.specs.Core.{Parts, SameButLedger, guest_of, moment_of}
 use Rattle.canon_context.specs.declared.fault.Fault.TheVariants as fault
 use Rattle.canon_func.specs.Call.{OnAnswered}
@@ -20,7 +20,7 @@ use Rattle.canon_func.proofs.Scoped.{leave_entered, through_drop, through_leave}
 
 -- ---- the guest
 
-adds_nothing : (journal : Option (List Event)) → Adds journal journal []
+adds_nothing : (journal : Option (List Event)) → AddsEvents journal journal []
 adds_nothing None = refl
 adds_nothing (Some events) = ap (λ (es : List Event). Some es) (sym (append-nil events))
 

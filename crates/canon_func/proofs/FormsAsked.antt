@@ -7,7 +7,7 @@ use Rattle.canon_context.specs.declared.component.Export.{Export}
 use Rattle.canon_host.specs.Asked.{row_words}
 use Rattle.canon_host.specs.Forms.{HostFuncForm, over_types, over_values}
 use Rattle.canon_host.specs.HostSide.{LoggedEntry, Giving}
-use Rattle.canon_host.specs.Imports.{ServesForm, ServesImport, entry_of, logged, steps_of_types, steps_of_values}
+use Rattle.canon_host.specs.Imports.{ServesForm, ServesImport, logged, logged_entry, steps_of_types, steps_of_values}
 use Rattle.canon_host.specs.declared.asked.Asked.{Asked}
 use Rattle.canon_host.specs.declared.error.HostError.{HostError}
 use Rattle.canon_func.specs.AskForms.{AskForm, ask_form, ask_types, ask_values}
@@ -28,7 +28,7 @@ module _ {T G : Type 0} (seen : G → Seen) (moves : GuestIn G → List Event �
 
   served_by : (form : HostFuncForm T) → row_words (asked_results (export_callee a.component export) asked) ≤ length storage2 → ServesForm gives log index seen moves asked form log2 refusals refusals2 a storage (Ok tt) b storage2 → AskedBy (ask_form form) (Ok tt)
   served_by over_values room h =
-      logged_served ask_values values_sound seen moves gives.answers log log2 refusals refusals2 index a b export asked words pad storage2 is (steps_of_values gives log index seen moves asked) (λ told. logged log (entry_of index told))
+      logged_served ask_values values_sound seen moves gives.answers log log2 refusals refusals2 index a b export asked words pad storage2 is (steps_of_values gives log index seen moves asked) (λ told. logged log (logged_entry index told))
       (values_follow seen moves gives log index a b export asked words pad storage2 is) storage front room h
   served_by (over_types types may) room h =
       logged_served (ask_types types may) (types_sound types may) seen moves gives.answers log log2 refusals refusals2 index a b export asked words pad storage2 is (steps_of_types types may log seen moves asked) (λ told. log)
@@ -36,7 +36,7 @@ module _ {T G : Type 0} (seen : G → Seen) (moves : GuestIn G → List Event �
 
   stopped_by : (form : HostFuncForm T) → moves (guest_of a) [] (guest_of a) → (e : HostError) → ServesForm gives log index seen moves asked form log2 refusals refusals2 a storage (Err e) b storage2 → AskedBy (ask_form form) (Err (host_error index e))
   stopped_by over_values stays e h =
-      logged_stopped ask_values values_sound seen moves gives.answers log log2 refusals refusals2 index a b export asked words pad storage2 is (steps_of_values gives log index seen moves asked) (λ told. logged log (entry_of index told))
+      logged_stopped ask_values values_sound seen moves gives.answers log log2 refusals refusals2 index a b export asked words pad storage2 is (steps_of_values gives log index seen moves asked) (λ told. logged log (logged_entry index told))
       (values_follow seen moves gives log index a b export asked words pad storage2 is) storage front stays e h
   stopped_by (over_types types may) stays e h =
       logged_stopped (ask_types types may) (types_sound types may) seen moves gives.answers log log2 refusals refusals2 index a b export asked words pad storage2 is (steps_of_types types may log seen moves asked) (λ told. log)

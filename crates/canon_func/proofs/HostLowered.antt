@@ -18,10 +18,11 @@ use Rattle.canon_context.specs.declared.fault.Fault.{Fault}
 use Rattle.canon_context.specs.declared.fault.Fault.TheVariants as fault
 use Rattle.canon_context.specs.declared.host.HostStop.{HostStop}
 use Rattle.canon_context.specs.declared.host.HostStop.TheVariants as stop
-use Rattle.canon_leaves.specs.Parts.{Passed}
+use Rattle.canon_leaves.specs.Parts.{PassedResource}
 use Rattle.canon_value_parts.specs.Args.{IsNoArea, LowersResults}
 use Rattle.canon_value_parts.specs.Resources.{EndsAs, UsesLedger, all_passes}
-use Rattle.canon_val.specs.Value.{HaveTrees, cap}
+use Rattle.canon_val.specs.Value.{HaveTrees}
+use Rattle.canon_model.specs.Memory.{cap}
 use Rattle.canon_val.specs.declared.val.Val.{Val}
 use Rattle.canon_host.specs.Serves.{stopped}
 use Rattle.canon_host.specs.declared.asked.Asked.{Asked}
@@ -108,7 +109,7 @@ pub traps_late : (a b : Moment) (answers : List Answer) (trap : Option Trap) (en
 traps_late a b answers None ending h = tt
 traps_late a b answers (Some t) ending h = late_at a b answers t ending h
 
-pub rises : (index : ℕ) (some : Bool) (ps : List Passed) (f : Fault) (a b : Moment) (answers : List Answer) (trap : Option Trap) (ending : Ending) → EndsAs {T = Unit {0}} some ps (Err f) ending → CauseOf a b answers trap ending
+pub rises : (index : ℕ) (some : Bool) (ps : List PassedResource) (f : Fault) (a b : Moment) (answers : List Answer) (trap : Option Trap) (ending : Ending) → EndsAs {T = Unit {0}} some ps (Err f) ending → CauseOf a b answers trap ending
     → RisesAt (asked_error index f) a b
 rises index some ps fault.GuestTrap a b answers trap ending ends cause = (subst (λ e. CauseOf a b answers trap e) ends cause).0
 rises index some ps fault.OutOfMemory a b answers trap ending ends cause = tt
@@ -158,7 +159,7 @@ stopped_counted before after index stop.OutOfMemory same = same
 
 -- ---- results that ask for nothing
 
-pub quiet_trap : (r : Result (Unit {0}) Fault) (some : Bool) (ps : List Passed) (a b : Moment) (answers : List Answer) (trap : Option Trap) (ending : Ending) → EndsAs some ps r ending
+pub quiet_trap : (r : Result (Unit {0}) Fault) (some : Bool) (ps : List PassedResource) (a b : Moment) (answers : List Answer) (trap : Option Trap) (ending : Ending) → EndsAs some ps r ending
     → IfErr r (λ e. (fault_ending e ≡ refused) ⊎ (UsesLedger some ps × (e ≡ fault.OutOfMemory))) → CauseOf a b answers trap ending → trap ≡ None
 quiet_trap (Ok x) some ps a b answers trap ending ends why cause = subst (λ e. CauseOf a b answers trap e) ends cause
 quiet_trap (Err f) some ps a b answers trap ending ends why cause = untrapped a b answers trap ending cause (ending_quiet some ps f ending ends why)

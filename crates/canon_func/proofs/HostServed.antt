@@ -9,7 +9,7 @@ use Rattle.canon_model.specs.Memory.{low}
 use Rattle.canon_model.specs.Shape.{Members, of_places, product}
 use Rattle.canon_memory.specs.declared.event.Event.{Event}
 use Rattle.canon_memory.specs.Guest.{Goes, GuestIn, Seen}
-use Rattle.canon_memory.specs.Journal.{Adds}
+use Rattle.canon_memory.specs.Journal.{AddsEvents}
 use Rattle.canon_ledger.specs.Books.{DidSurely}
 use Rattle.canon_ledger.specs.Ledger.{LedgerState, enter, leave}
 use Rattle.canon_ledger.specs.declared.fault.ResourceFault.{ResourceFault}
@@ -145,7 +145,7 @@ module _ {T G P S : Type 0} (its : AskForm T) (sound : AskSound its) (seen : G �
         events = events_of by.answers None;
         goes = subst (λ o. Goes (moment_of seen a) (moment_of seen b) (marks_of by.answers) (events_of by.answers o)) none by.goes;
         moves = told_moves (seen a.guest).journal (seen b.guest).journal (events_of by.answers None) (λ es. moves (guest_of a) es (guest_of b))
-            (subst (λ o. Adds (seen a.guest).journal (seen b.guest).journal (events_of by.answers o)) none by.goes.events) by.moved;
+            (subst (λ o. AddsEvents (seen a.guest).journal (seen b.guest).journal (events_of by.answers o)) none by.goes.events) by.moved;
         so = (
           record {
             asked = asked;

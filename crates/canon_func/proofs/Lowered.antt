@@ -9,12 +9,12 @@ use Rattle.canon_model.specs.Shape.{Members}
 use Rattle.canon_model.specs.Text.{Encoding}
 use Rattle.canon_memory.specs.declared.event.Event.{Event}
 use Rattle.canon_memory.specs.Guest.{GuestIn, Moment, Seen}
-use Rattle.canon_memory.specs.Journal.{Adds}
+use Rattle.canon_memory.specs.Journal.{AddsEvents}
 use Rattle.canon_types.specs.Instance.{Instance}
-use Rattle.canon_types.specs.Table.{Table, tuple_members}
+use Rattle.canon_types.specs.Table.{TypeTable, tuple_members}
 use Rattle.canon_types.specs.declared.types.TypeFunc.{TypeFunc}
 use Rattle.canon_ledger.specs.Ledger.{LedgerState}
-use Rattle.canon_leaves.specs.Parts.{LeavesStop, LeavesTake, Passed, lower_parts}
+use Rattle.canon_leaves.specs.Parts.{LeavesStop, LeavesTake, PassedResource, lower_parts}
 use Rattle.canon_lowering.proofs.Lowerings.{none_answered}
 use Rattle.canon_lowering.specs.Attempt.{LowersArgs}
 use Rattle.canon_lowering.specs.Lowering.{Answer, CauseOf, Ending, Trap, done, events_of, marks_of, refused, short}
@@ -24,7 +24,8 @@ use Rattle.canon_value_parts.specs.Fails.{AreSmall, BlamesMembers}
 use Rattle.canon_context.specs.Lowers.{fault_ending}
 use Rattle.canon_context.specs.Moves.{Moves}
 use Rattle.canon_context.specs.Quiet.{have_block, have_handle}
-use Rattle.canon_value_parts.specs.Resources.{Crosses, EndsAs, UsesLedger, all_passes, stop_of, told_fault}
+use Rattle.canon_value_parts.specs.Resources.{Crosses, EndsAs, UsesLedger, all_passes, told_fault}
+use Rattle.canon_context.specs.Faults.{stop_of}
 use Rattle.canon_val.specs.Value.{HaveTrees}
 use Rattle.canon_context.specs.declared.fault.Fault.{Fault}
 use Rattle.canon_context.specs.declared.fault.Fault.TheVariants as fault
@@ -36,13 +37,13 @@ use Rattle.canon_func.specs.Stores.{params_in}
 use Rattle.canon_func.specs.declared.error.Error.TheVariants as error
 
 -- a fact of the new events of an exposed journal
-pub told : (before after : Option (List Event)) (events : List Event) (P : List Event → Type 0) → Adds before after events
+pub told : (before after : Option (List Event)) (events : List Event) (P : List Event → Type 0) → AddsEvents before after events
     → ((l es : List Event) → before ≡ Some l → after ≡ Some (l ++ es) → P es) → IsSome before → P events
 told None after events P added so there = absurd (false≢true there)
 told (Some l) after events P added so there = so l events refl added
 
 -- the members of the tuple are the callee's parameters
-pub params_are : (t u : Table) (i : ℕ) (f : TypeFunc) → u ≡ t → slice_get u.funcs i ≡ Some f → tuple_members t f.params ≡ params_in t (slice_get t.funcs i)
+pub params_are : (t u : TypeTable) (i : ℕ) (f : TypeFunc) → u ≡ t → slice_get u.funcs i ≡ Some f → tuple_members t f.params ≡ params_in t (slice_get t.funcs i)
 params_are t u i f same found = sym (ap (params_in t) (ap (λ v. slice_get v.funcs i) (sym same) ∙ found))
 
 -- words written over as many
@@ -58,7 +59,7 @@ lowers_at seen moves core made after b options own tuple params words result sam
     (subst (λ k. LowersFor seen moves k after own tuple params words result) same h))
 
 -- how a lowering ended that asked for nothing
-pub ending_quiet : (some : Bool) (ps : List Passed) (f : Fault) (ending : Ending) → EndsAs {T = Unit {0}} some ps (Err f) ending → (fault_ending f ≡ refused) ⊎ (UsesLedger some ps × (f ≡ fault.OutOfMemory))
+pub ending_quiet : (some : Bool) (ps : List PassedResource) (f : Fault) (ending : Ending) → EndsAs {T = Unit {0}} some ps (Err f) ending → (fault_ending f ≡ refused) ⊎ (UsesLedger some ps × (f ≡ fault.OutOfMemory))
     → (ending ≡ short) ⊎ (ending ≡ refused)
 ending_quiet some ps fault.OutOfMemory ending (inl is) h = inl is
 ending_quiet some ps fault.OutOfMemory ending (inr both) h = inr both.1
@@ -71,7 +72,7 @@ untrapped a b answers trap ending cause (inl is) = (subst (λ end. CauseOf a b a
 untrapped a b answers trap ending cause (inr is) = subst (λ end. CauseOf a b answers trap end) is cause
 
 -- whether there are handles or not
-ends_for : (T : Type 0) (some : Bool) (ps : List Passed) (f : Fault) (ending : Ending) → EndsAs {T = T} some ps (Err f) ending → EndsFor f ending
+ends_for : (T : Type 0) (some : Bool) (ps : List PassedResource) (f : Fault) (ending : Ending) → EndsAs {T = T} some ps (Err f) ending → EndsFor f ending
 ends_for T some ps fault.OutOfMemory ending (inl is) = inl is
 ends_for T some ps fault.OutOfMemory ending (inr both) = inr both.1
 ends_for T some ps f ending is = is

@@ -12,7 +12,7 @@ use Rattle.canon_leaves.specs.Parts.{Part}
 use Rattle.canon_leaves.specs.Steps.{leaves_steps}
 use Rattle.canon_lowering.specs.Lowering.{Answer, Trap}
 use Rattle.canon_context.specs.declared.fault.Fault.TheVariants as fault
-use Rattle.canon_value_parts.specs.Resources.{stop_of}
+use Rattle.canon_context.specs.Faults.{stop_of}
 use Rattle.canon_host.specs.Forms.{IsLawful}
 use Rattle.canon_host.specs.HostSide.{Answering, Giving, HostSide}
 use Rattle.canon_host.specs.declared.asked.Asked.{Asked}
@@ -20,7 +20,7 @@ use Rattle.canon_func.specs.Asks.{AskStops, BuiltinIsShort, ask_step, builtin_at
 use Rattle.canon_func.specs.Call.{HandlesPassOf, LiftsReturned, StopsReturned, StopsStartedOf, dynamic, dynamic_results, scope_exit, stopped_by}
 use Rattle.canon_func.specs.HostAsks.{HostStops, IsHostAsk, StopsAt, StopsCalled, StopsGiven, asked_exit}
 use Rattle.canon_func.specs.AskForms.{AskForm, ask_at}
-use Rattle.canon_func.specs.Laws.{AskPartway, AskThrough, GoesOn, HostCalled, HostPartway, HostThrough, PassesPartway, RefusedIsPartway, ask_steps, asked_steps, given_steps, last_steps}
+use Rattle.canon_func.specs.Laws.{AskPartway, AskThrough, GoesOn, HostCalled, HostPartway, HostThrough, PassesPartway, RefusedIsPartway, ask_steps, host_asked_steps, host_given_steps, last_steps}
 use Rattle.canon_func.specs.Passing.{Arguments, ReturnedValues}
 use Rattle.canon_func.specs.Runs.{AskTurn, BeginsInAsk, Each, IsNoStart, SomeReturn}
 use Rattle.canon_func.specs.Steps.{ask_turn}
@@ -68,7 +68,7 @@ ended_partway_of l ended n steps ends rest = inr (inr (0, ap (λ (d : Done (Unit
 module _ {T : Type 0} (its : AskForm T) (sound : AskSound its) (lawful : AskLawful its) (answers_so : Answering T) (callee : Callee) (fuel : ℕ) (asked : Asked) (index : ℕ) (words : List ℕ) (live : List Block) (memory memory2 : List ℕ) (answers : List Answer) (trap : Option Trap) (before after : HostSide T) (e : Error)
     (is : IsHostAsk callee index words asked) where
   abbrev FirstSteps : List LedgerStep
-  FirstSteps = asked_steps its before.store callee asked words memory before.ledger
+  FirstSteps = host_asked_steps its before.store callee asked words memory before.ledger
 
   abbrev Stopped : Type 0
   Stopped = HostPartway its answers_so callee fuel index words memory before e after.ledger
@@ -81,7 +81,7 @@ module _ {T : Type 0} (its : AskForm T) (sound : AskSound its) (lawful : AskLawf
   whole_first lifted first same = through_partway before.ledger after.ledger FirstSteps (subst (λ k. Through before.ledger FirstSteps k) (sym same) first)
 
   given_partway : (results : its.Results) (called : LedgerState) → StopsGiven its answers_so callee fuel asked index words live memory memory2 answers trap before after e results called
-      → Partway called (given_steps its callee asked results called) after.ledger
+      → Partway called (host_given_steps its callee asked results called) after.ledger
   given_partway results called (inl (f, told, bad, left, quiet)) = inl left
   given_partway results called (inr (at, place, inl (x, told, refused, quiet))) =
       inr (inl (x, ap (λ (d : Done (Unit {0})). (numbered (λ _. 0) d).answer) refused, sym (ap (λ (d : Done (Unit {0})). d.after) refused)))
@@ -126,7 +126,7 @@ through_host its answers_so callee fuel t l n e h = (
     n.state,
     record { lifts = h.served.lifts; first = h.first; steps = h.served.steps },
     h.served.gave,
-    through_partway h.served.called n.ledger (given_steps its callee h.served.asked h.served.results h.served.called) h.last,
+    through_partway h.served.called n.ledger (host_given_steps its callee h.served.asked h.served.results h.served.called) h.last,
   )),
 )
 

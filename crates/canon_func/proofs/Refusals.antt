@@ -12,7 +12,8 @@ use Rattle.canon_ledger.specs.declared.fault.ResourceFault.TheVariants as resour
 use Rattle.canon_leaves.specs.Parts.{LeavesStop, refusal_of}
 use Rattle.canon_lowering.specs.Attempt.{LowersArgs}
 use Rattle.canon_lowering.specs.Lowering.{Accepted, AllLawful, Answer, BeginsWith, Calm, CauseOf, Ending, Meets, Trap, done, refused, short, events_of, marks_of}
-use Rattle.canon_value_parts.specs.Resources.{stop_of, told_fault}
+use Rattle.canon_value_parts.specs.Resources.{told_fault}
+use Rattle.canon_context.specs.Faults.{stop_of}
 use Rattle.canon_context.specs.Lowers.{fault_ending}
 use Rattle.canon_context.specs.declared.fault.Fault.{Fault}
 use Rattle.canon_context.specs.declared.fault.Fault.TheVariants as fault

@@ -6,7 +6,7 @@ use Rattle.std.proofs.lemmas.Option.{get_or_from_slice_get, slice_get_within}
 use Rattle.canon_model.specs.Flat.{max_results}
 use Rattle.canon_model.specs.Shape.{Members, member_count}
 use Rattle.canon_types.specs.Depth.{member_borrows}
-use Rattle.canon_types.specs.Table.{Table, tuple_members}
+use Rattle.canon_types.specs.Table.{TypeTable, tuple_members}
 use Rattle.canon_types.specs.Valid.{HoldNoBorrow}
 use Rattle.canon_types.specs.declared.types.TypeFunc.{TypeFunc}
 use Rattle.canon_ledger.specs.Ledger.{LedgerState}
@@ -38,16 +38,16 @@ lifts_at core made after b options own tuple fuel left words result same by full
 )
 
 -- the members of the tuple are the callee's results
-pub members_are : (t u : Table) (i : ℕ) (f : TypeFunc) → u ≡ t → slice_get u.funcs i ≡ Some f → tuple_members t f.results ≡ results_in t (slice_get t.funcs i)
+pub members_are : (t u : TypeTable) (i : ℕ) (f : TypeFunc) → u ≡ t → slice_get u.funcs i ≡ Some f → tuple_members t f.results ≡ results_in t (slice_get t.funcs i)
 members_are t u i f same found = sym (ap (results_in t) (ap (λ v. slice_get v.funcs i) (sym same) ∙ found))
 
 -- which hold no borrow
-pub no_borrow : (t : Table) (i : ℕ) (f : TypeFunc) → slice_get t.funcs i ≡ Some f → All (HoldNoBorrow t) t.funcs → member_borrows (tuple_members t f.results) ≡ false
+pub no_borrow : (t : TypeTable) (i : ℕ) (f : TypeFunc) → slice_get t.funcs i ≡ Some f → All (HoldNoBorrow t) t.funcs → member_borrows (tuple_members t f.results) ≡ false
 no_borrow t i f found all = subst (HoldNoBorrow t) (get_or_from_slice_get t.funcs i f f found) (All-get_or (HoldNoBorrow t) t.funcs i f (slice_get_within t.funcs i f found) all)
 
 -- ---- the results of an export
 
-module _ {T G : Type 0} (core : Parts T G) (export : Export) (words : List ℕ) (types : Table) (f : TypeFunc) (m : LedgerState) (is : types ≡ component_types core) (found : slice_get types.funcs export.ty ≡ Some f) where
+module _ {T G : Type 0} (core : Parts T G) (export : Export) (words : List ℕ) (types : TypeTable) (f : TypeFunc) (m : LedgerState) (is : types ≡ component_types core) (found : slice_get types.funcs export.ty ≡ Some f) where
   abbrev Callee_ : Callee
   Callee_ = export_callee core.component export
 

@@ -1,5 +1,5 @@
 -- What lifting the results as a Rust tuple did.
-use Rattle.std.proofs.Common.{Err, List, Ok, Result, length, refl, subst, sym, ℕ, ◌≡◌}
+use Rattle.std.proofs.Common.{Err, List, Ok, Result, length, subst, sym, ℕ, ◌≡◌}
 use Rattle.std.specs.Prelude.{false, nat_le}
 use Rattle.canon_args.specs.Areas.{passed_kept, passed_taken}
 use Rattle.canon_args.specs.Returned.{passed_reading}
@@ -11,9 +11,7 @@ use Rattle.canon_context.specs.declared.fault.At.{At as Place}
 use Rattle.canon_context.specs.declared.fault.At.TheVariants as at
 use Rattle.canon_context.specs.declared.fault.Fault.{Fault}
 use Rattle.canon_context.specs.declared.fault.Fault.TheVariants as fault
-use Rattle.canon_leaves.specs.Parts.{LeavesStop}
 use Rattle.canon_ledger.specs.Ledger.{LedgerState}
-use Rattle.canon_reading.specs.Reading as lifting
 use Rattle.canon_reading.specs.Reading.{AreTaken, Reading, Setting, setting_in}
 use Rattle.canon_reading.specs.Scopes.{AllKeep, IsKept, keep_scopes}
 use Rattle.canon_reading.specs.Spots.{flat_in}
@@ -25,7 +23,6 @@ use Rattle.canon_types.specs.Depth.{has_borrow, member_borrows}
 use Rattle.canon_types.specs.Instance.{Instance}
 use Rattle.canon_types.specs.Table.{shape_of}
 use Rattle.canon_types.specs.declared.types.InterfaceType.{InterfaceType}
-use Rattle.canon_value_parts.specs.Resources as value
 use Rattle.canon_func.specs.Call.{result_words}
 use Rattle.canon_func.specs.Steps.{Lifted}
 use Rattle.canon_func.specs.Stores.{Callee, export_callee}
@@ -36,29 +33,6 @@ place_named (at.Word k) (reach.word i) h = h
 place_named (at.Word k) (reach.address b) h = absurd h
 place_named (at.Address a) (reach.word i) h = absurd h
 place_named (at.Address a) (reach.address b) h = h
-
-pub same_stop : (e : Fault) → lifting.stop_of e ≡ value.stop_of e
-same_stop (fault.TypeMismatch k) = refl
-same_stop (fault.LengthMismatch k) = refl
-same_stop (fault.FieldName k) = refl
-same_stop (fault.UnknownCase k) = refl
-same_stop (fault.UnknownFlag k) = refl
-same_stop (fault.PayloadExpected k) = refl
-same_stop (fault.PayloadNotExpected k) = refl
-same_stop (fault.ReallocMisaligned a) = refl
-same_stop (fault.ReallocOutOfBounds a) = refl
-same_stop fault.GuestTrap = refl
-same_stop (fault.PointerMisaligned x) = refl
-same_stop (fault.PointerOutOfBounds x) = refl
-same_stop (fault.StringTooLong n) = refl
-same_stop (fault.SizeOverflow n) = refl
-same_stop (fault.InvalidUtf8 x) = refl
-same_stop (fault.InvalidUtf16 x) = refl
-same_stop (fault.InvalidChar x) = refl
-same_stop (fault.BadDiscriminant x n) = refl
-same_stop fault.HostcallFuelExhausted = refl
-same_stop fault.OutOfMemory = refl
-same_stop (fault.Resource e) = refl
 
 module _ {T G A : Type 0} (core : Parts T G) (export : Export) (words : List ℕ) (m : LedgerState) (R : Reading A) (taken : AreTaken R) (Fit : Instance → InterfaceType → Type 0) (kept : IsKept Fit R) where
   abbrev callee : Callee
@@ -89,5 +63,5 @@ module _ {T G A : Type 0} (core : Parts T G) (export : Export) (words : List ℕ
   tuple_unlifted e (left, h) = (
     blamed_by (ToldAt ((Whole callee.results).faults w (flat_in words 0) (product of_places callee.results))) (Exactly (ReturnFault R export.options core.id callee words core.memory)) _ _
         (λ k x (y, place, fault). (y, place_named x y place, fault)) (λ low. low) e h.cause,
-    subst (λ why. LeavesStop why core.ledger ((Whole callee.results).steps w (flat_in words 0) (product of_places callee.results)) m) (same_stop e) h.stops,
+    h.stops,
   )

@@ -22,7 +22,8 @@ use Rattle.canon_model.specs.Text.{Encoding}
 use Rattle.canon_model.specs.Tree.{Tree}
 use Rattle.canon_value_parts.proofs.Crossing.{told_by}
 use Rattle.canon_value_parts.specs.Args.{LowersParams}
-use Rattle.canon_value_parts.specs.Resources.{stop_of, told_fault}
+use Rattle.canon_value_parts.specs.Resources.{told_fault}
+use Rattle.canon_context.specs.Faults.{stop_of}
 use Rattle.canon_func.proofs.Lowered.{args_done, args_refused, refused_moves}
 use Rattle.canon_func.specs.Call.{Adding, AsksByTypes, OnAnswered, words_within}
 use Rattle.canon_func.specs.Steps.{EndsFor}

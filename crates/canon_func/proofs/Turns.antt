@@ -7,7 +7,7 @@ use Rattle.canon_memory.specs.declared.event.Event.TheVariants as event
 use Rattle.canon_memory.specs.declared.guest.Step.{Step}
 use Rattle.canon_memory.specs.declared.guest.Step.TheVariants as step
 use Rattle.canon_memory.specs.Guest.{Goes, Mark, Moment}
-use Rattle.canon_memory.specs.Journal.{Adds, step_event, trap_event}
+use Rattle.canon_memory.specs.Journal.{AddsEvents, step_event, trap_event}
 use Rattle.canon_ledger.specs.Ledger.{Done, LedgerState}
 use Rattle.canon_ledger.specs.declared.fault.ResourceFault.{ResourceFault}
 use Rattle.canon_lowering.proofs.Lowerings.{goes_then}
@@ -96,7 +96,7 @@ same_le n = omega arith
 -- ---- what is exposed
 
 -- a journal that was exposed is exposed afterwards
-pub told_after : (o p : Option (List Event)) (es : List Event) → Adds o p es → IsSome o → IsSome p
+pub told_after : (o p : Option (List Event)) (es : List Event) → AddsEvents o p es → IsSome o → IsSome p
 told_after None p es adds told = cc
 told_after (Some xs) p es adds told = rw adds refl
 

@@ -15,7 +15,7 @@ use Rattle.canon_memory.specs.Guest.{Goes, GuestIn, Moment, Seen}
 use Rattle.canon_ledger.specs.Ledger.{LedgerState}
 use Rattle.canon_ledger.specs.declared.fault.ResourceFault.TheVariants as resource
 use Rattle.canon_leaves.proofs.Leaves.{leaves_excluded}
-use Rattle.canon_leaves.specs.Parts.{LeavesStop, Part}
+use Rattle.canon_leaves.specs.Parts.{Part}
 use Rattle.canon_reading.specs.Reading.{AreTaken, Lifts, Reading}
 use Rattle.canon_reading.specs.Spots.{flat_in}
 use Rattle.canon_lower_parts.proofs.Attempts.{ends_done}
@@ -38,7 +38,7 @@ use Rattle.canon_host.specs.ServesTyped.{LiftsTyped, LowersTyped}
 use Rattle.canon_host.specs.declared.asked.Asked.{Asked}
 use Rattle.canon_host.specs.declared.error.HostError.{HostError}
 use Rattle.canon_func.specs.AskForms.{ask_types}
-use Rattle.canon_func.specs.AskTypes.{TupleInto, TypedAskLiftable, TypedAskLifts, TypedAskLowerable, TypedAskLowers, asked_reading, asked_setting, asked_shape, typed_given, typed_parts}
+use Rattle.canon_func.specs.AskTypes.{TupleInto, TypedAskLiftable, TypedAskLifts, TypedAskLowerable, TypedAskLowers, asked_reading, asked_setting, asked_shape, typed_given}
 use Rattle.canon_func.specs.AskValues.{asked_origin, asked_params, asked_results}
 use Rattle.canon_func.specs.Call.{OnAnswered}
 use Rattle.canon_func.specs.HostAsks.{IsHostAsk, asked_error, host_error}
@@ -49,7 +49,6 @@ use Rattle.canon_func.specs.declared.error.Error.TheVariants as error
 use Rattle.canon_func.proofs.AskLaws.{AskLawful, AskSound, FollowsSteps, LowersAs}
 use Rattle.canon_func.proofs.HostLowered.{asked_moves, no_lawful, no_lawful_end, not_far, pointer_counts, traps_late}
 use Rattle.canon_func.proofs.Lowered.{untrapped}
-use Rattle.canon_func.proofs.TupleLifted.{same_stop}
 
 same_fault : (e f : Fault) → ◌≡◌ {A = Result (Unit {0}) Fault} (Err e) (Err f) → e ≡ f
 same_fault e f h = cc
@@ -147,7 +146,7 @@ module _ {T P R : Type 0} (types : RustTypes P R) (May : TypedAnswering T P R) w
     short = λ callee asked index log. inl refl;
     declined = λ callee asked index log e why. declined_so _ _ _ _ why;
     calm = λ store callee fuel asked words memory l n f h. typed_calm types.reading store callee fuel asked words memory l n f h.1;
-    unlifted = λ store callee fuel asked words memory l n f h. subst (λ why. LeavesStop why l (typed_parts types.reading callee asked words memory store) n) (same_stop f) h.1.1.stops;
+    unlifted = λ store callee fuel asked words memory l n f h. h.1.1.stops;
     lift_excluded = λ store callee fuel asked words memory l n index f ok h. typed_lift_excluded types.reading store callee fuel asked words memory l n index f ok h.1;
     given = λ callee asked at live memory memory2 results low answers trap l n h. (h.handles, h.passed);
     ungiven = λ callee asked at live memory memory2 results low answers trap l n f h. h.passed.0;

@@ -17,7 +17,7 @@ use Rattle.canon_ledger.specs.Ledger.{LedgerState}
 use Rattle.canon_ledger.specs.declared.fault.ResourceFault.TheVariants as resource
 use Rattle.canon_leaves.proofs.Leaves.{leaves_excluded}
 use Rattle.canon_leaves.proofs.Lifts.{lifts_take}
-use Rattle.canon_leaves.specs.Parts.{LeavesStop, LeavesTake, Part, Passed, lift_parts}
+use Rattle.canon_leaves.specs.Parts.{LeavesStop, LeavesTake, Part, PassedResource, lift_parts}
 use Rattle.canon_lowering.proofs.Lowerings.{none_answered}
 use Rattle.canon_lowering.specs.Lowering.{AllLawful, Answer, CauseOf, Ending, Trap, marks_of}
 use Rattle.canon_lowering.specs.Storing.{narrow}
@@ -31,11 +31,12 @@ use Rattle.canon_value_parts.proofs.Values.{failure_excludes}
 use Rattle.canon_value_parts.specs.Args.{args_words}
 use Rattle.canon_value_parts.specs.Fails.{AreSmall, BlamesMembers, Failure, IsTypeFailure, MemberFails, field_name, mismatch, payload_expected, payload_not_expected, unknown_case, unknown_flag, wrong_length}
 use Rattle.canon_value_parts.specs.Lifts.{LiftsParams}
-use Rattle.canon_value_parts.specs.Resources.{EndsAs, all_passes, stop_of, told_fault}
+use Rattle.canon_value_parts.specs.Resources.{EndsAs, all_passes, told_fault}
+use Rattle.canon_context.specs.Faults.{stop_of}
 use Rattle.canon_val.specs.Value.{HaveTrees}
 use Rattle.canon_val.specs.declared.val.Val.{Val}
 use Rattle.canon_host.specs.HostSide.{LoggedEntry, Giving, entry}
-use Rattle.canon_host.specs.Imports.{entry_of, logged, steps_of_values}
+use Rattle.canon_host.specs.Imports.{logged, logged_entry, steps_of_values}
 use Rattle.canon_host.specs.Serves.{LowersGiven}
 use Rattle.canon_host.specs.declared.asked.Asked.{Asked}
 use Rattle.canon_func.specs.AskForms.{ask_values}
@@ -92,7 +93,7 @@ module _ (enc : Encoding) (ms : Members) (vs : List Val) (ts : Trees) (have : Ha
   unfit : (how : Failure) (j : ℕ) → IsTypeFailure how → MemberFails how ms vs j → ⊥
   unfit how j is fails = failure_excludes how ms vs j ts is fails have
 
-  module _ (some : Bool) (ps : List Passed) (a b : Moment) (answers : List Answer) (trap : Option Trap) (lawful : AllLawful answers) (none : trap ≡ None) (l n m : LedgerState) (parts : List (List Part)) (hs : List ℕ) (takes : LeavesTake l parts hs m) where
+  module _ (some : Bool) (ps : List PassedResource) (a b : Moment) (answers : List Answer) (trap : Option Trap) (lawful : AllLawful answers) (none : trap ≡ None) (l n m : LedgerState) (parts : List (List Part)) (hs : List ℕ) (takes : LeavesTake l parts hs m) where
     -- for whatever fault except out of memory
     lowering_excluded : (f : Fault) (ending : Ending) → EndsAs {T = Unit {0}} some ps (Err f) ending → CauseOf a b answers trap ending → BlamesMembers enc ms vs f → told_fault f ≡ f → LeavesStop (stop_of f) l parts n → f ≡ fault.OutOfMemory
     lowering_excluded fault.OutOfMemory ending ends cause blames told stops = refl
@@ -186,7 +187,7 @@ module _ {T G : Type 0} (seen : G → Seen) (moves : GuestIn G → List Event �
         cause = by.cause;
       }) h.moved
 
-  pub values_follow : FollowsSteps ask_values gives.answers (steps_of_values gives log index seen moves asked) (λ told. logged log (entry_of index told)) seen moves log index a b callee asked words pad storage2
+  pub values_follow : FollowsSteps ask_values gives.answers (steps_of_values gives log index seen moves asked) (λ told. logged log (logged_entry index told)) seen moves log index a b callee asked words pad storage2
   values_follow = record {
     declines = λ e why. ap (host_error index) why;
     lifts = λ l r lifted h. (subst (λ ws. (over : ℕ) × LiftsParams (asked_origin callee asked a.memory) ws (asked_params callee asked) l a.fuel r lifted.ledger over) first_is h.0, h.1);

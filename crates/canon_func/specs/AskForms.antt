@@ -14,7 +14,7 @@ use Rattle.canon_host.specs.HostSide.{Answering, LoggedEntry, Giving, entry}
 use Rattle.canon_host.specs.Imports.{logged}
 use Rattle.canon_host.specs.declared.asked.Asked.{Asked}
 use Rattle.canon_func.specs.AskTypes.{TypedAskLiftable, TypedAskLifts, TypedAskLowerable, TypedAskLowers, typed_given, typed_parts}
-use Rattle.canon_func.specs.AskValues.{AskLiftable, AskLifts, AskLowerable, AskLowers, asked_parts, given_parts}
+use Rattle.canon_func.specs.AskValues.{AskLiftable, AskLifts, AskLowerable, AskLowers, ask_param_parts, ask_result_parts}
 use Rattle.canon_func.specs.Stores.{Callee}
 use Rattle.canon_func.specs.declared.error.Error.{Error}
 use Rattle.canon_func.specs.declared.error.Error.TheVariants as error
@@ -53,12 +53,12 @@ ask_values = record {
   declines = λ callee asked index log e. e ≡ error.Fault fault.OutOfMemory;
   lifts = λ store. AskLifts;
   liftable = λ store. AskLiftable;
-  parts = λ store. asked_parts;
+  parts = λ store. ask_param_parts;
   gave = λ answers index log reached params answer state ledger. IfSome log (λ entries. (ledger ≡ reached.ledger) × answers entries index reached.state params.items answer state);
   logged_with = λ log index params results. logged log (entry index params.items results);
   lowers = AskLowers;
   lowerable = AskLowerable;
-  gives = given_parts;
+  gives = ask_result_parts;
 }
 
 -- Over Rust types, which those of the function are; one of other types is refused. Whoever exposes a log has no such function.

@@ -49,8 +49,8 @@ AskLifts callee fuel asked words memory before result after =
     (left : ℕ) × LiftsParams (asked_origin callee asked memory) (take (args_words (asked_params callee asked)) words) (asked_params callee asked) before fuel result after left
 
 -- what their handles do, in order
-abbrev pub asked_parts : Callee → Asked → List ℕ → List ℕ → List (List Part)
-asked_parts callee asked words memory = map (lift_parts callee.types) (values_leaves (narrow memory) (take (args_words (asked_params callee asked)) words) max_params (asked_params callee asked))
+abbrev pub ask_param_parts : Callee → Asked → List ℕ → List ℕ → List (List Part)
+ask_param_parts callee asked words memory = map (lift_parts callee.types) (values_leaves (narrow memory) (take (args_words (asked_params callee asked)) words) max_params (asked_params callee asked))
 
 -- Parameters are represented, and cost no more than this fuel; the ledger accepts their handles.
 pub record AskLiftable (callee : Callee) (fuel : ℕ) (asked : Asked) (words memory : List ℕ) (before : LedgerState) : Type 0 where
@@ -64,8 +64,8 @@ pub record AskLiftable (callee : Callee) (fuel : ℕ) (asked : Asked) (words mem
 -- ---- results
 
 -- what the handles of results do that the function gave, in order
-abbrev pub given_parts : Callee → Asked → List Val → List (List Part)
-given_parts callee asked results = map (lower_parts callee.types) (all_passes (asked_results callee asked) results)
+abbrev pub ask_result_parts : Callee → Asked → List Val → List (List Part)
+ask_result_parts callee asked results = map (lower_parts callee.types) (all_passes (asked_results callee asked) results)
 
 -- Its results were lowered so, to these words in a row or at the place, by these answers of `realloc` and perhaps a trap.
 pub record LowersInto (from to : Moment) (callee : Callee) (asked : Asked) (at : ℕ) (results : List Val) (words : List ℕ) (answers : List Answer) (trap : Option Trap) (hs : List ℕ) (ending : Ending) : Type 0 where
@@ -95,4 +95,4 @@ pub record AskLowerable (callee : Callee) (asked : Asked) (memory : List ℕ) (r
   pub small : AreSmall (asked_origin callee asked memory).encoding (asked_results callee asked) results
   pub given : List ℕ
   pub left : LedgerState
-  pub takes : LeavesTake before (given_parts callee asked results) given left
+  pub takes : LeavesTake before (ask_result_parts callee asked results) given left

@@ -15,7 +15,7 @@ use Rattle.canon_model.specs.Tree.{Trees}
 use Rattle.canon_memory.specs.declared.event.Event.{Event}
 use Rattle.canon_memory.specs.Counts.{Rose}
 use Rattle.canon_memory.specs.Guest.{GuestIn, Moment, Seen}
-use Rattle.canon_memory.specs.Journal.{Adds}
+use Rattle.canon_memory.specs.Journal.{AddsEvents}
 use Rattle.canon_lowering.specs.Lowering.{Accepted, AllGood, AllLawful, AllTidy, Answer, Calm, Ending, Meets, Trap, addresses_of, blocks_of, done, events_of, marks_of, refused}
 use Rattle.canon_lowering.specs.Attempt.{AnyPointer, handle_numbers}
 use Rattle.canon_lowering.specs.Storing.{narrow}
@@ -31,7 +31,8 @@ use Rattle.canon_value_parts.specs.Lifts.{AreResults}
 use Rattle.canon_context.specs.Lowers.{fault_ending}
 use Rattle.canon_context.specs.Told.{place_of}
 use Rattle.canon_context.specs.Quiet.{have_block}
-use Rattle.canon_value_parts.specs.Resources.{all_passes, all_resources, stop_of}
+use Rattle.canon_value_parts.specs.Resources.{all_passes, all_resources}
+use Rattle.canon_context.specs.Faults.{stop_of}
 use Rattle.canon_val.specs.Value.{HaveTrees}
 use Rattle.canon_context.specs.declared.fault.At.{At}
 use Rattle.canon_context.specs.declared.fault.Fault.{Fault}
@@ -51,8 +52,8 @@ use Rattle.canon_func.specs.declared.error.Error.TheVariants as error
 -- ---- before the guest is entered
 
 -- Why a call with so many parameters and results is refused before the guest is entered, if it is: the first reason counts.
-abbrev pub refusal : Callee → ℕ → ℕ → Bool → Option Error
-refusal callee params results trapped = first_error (
+abbrev pub call_refusal : Callee → ℕ → ℕ → Bool → Option Error
+call_refusal callee params results trapped = first_error (
     (not ((params == member_count callee.params) && (results == member_count callee.results)), error.WrongCount)
     ∷ (callee.async_, error.AsyncLifted)
     ∷ (trapped, error.CannotEnterComponent)
@@ -406,6 +407,6 @@ IsCall Lives Leaves gives callee limits params before after host left answer res
 -- moved by them.
 pub record Adding (before after : Moment) (Moves IsSo : List Event → Type 0) : Type 0 where
   pub events : List Event
-  pub added : Adds before.guest.journal after.guest.journal events
+  pub added : AddsEvents before.guest.journal after.guest.journal events
   pub moves : IsSome before.guest.journal → Moves events
   pub so : IsSo events

@@ -2,7 +2,7 @@
 use Rattle.std.specs.Prelude.{Err, List, None, Ok, Option, Result, Some, [], if◌then◌else◌, nat_le, slice_get, length, ℕ, ◌+◌, ◌≡◌, ◌≢◌, ◌⊎◌}
 use Rattle.canon_model.specs.Flat.{max_results}
 use Rattle.canon_model.specs.Layout.{members_flat}
-use Rattle.canon_model.specs.Memory.{Block}
+use Rattle.canon_model.specs.Memory.{Block, cap}
 use Rattle.canon_ledger.specs.Handles.{top_scope}
 use Rattle.canon_ledger.specs.Ledger.{Done, LedgerState, enter, leave, validate_scope_exit}
 use Rattle.canon_ledger.specs.declared.fault.ResourceFault.{ResourceFault}
@@ -14,7 +14,6 @@ use Rattle.canon_context.specs.declared.fault.Fault.{Fault}
 use Rattle.canon_context.specs.declared.fault.Fault.TheVariants as fault
 use Rattle.canon_context.specs.declared.host.HostStop.{HostStop}
 use Rattle.canon_context.specs.declared.host.HostStop.TheVariants as stop
-use Rattle.canon_val.specs.Value.{cap}
 use Rattle.canon_host.specs.Asked.{asked_words, row_words}
 use Rattle.canon_host.specs.Forms.{InView}
 use Rattle.canon_host.specs.HostSide.{Answering, Giving, HostSide}

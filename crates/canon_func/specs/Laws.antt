@@ -43,12 +43,12 @@ abbrev pub ask_steps : Callee → Builtin → List ℕ → List LedgerStep
 ask_steps callee called words = builtin_step callee.types called (low (slice_index words 0)) ∷ []
 
 -- up to the call of a function of the host: a scope is opened, and the handles of the parameters are lifted
-abbrev pub asked_steps : {T : Type 0} → AskForm T → ℕ → Callee → Asked → List ℕ → List ℕ → LedgerState → List LedgerStep
-asked_steps its store callee asked words memory l = Enter ∷ leaves_steps (enter l) (its.parts store callee asked words memory)
+abbrev pub host_asked_steps : {T : Type 0} → AskForm T → ℕ → Callee → Asked → List ℕ → List ℕ → LedgerState → List LedgerStep
+host_asked_steps its store callee asked words memory l = Enter ∷ leaves_steps (enter l) (its.parts store callee asked words memory)
 
 -- from then on: the scope ends and is left, and the handles of the results are lowered
-abbrev pub given_steps : {T : Type 0} → (its : AskForm T) → Callee → Asked → its.Results → LedgerState → List LedgerStep
-given_steps its callee asked results l =
+abbrev pub host_given_steps : {T : Type 0} → (its : AskForm T) → Callee → Asked → its.Results → LedgerState → List LedgerStep
+host_given_steps its callee asked results l =
     let exit : LedgerStep = ExitScope (top_scope l.handles) in
     exit ∷ Leave ∷ leaves_steps (leave (do_step exit l).after) (its.gives callee asked results)
 
@@ -56,8 +56,8 @@ given_steps its callee asked results l =
 -- took itself, which may be refused. The parameters and the results are those of the ask.
 pub record HostThrough {T : Type 0} (its : AskForm T) (answers_so : Answering T) (callee : Callee) (fuel : ℕ) (t : AskTurn) (before after : HostSide T) : Type 0 where
   pub served : IsHostServedBy its answers_so callee fuel t before after
-  pub first : Through before.ledger (asked_steps its before.store callee served.asked t.words t.memory before.ledger) served.lifted
-  pub last : Through served.called (given_steps its callee served.asked served.results served.called) after.ledger
+  pub first : Through before.ledger (host_asked_steps its before.store callee served.asked t.words t.memory before.ledger) served.lifted
+  pub last : Through served.called (host_given_steps its callee served.asked served.results served.called) after.ledger
 
 module _ {T : Type 0} (gives : Giving T) (callee : Callee) (fuel : ℕ) where
   -- an ask that was served: the builtin's one step, or those of a function of the host
@@ -106,17 +106,17 @@ module _ {T : Type 0} (its : AskForm T) (answers_so : Answering T) (callee : Cal
   -- A function of the host was called on these parameters, which were lifted before: the ledger went so far, and to here by the function itself.
   pub record HostCalled (asked : Asked) (params : its.Params) (lifted called : LedgerState) : Type 0 where
     pub lifts : its.lifts served.store callee fuel asked words memory (enter served.ledger) (Ok params) lifted
-    pub first : Through served.ledger (asked_steps its served.store callee asked words memory served.ledger) lifted
+    pub first : Through served.ledger (host_asked_steps its served.store callee asked words memory served.ledger) lifted
     pub steps : HostSteps lifted called
 
   -- It was asked for, up to some step: one before its call, all that it took itself where it gave none, or one from the results on that it gave.
   abbrev pub HostPartway : Error → LedgerState → Type 0
   HostPartway e after = (asked : Asked) × IsHostAsk callee index words asked
-      × (Partway served.ledger (asked_steps its served.store callee asked words memory served.ledger) after
+      × (Partway served.ledger (host_asked_steps its served.store callee asked words memory served.ledger) after
       ⊎ ((params : its.Params) × (lifted : LedgerState) × (why : HostStop) × (state : T) × (e ≡ stopped_error index why) × HostCalled asked params lifted after
       × Gives its answers_so callee fuel served index memory lifted params (Err why) state after)
       ⊎ ((params : its.Params) × (results : its.Results) × (lifted called : LedgerState) × (state : T) × HostCalled asked params lifted called
-      × Gives its answers_so callee fuel served index memory lifted params (Ok results) state called × Partway called (given_steps its callee asked results called) after))
+      × Gives its answers_so callee fuel served index memory lifted params (Ok results) state called × Partway called (host_given_steps its callee asked results called) after))
 
 module _ {T : Type 0} (gives : Giving T) (callee : Callee) (fuel : ℕ) where
   -- an ask that wasn't resumed: up to some step of a builtin or of a function of the host

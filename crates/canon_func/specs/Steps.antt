@@ -20,7 +20,8 @@ use Rattle.canon_ledger.specs.Ledger.{LedgerState, leave}
 use Rattle.canon_leaves.specs.Parts.{LeavesStop, LeavesTake, refusal_of}
 use Rattle.canon_value_parts.specs.Args.{LowersParams}
 use Rattle.canon_value_parts.specs.Lifts.{LiftsResults}
-use Rattle.canon_value_parts.specs.Resources.{Crosses, QuietBut, all_passes, stop_of, told_fault}
+use Rattle.canon_value_parts.specs.Resources.{Crosses, QuietBut, all_passes, told_fault}
+use Rattle.canon_context.specs.Faults.{stop_of}
 use Rattle.canon_types.specs.Table.{tuple_members}
 use Rattle.canon_context.specs.Asks.{SameButHandles}
 use Rattle.canon_context.specs.Core.{Parts, SameButLedger, encoding_by, guest_of, moment_of, component_types}

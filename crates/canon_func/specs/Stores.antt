@@ -5,7 +5,7 @@ use Rattle.canon_model.specs.Text.{Encoding, utf8}
 use Rattle.canon_indices.specs.declared.options.CanonicalOptions.{CanonicalOptions}
 use Rattle.canon_types.specs.declared.types.TypeFunc.{TypeFunc}
 use Rattle.canon_types.specs.Instance.{Instance}
-use Rattle.canon_types.specs.Table.{Table, param_members, result_members}
+use Rattle.canon_types.specs.Table.{TypeTable, param_members, result_members}
 use Rattle.canon_context.specs.Component.{encoding_at}
 use Rattle.canon_context.specs.Core.{Parts}
 use Rattle.canon_context.specs.declared.component.Component.{Component}
@@ -42,11 +42,11 @@ pub record Callee : Type 0 where
   pub post : Option ℕ
   pub async_ : Bool
 
-abbrev pub params_in : Table → Option TypeFunc → Members
+abbrev pub params_in : TypeTable → Option TypeFunc → Members
 params_in t None = no_members
 params_in t (Some f) = param_members t f
 
-abbrev pub results_in : Table → Option TypeFunc → Members
+abbrev pub results_in : TypeTable → Option TypeFunc → Members
 results_in t None = no_members
 results_in t (Some f) = result_members t f
 

@@ -6,7 +6,7 @@ ghost use Rattle.canon_context.specs.Component.{IsInside};
 ghost use Rattle.canon_context.specs.Core.{guest_of, moment_of, component_types};
 ghost use Rattle.canon_host.specs.HostSide.{host_side};
 ghost use Rattle.canon_func.specs.Asks.{allowed};
-ghost use Rattle.canon_func.specs.Call.{Adding, IsCall, LivesUntil, OnAnswered, entry_refusal, refusal, refused_by};
+ghost use Rattle.canon_func.specs.Call.{Adding, IsCall, LivesUntil, OnAnswered, call_refusal, entry_refusal, refused_by};
 ghost use Rattle.canon_func.specs.Steps.{SameButHost};
 ghost use Rattle.canon_func.specs.Stores.{IsOwned, Named, callee_of, type_of};
 ghost use Rattle.canon_func.specs.Typed.{FitsParams, FitsResults};
@@ -113,7 +113,7 @@ impl Func {
         results: usize,
     ) -> Option<Error>
         requires { IsOwned store.now self.now }
-        ensures { result ≡ refusal (callee_of store.now self.now) params results store.now.trapped }
+        ensures { result ≡ call_refusal (callee_of store.now self.now) params results store.now.trapped }
     {
         let component = store.core().component();
         let export = self.export_in(store);
@@ -162,7 +162,7 @@ impl Func {
         requires ready { I.ready store.old.imports }
 
         // Before the guest is entered.
-        ensures refused { refused_by result ≡ refusal (callee_of store.old self.now) (length params.now) (length results.old) store.old.trapped }
+        ensures refused { refused_by result ≡ call_refusal (callee_of store.old self.now) (length params.now) (length results.old) store.old.trapped }
         ensures unchanged { IfSome (refused_by result) (λ e. store.new ≡ store.old) }
 
         // From then on.

@@ -9,7 +9,7 @@ use Rattle.std.specs.Ordering.{nat_cmp}
 use Rattle.canon_handles.specs.declared.error.HandleError.TheVariants.{IndexOverflow, HandleLimit}
 use Rattle.canon_handles.specs.Step.{put, refuse_if, one_if}
 use Rattle.canon_handles.specs.Table.{Table, TableState, Counter, entry_at, entry_count, fresh_index, with_new, with_entry, without, IsTable, IsFresh, first_or, others, is_full, is_at_limit, insert, one_more}
-use Rattle.canon_handles.specs.Cells.{cell_at, entry_in, values_from, table_of, cell_of, AreCells, spare_of, IsStored, Writes}
+use Rattle.canon_handles.specs.Cells.{cell_at, entry_in, values_from, table_of, cell_of, AreCells, spare_of, IsStored, WritesCell}
 use Rattle.canon_handles.specs.LendingTable.{stored_with}
 use Rattle.canon_handles.proofs.ValuesLemmas.{length-values, value_at, value_past, below_or_not, values_put, no_items}
 use Rattle.canon_handles.proofs.StepLemmas.{length-put, get_or-put_same, get_or-put_other, some_within}
@@ -46,7 +46,7 @@ at_is i q = grind (arith, nat_tests)
 
 -- what is written through a loan of the map
 pub writes_through : {E : Type 0} (m n : BTreeMap ℕ (Option E)) (i : ℕ) (c old : Option E)
-    → Some old ≡ cell_at m.entries i → WritesThrough nat_cmp (nat_cmp i) m c n → Writes m.entries n.entries i (Some c)
+    → Some old ≡ cell_at m.entries i → WritesThrough nat_cmp (nat_cmp i) m c n → WritesCell m.entries n.entries i (Some c)
 writes_through m n i c old there w q = (w.3 (some_is (cell_at m.entries i) old there)).0 q ∙ ap (λ b. cond b (Some c) (cell_at m.entries q)) (at_is i q)
 
 pub flatten_none : {E : Type 0} (b : Bool) → option_flatten (cell_of {E = E} b None) ≡ None
@@ -65,10 +65,10 @@ and_here : (b : Bool) (i k : ℕ) → i ≡ k → (b && (i == k)) ≡ b
 and_here true i k e = eq-eqb i k e
 and_here false i k e = refl
 
-pub written_here : {E : Type 0} (cells cells' : List (ℕ × Option E)) (i : ℕ) (c : Option (Option E)) → Writes cells cells' i c → cell_at cells' i ≡ c
+pub written_here : {E : Type 0} (cells cells' : List (ℕ × Option E)) (i : ℕ) (c : Option (Option E)) → WritesCell cells cells' i c → cell_at cells' i ≡ c
 written_here cells cells' i c w = w i ∙ ap (λ b. cond b c (cell_at cells i)) (eq-eqb i i refl)
 
-pub written_else : {E : Type 0} (cells cells' : List (ℕ × Option E)) (i : ℕ) (c : Option (Option E)) → Writes cells cells' i c → (q : ℕ) → q ≢ i → cell_at cells' q ≡ cell_at cells q
+pub written_else : {E : Type 0} (cells cells' : List (ℕ × Option E)) (i : ℕ) (c : Option (Option E)) → WritesCell cells cells' i c → (q : ℕ) → q ≢ i → cell_at cells' q ≡ cell_at cells q
 written_else cells cells' i c w q ne = w q ∙ ap (λ b. cond b c (cell_at cells q)) (ne_eqb q i ne)
 
 module _ {E : Type 0} {greatest most : ℕ} {vacant : Bool} {cells : List (ℕ × Option E)} {stack : List ℕ} {room : ℕ}
@@ -160,7 +160,7 @@ module _ {E : Type 0} {greatest most : ℕ} {vacant : Bool} {cells : List (ℕ �
   entries_put cells' index o le else here =
       values_put (entry_in cells) (entry_in cells') index (suc greatest) o None le else here ∙ ap (λ xs. put xs index o) (sym array)
 
-  cells_put : (cells' : List (ℕ × Option E)) (index : ℕ) (c : Option (Option E)) → index ≤ suc greatest → Writes cells cells' index c
+  cells_put : (cells' : List (ℕ × Option E)) (index : ℕ) (c : Option (Option E)) → index ≤ suc greatest → WritesCell cells cells' index c
       → values_from (entry_in cells') 0 (max (suc greatest) (suc index)) ≡ put v.table.array index (option_flatten c)
   cells_put cells' index c le writes =
       entries_put cells' index (option_flatten c) le
@@ -177,7 +177,7 @@ module _ {E : Type 0} {greatest most : ℕ} {vacant : Bool} {cells : List (ℕ �
 
   -- An insertion
   module _ (cells' : List (ℕ × Option E)) (index greatest' : ℕ) (e : E) (stack' : List ℕ) (top : greatest' ≡ max greatest index)
-      (at : index ≡ fresh_index v.table) (writes : Writes cells cells' index (Some (Some e))) (popped : reverse stack' ≡ others (reverse stack)) where
+      (at : index ≡ fresh_index v.table) (writes : WritesCell cells cells' index (Some (Some e))) (popped : reverse stack' ≡ others (reverse stack)) where
     inserted_array : values_from (entry_in cells') 0 (suc greatest') ≡ put v.table.array (fresh_index v.table) (Some e)
     inserted_array =
         let n : suc greatest' ≡ max (suc greatest) (suc index) = omega arith in
@@ -225,7 +225,7 @@ module _ {E : Type 0} {greatest most : ℕ} {vacant : Bool} {cells : List (ℕ �
 
   -- A vacant cell is put
   module _ (cells' : List (ℕ × Option E)) (index : ℕ) (stack' : List ℕ) (same : stack' ≡ stack)
-      (at : index ≡ fresh_index v.table) (writes : Writes cells cells' index (Some None)) where
+      (at : index ≡ fresh_index v.table) (writes : WritesCell cells cells' index (Some None)) where
     reserved_entry : (q : ℕ) → entry_in cells' q ≡ entry_in cells q
     reserved_entry q = elim (equal_or_not q index) as (λ _. entry_in cells' q ≡ entry_in cells q) [
       | inl eq ↦ ap (entry_in cells') eq ∙ ap option_flatten (written_here cells cells' index (Some None) writes) ∙ sym (entries q ∙ ap (entry_at v.table) (eq ∙ at) ∙ is_fresh.vacant)
@@ -260,7 +260,7 @@ module _ {E : Type 0} {greatest most : ℕ} {vacant : Bool} {cells : List (ℕ �
 
   -- Another entry is written
   module _ (cells' : List (ℕ × Option E)) (index : ℕ) (e e' : E) (is : entry_at v.table index ≡ Some e)
-      (writes : Writes cells cells' index (Some (Some e'))) where
+      (writes : WritesCell cells cells' index (Some (Some e'))) where
     pub written : table_of greatest most cells' stack ≡ with_entry v.table index e'
     written =
         let h = within index e is in

@@ -3,7 +3,7 @@ use Rattle.std.proofs.Common.{◌≡◌, ◌≢◌, ℕ, ◌+◌, ◌≤◌, max
 use Rattle.std.proofs.lemmas.Bool.{eq-eqb, ne_eqb}
 use Rattle.canon_handles.specs.Step.{put, one_if, occurrences}
 use Rattle.canon_handles.specs.Table.{Table, entry_at, fresh_index, with_new, without, IsTable, empty_table, first_or, others, is_full, vacancy}
-use Rattle.canon_handles.specs.Laws.{TableCall, Insert, Remove, Event, Inserted, Removed, Recorded, record_call, record_calls, freed, greatest_given, IndexReuse}
+use Rattle.canon_handles.specs.Laws.{TableCall, Insert, Remove, Event, Inserted, Removed, TableWithHistory, record_call, record_calls, freed, greatest_given, IndexReuse}
 use Rattle.canon_handles.proofs.StepLemmas.{length-put, length-put_end, some_within, one_if-true}
 use Rattle.canon_handles.proofs.TableLemmas.{is_table-with_new, is_table-without, is_table-empty, vacancy_some, vacancy_le, vacancy_only, equal_or_not}
 
@@ -135,11 +135,11 @@ recorded-remove t events i e is r =
       greatest = length-put t.array i None within ∙ r.greatest;
     }
 
-recorded_if_insert : {E : Type 0} (b : Bool) (t : Table E) (events : List Event) (e : E) → IsRecorded t events → let w : Recorded E = cond b (t, events) (with_new t e, Inserted (fresh_index t) ∷ events) in IsRecorded w.0 w.1
+recorded_if_insert : {E : Type 0} (b : Bool) (t : Table E) (events : List Event) (e : E) → IsRecorded t events → let w : TableWithHistory E = cond b (t, events) (with_new t e, Inserted (fresh_index t) ∷ events) in IsRecorded w.0 w.1
 recorded_if_insert true t events e r = r
 recorded_if_insert false t events e r = recorded-insert t events e r
 
-recorded_if_remove : {E : Type 0} (o : Option E) (t : Table E) (events : List Event) (i : ℕ) → entry_at t i ≡ o → IsRecorded t events → let w : Recorded E = cond (is_some o) (without t i, Removed i ∷ events) (t, events) in IsRecorded w.0 w.1
+recorded_if_remove : {E : Type 0} (o : Option E) (t : Table E) (events : List Event) (i : ℕ) → entry_at t i ≡ o → IsRecorded t events → let w : TableWithHistory E = cond (is_some o) (without t i, Removed i ∷ events) (t, events) in IsRecorded w.0 w.1
 recorded_if_remove None t events i is r = r
 recorded_if_remove (Some e) t events i is r = recorded-remove t events i e is r
 
@@ -147,7 +147,7 @@ recorded-call : {E : Type 0} (call : TableCall E) (t : Table E) (events : List E
 recorded-call (Insert e) t events r = recorded_if_insert (is_full t) t events e r
 recorded-call (Remove i) t events r = recorded_if_remove (entry_at t i) t events i refl r
 
-recorded-calls : {E : Type 0} (calls : List (TableCall E)) (w : Recorded E) → IsRecorded w.0 w.1 → let v = record_calls calls w in IsRecorded v.0 v.1
+recorded-calls : {E : Type 0} (calls : List (TableCall E)) (w : TableWithHistory E) → IsRecorded w.0 w.1 → let v = record_calls calls w in IsRecorded v.0 v.1
 recorded-calls [] w r = r
 recorded-calls (call ∷ calls) w r = recorded-calls calls (record_call call w) (recorded-call call w.0 w.1 r)
 

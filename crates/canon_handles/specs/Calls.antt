@@ -73,8 +73,8 @@ resource_own_insert t c resource = insert t c (entry.ResourceOwn resource 0)
 abbrev pub resource_borrow_insert : Table Entry → Counter → TypedResource → Scope → Outcome Entry ℕ
 resource_borrow_insert t c resource scope = insert t c (entry.ResourceBorrow resource scope)
 
-abbrev pub resource_rep : Table Entry → TypedResourceIndex → Result ℕ HandleError
-resource_rep t idx = look_up (read_rep idx) t (raw_index idx)
+abbrev pub handle_rep : Table Entry → TypedResourceIndex → Result ℕ HandleError
+handle_rep t idx = look_up (read_rep idx) t (raw_index idx)
 
 -- an own handle is lent so often at most, 2^32 - 1 times
 abbrev pub most_lends : ℕ

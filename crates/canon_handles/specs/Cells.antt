@@ -49,5 +49,5 @@ pub record IsStored {E : Type 0} (greatest max : ℕ) (vacant : Bool) (cells : L
   pub ready : vacant ≡ true → fresh_index (table_of greatest max cells stack) ≤ room
 
 -- the cells with another one at an index, or none there
-abbrev pub Writes : {E : Type 0} → List (ℕ × Option E) → List (ℕ × Option E) → ℕ → Option (Option E) → Type 0
-Writes cells cells' i c = (q : ℕ) → cell_at cells' q ≡ cond (q == i) c (cell_at cells q)
+abbrev pub WritesCell : {E : Type 0} → List (ℕ × Option E) → List (ℕ × Option E) → ℕ → Option (Option E) → Type 0
+WritesCell cells cells' i c = (q : ℕ) → cell_at cells' q ≡ cond (q == i) c (cell_at cells q)

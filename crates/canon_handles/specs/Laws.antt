@@ -16,15 +16,15 @@ pub data Event : Type 0 where
   Removed : ℕ → Event
 
 -- a table with its history, the last event first
-abbrev pub Recorded : Type 0 → Type 0
-Recorded E = Table E × List Event
+abbrev pub TableWithHistory : Type 0 → Type 0
+TableWithHistory E = Table E × List Event
 
 -- a call that is refused changes nothing
-abbrev pub record_call : {E : Type 0} → TableCall E → Recorded E → Recorded E
+abbrev pub record_call : {E : Type 0} → TableCall E → TableWithHistory E → TableWithHistory E
 record_call (Insert e) (t, events) = if is_full t then (t, events) else (with_new t e, Inserted (fresh_index t) ∷ events)
 record_call (Remove i) (t, events) = if is_some (entry_at t i) then (without t i, Removed i ∷ events) else (t, events)
 
-abbrev pub record_calls : {E : Type 0} → List (TableCall E) → Recorded E → Recorded E
+abbrev pub record_calls : {E : Type 0} → List (TableCall E) → TableWithHistory E → TableWithHistory E
 record_calls [] w = w
 record_calls (call ∷ calls) w = record_calls calls (record_call call w)
 
@@ -43,7 +43,7 @@ greatest_given (Removed i ∷ events) = greatest_given events
 -- more than the greatest given
 abbrev pub IndexReuse : Type 0 → Type 0
 IndexReuse E = (greatest : ℕ) (calls : List (TableCall E)) →
-    let w : Recorded E = record_calls calls (empty_table greatest, []) in
+    let w : TableWithHistory E = record_calls calls (empty_table greatest, []) in
     fresh_index w.0 ≡ first_or (greatest_given w.1 + 1) (freed (λ _. false) w.1)
 
 -- a state that is written changes nothing of what a table holds

@@ -3,7 +3,7 @@
 ghost use Rattle.std.specs.Prelude.{◌≡◌, ◌≢◌, ◌≤◌, ◌<◌, ◌+◌, ◌==◌, ◌&&◌, ◌⊎◌, ℕ, OnOk, OnErr, IsOkAnd, None, Some, cond, is_some, true};
 ghost use Rattle.std.specs.Borrow.{sem};
 ghost use Rattle.std.specs.Vec.{vec_capacity};
-ghost use Rattle.canon_handles.specs.Cells.{cell_at, Writes};
+ghost use Rattle.canon_handles.specs.Cells.{cell_at, WritesCell};
 ghost use Rattle.canon_handles.specs.LendingTable.{LendsEntry};
 ghost use Rattle.canon_handles.specs.Table.{max_handle, empty_table, entry_at, entry_count, fresh_index, insert, with_entry, without, IsFresh, DoesWithMemory, SparesOneLess};
 
@@ -183,7 +183,7 @@ fn put_cell<E: Copy>(
     ensures free { free.new.items ≡ free.old.items }
     ensures room { vec_capacity free.old ≤ vec_capacity free.new }
     ensures enough { OnOk result (index ≤ vec_capacity free.new) }
-    ensures cells { OnOk result (Writes cells.old.entries cells.new.entries index (Some cell)) }
+    ensures cells { OnOk result (WritesCell cells.old.entries cells.new.entries index (Some cell)) }
     ensures kept { OnErr result (cells.new.entries ≡ cells.old.entries) }
     ensures wanted { OnErr result ((vec_capacity free.old < index) ⊎ (cell_at cells.old.entries index ≡ None)) }
 {

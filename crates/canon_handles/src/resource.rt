@@ -2,7 +2,7 @@
 
 ghost use Rattle.std.specs.Prelude.{◌≡◌, ◌≤◌, ◌<◌, ◌+◌, Some, OnOk, true, false};
 ghost use Rattle.canon_handles.specs.Table.{entry_at, with_entry, one_less, one_more, is_at_limit, lookup_entry, Does, DoesWithMemory, SparesOneLess};
-ghost use Rattle.canon_handles.specs.Calls.{held_count, lends_of, is_own, IsUnlent, KeepsCount, most_lends, raw_index, read_rep, read_removed, resource_own_insert, resource_borrow_insert, resource_rep, resource_lend, resource_undo_lend, remove_resource};
+ghost use Rattle.canon_handles.specs.Calls.{held_count, lends_of, is_own, IsUnlent, KeepsCount, most_lends, raw_index, read_rep, read_removed, resource_own_insert, resource_borrow_insert, handle_rep, resource_lend, resource_undo_lend, remove_resource};
 ghost use Rattle.canon_handles.specs.declared.handle.Entry.TheVariants.{ResourceOwn};
 
 use crate::counter::HandleCounter;
@@ -50,7 +50,7 @@ impl HandleTable {
 
     /// The representation of a resource handle of this type.
     pub fn resource_rep(&self, idx: TypedResourceIndex) -> Result<u32, HandleError>
-        ensures { result ≡ resource_rep self.now.table idx }
+        ensures { result ≡ handle_rep self.now.table idx }
     {
         rep_from(idx, self.entry(idx.raw_index()))
     }

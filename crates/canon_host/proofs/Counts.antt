@@ -6,13 +6,13 @@ use Rattle.std.proofs.lemmas.Bool.{cases_lt, cond-false, cond-true, lt-leb}
 use Rattle.canon_model.specs.Flat.{max_params, max_results}
 use Rattle.canon_model.specs.Layout.{flat, members_flat}
 use Rattle.canon_model.specs.Shape.{Members, member_count, of_places, product}
-use Rattle.canon_types.specs.Table.{Table, members_of}
+use Rattle.canon_types.specs.Table.{TypeTable, members_of}
 use Rattle.canon_types.specs.declared.types.InterfaceType.{InterfaceType}
 use Rattle.canon_value_parts.proofs.Far.{far_words, near_words}
 use Rattle.canon_value_parts.specs.Args.{args_words}
 use Rattle.canon_host.specs.Asked.{AreEnough, pointer_words, row_words, storage_words}
 
-pub member_count-members_of : (t : Table) (types : List InterfaceType) → member_count (members_of t types) ≡ length types
+pub member_count-members_of : (t : TypeTable) (types : List InterfaceType) → member_count (members_of t types) ≡ length types
 member_count-members_of t [] = refl
 member_count-members_of t (x ∷ xs) = ap suc (member_count-members_of t xs)
 

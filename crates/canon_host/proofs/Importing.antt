@@ -18,12 +18,12 @@ use Rattle.canon_memory.specs.declared.event.Event.{Event}
 use Rattle.canon_model.specs.Shape.{member_count}
 use Rattle.canon_types.specs.Table.{HasFunc, param_members}
 use Rattle.canon_types.specs.declared.types.TypeFunc.{TypeFunc}
-use Rattle.canon_val.specs.Value.{cap}
+use Rattle.canon_model.specs.Memory.{cap}
 use Rattle.canon_val.specs.declared.val.Val.{Val}
 use Rattle.canon_host.specs.Forms.{IsOfOthers, IsOfThese, MayGive, RustTypes, TypedAnswering, in_view, over_values}
 use Rattle.canon_host.specs.HostSide.{LoggedEntry, Giving, outcome}
-use Rattle.canon_host.specs.Imports.{CallsImport, CallsUnlogged, Declines, GivesOnly, LiftsOf, ServedByTyped, ServesForm, ServesTypes, ServesWith, entry_of, logged, steps_of_types}
-use Rattle.canon_host.specs.Serves.{AskValues, CallsBlank, AnswersInRow, LiftsAsked, Serves, ServesBy, ServesInRow, Values, value_steps, values_of}
+use Rattle.canon_host.specs.Imports.{CallsImport, CallsUnlogged, Declines, GivesOnly, LiftsOf, ServedByTyped, ServesForm, ServesTypes, ServesWith, logged, logged_entry, steps_of_types}
+use Rattle.canon_host.specs.Serves.{AskValues, CallsBlank, AnswersInRow, LiftsAsked, Serves, ServesBy, ServesInRow, Values, value_steps, params_and_results}
 use Rattle.canon_host.specs.ServesTyped.{FitRustTypes, CallsTyped, ServesTyped, typed_steps}
 use Rattle.canon_host.specs.declared.asked.Asked.{Asked}
 use Rattle.canon_host.specs.declared.error.HostError.{HostError}
@@ -77,12 +77,12 @@ module _ {F T G : Type 0} (g : Closure F (HostView T) Val (Result (Unit {0}) Hos
 module _ {T G : Type 0} (gives : Giving T) (log : Option (List LoggedEntry)) (n : ℕ) (seen : G → Seen) (moves : GuestIn G → List Event → GuestIn G → Type 0) (asked : Asked) where
   -- as many of them as the type has parameters are the parameters, and the others the results
   pub entry_in_row : (before after : Parts T G) (words words2 : List ℕ) (values : List Val) (told : AskValues) (count : ℕ) → ServesWith gives log n seen moves asked before words (Ok told) after words2 → values ≡ told.params ++ told.results
-      → count ≡ member_count (param_members (component_types before) asked.func) → entry_of n (values_of (take count values) (drop count values)) ≡ entry_of n told
+      → count ≡ member_count (param_members (component_types before) asked.func) → logged_entry n (params_and_results (take count values) (drop count values)) ≡ logged_entry n told
   entry_in_row before after words words2 values told count served row is =
       let parts : count ≡ length told.params = is ∙ sym (told_count (CallsImport gives log n) seen moves asked before after words words2 told served) in
       let front : take count values ≡ told.params = ap (take count) row ∙ (ap (λ k. take k (told.params ++ told.results)) parts ∙ take-append_seam told.params told.results) in
       let back : drop count values ≡ told.results = ap (drop count) row ∙ (ap (λ k. drop k (told.params ++ told.results)) parts ∙ drop-append_seam told.params told.results) in
-      ap (λ ps. entry_of n (values_of ps (drop count values))) front ∙ ap (λ rs. entry_of n (values_of told.params rs)) back
+      ap (λ ps. logged_entry n (params_and_results ps (drop count values))) front ∙ ap (λ rs. logged_entry n (params_and_results told.params rs)) back
 
 -- ---- one ask over values, by what was done
 
@@ -95,7 +95,7 @@ module _ {T G : Type 0} (gives : Giving T) (log log2 : Option (List LoggedEntry)
   Answered result t = ServesForm gives log n seen moves (asked_by ty t options) over_values log2 r r2 before words result after words2
 
   pub logs : (o : Option TypeFunc) (values : Vec Val Global) (count : ℕ) → IfSome o (Done (Ok values)) → IfSome o (λ t. count ≡ member_count (param_members (component_types before) t))
-      → log2 ≡ logged log (entry_of n (values_of (take count values.items) (drop count values.items))) → r2 ≡ r → IfSome o (Answered (Ok tt))
+      → log2 ≡ logged log (logged_entry n (params_and_results (take count values.items) (drop count values.items))) → r2 ≡ r → IfSome o (Answered (Ok tt))
   logs (Some t) values count (told, row, served) is more same =
       (told, served, more ∙ ap (logged log) (entry_in_row gives log n seen moves (asked_by ty t options) before after words words2 values.items told count served row is), same)
   logs None values count done is more same = tt

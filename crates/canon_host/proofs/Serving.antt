@@ -33,7 +33,7 @@ use Rattle.canon_val.specs.declared.val.Val.{Val}
 use Rattle.canon_val.specs.declared.val.Val.TheVariants as val
 use Rattle.canon_value_parts.proofs.Values.{have_count}
 use Rattle.canon_host.specs.Asked.{RestStays, row_words}
-use Rattle.canon_host.specs.Serves.{Answers, AnswersBy, AskValues, Calling, CallsFunction, CallsBlank, Concludes, ConcludesBy, EndsAsk, AnswersInRow, LiftsAsked, LoweringRelation, LowersGiven, Serves, ServesBy, ServesEntered, ServesEnteredBy, Steps, Values, blank, value_steps, values_of}
+use Rattle.canon_host.specs.Serves.{Answers, AnswersBy, AskValues, Calling, CallsFunction, CallsBlank, Concludes, ConcludesBy, EndsAsk, AnswersInRow, LiftsAsked, LoweringRelation, LowersGiven, Serves, ServesBy, ServesEntered, ServesEnteredBy, Steps, Values, blank, value_steps, params_and_results}
 use Rattle.canon_host.specs.declared.asked.Asked.{Asked}
 use Rattle.canon_host.specs.declared.error.HostError.{HostError}
 use Rattle.canon_host.specs.declared.error.HostError.TheVariants as error
@@ -148,7 +148,7 @@ module _ {F T G : Type 0} (g : Closure F (HostView T) Val (Result (Unit {0}) Hos
 
     pub answered_ok : (final : List Val) → final ≡ nv → Concludes seen moves asked made shown words (Ok tt) after words2
         → (told : AskValues) × (final ≡ told.params ++ told.results) × Answers (CallsBlank g f asked) seen moves asked before params words (Ok told) after words2
-    answered_ok final is h = (values_of params (drop n nv), is ∙ split, (made, refl, calls, subst (λ xs. Concludes seen moves asked made xs words (Ok tt) after words2) hs h))
+    answered_ok final is h = (params_and_results params (drop n nv), is ∙ split, (made, refl, calls, subst (λ xs. Concludes seen moves asked made xs words (Ok tt) after words2) hs h))
 
     pub answered_err : (x : Fault) → Concludes seen moves asked made shown words (Err x) after words2 → Answers (CallsBlank g f asked) seen moves asked before params words (Err (error.Fault x)) after words2
     answered_err x h = inr (inr (drop n nv, made, x, refl, calls, subst (λ xs. Concludes seen moves asked made xs words (Err x) after words2) hs h))

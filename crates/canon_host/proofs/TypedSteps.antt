@@ -20,7 +20,6 @@ use Rattle.canon_ledger.specs.Books.{DidSurely}
 use Rattle.canon_ledger.specs.Handles.{top_scope}
 use Rattle.canon_ledger.specs.Ledger.{Done, ExitScope, Leave, LedgerState, Partway, Through, do_step, enter, leave, leaving, numbered, validate_scope_exit}
 use Rattle.canon_ledger.specs.declared.fault.ResourceFault.{ResourceFault}
-use Rattle.canon_reading.specs.Reading as lifting
 use Rattle.canon_reading.specs.Reading.{AreTaken, Reading, setting_in}
 use Rattle.canon_reading.specs.Spots.{flat_in}
 use Rattle.canon_memory.specs.Guest.{GuestIn, Seen}
@@ -31,7 +30,7 @@ use Rattle.canon_model.specs.Shape.{Shape, of_places, product}
 use Rattle.canon_model.specs.Tree.{Tree}
 use Rattle.canon_types.specs.Instance.{Instance}
 use Rattle.canon_types.specs.Table.{param_members, result_members}
-use Rattle.canon_value_parts.specs.Resources.{stop_of}
+use Rattle.canon_context.specs.Faults.{stop_of}
 
 -- ---- the end of the scope
 
@@ -88,7 +87,7 @@ module _ {F T G P R : Type 0} (g : StaticClosure F (HostView T) P (Result R Host
     was_called params result lifted called lifts calls = record { lifts = lifts; calls = calls; first = lifted_through params lifted lifts; steps = calls.steps }
 
     unlifted : (x : Fault) → LiftsTyped reading asked entered words (Err x) after → Partway before.ledger (asked_steps reading asked before words) after.ledger
-    unlifted x ((remains, refused), same) = inr (inr (0, refl, leaves_partway (lifting.stop_of x) (enter before.ledger) after.ledger (asked_parts reading asked before words) refused.stops))
+    unlifted x ((remains, refused), same) = inr (inr (0, refl, leaves_partway (stop_of x) (enter before.ledger) after.ledger (asked_parts reading asked before words) refused.stops))
 
     -- ---- from the call on
 

@@ -3,7 +3,7 @@ use Rattle.std.specs.Prelude.{IfSome, List, Some, drop, if◌then◌else◌, len
 use Rattle.canon_model.specs.Flat.{max_results}
 use Rattle.canon_model.specs.Layout.{members_flat}
 use Rattle.canon_model.specs.Shape.{Members}
-use Rattle.canon_types.specs.Table.{HasTuple, Table, param_members, result_members}
+use Rattle.canon_types.specs.Table.{HasTuple, TypeTable, param_members, result_members}
 use Rattle.canon_context.specs.Component.{HasOptions}
 use Rattle.canon_context.specs.declared.component.Component.{Component}
 use Rattle.canon_value_parts.specs.Args.{args_words}
@@ -43,8 +43,8 @@ pub record AreEnough (params results : Members) (words : List ℕ) : Type 0 wher
 abbrev pub RestStays : Members → List ℕ → List ℕ → Type 0
 RestStays results words words2 = drop (row_words results) words2 ≡ drop (row_words results) words
 
-abbrev pub HasWordsEnough : Table → Asked → List ℕ → Type 0
+abbrev pub HasWordsEnough : TypeTable → Asked → List ℕ → Type 0
 HasWordsEnough types asked words = AreEnough (param_members types asked.func) (result_members types asked.func) words
 
-abbrev pub HasRoomFor : Table → ℕ → List ℕ → Type 0
+abbrev pub HasRoomFor : TypeTable → ℕ → List ℕ → Type 0
 HasRoomFor types ty words = IfSome (slice_get types.funcs ty) (λ t. AreEnough (param_members types t) (result_members types t) words)

@@ -12,7 +12,7 @@ use Rattle.canon_context.specs.declared.host.HostView.{HostView}
 use Rattle.canon_memory.specs.Guest.{GuestIn, Seen}
 use Rattle.canon_memory.specs.declared.event.Event.{Event}
 use Rattle.canon_types.specs.declared.types.TypeFunc.{TypeFunc}
-use Rattle.canon_val.specs.Value.{cap}
+use Rattle.canon_model.specs.Memory.{cap}
 use Rattle.canon_val.specs.declared.val.Val.{Val}
 use Rattle.canon_host.specs.Forms.{HostFuncForm, IsOfOthers, IsOfThese, RustTypes, TypedAnswering, in_view, over_types, over_values}
 use Rattle.canon_host.specs.HostSide.{Answering, LoggedEntry, Giving, entry, gives_values, outcome}
@@ -24,8 +24,8 @@ use Rattle.canon_host.specs.declared.error.HostError.TheVariants as error
 
 -- ---- the log
 
-abbrev pub entry_of : ℕ → AskValues → LoggedEntry
-entry_of n told = entry n told.params told.results
+abbrev pub logged_entry : ℕ → AskValues → LoggedEntry
+logged_entry n told = entry n told.params told.results
 
 -- the log with one entry more, where it is exposed
 abbrev pub logged : Option (List LoggedEntry) → LoggedEntry → Option (List LoggedEntry)
@@ -109,7 +109,7 @@ module _ {T G : Type 0} (gives : Giving T) (log : Option (List LoggedEntry)) (n 
 
   -- The import was served in its form. The values of an ask over values are added to an exposed log.
   abbrev pub ServesForm : HostFuncForm T → Option (List LoggedEntry) → ℕ → ℕ → Parts T G → List ℕ → Result (Unit {0}) HostError → Parts T G → List ℕ → Type 0
-  ServesForm over_values log2 refusals refusals2 = ServesLogged steps_of_values (λ told. logged log (entry_of n told)) asked log log2 refusals refusals2
+  ServesForm over_values log2 refusals refusals2 = ServesLogged steps_of_values (λ told. logged log (logged_entry n told)) asked log log2 refusals refusals2
   ServesForm (over_types types may) log2 refusals refusals2 = ServesTypes types may log seen moves asked log2 refusals refusals2
 
   abbrev pub ServesImport : Option (List LoggedEntry) → ℕ → ℕ → Parts T G → List ℕ → Result (Unit {0}) HostError → Parts T G → List ℕ → Type 0

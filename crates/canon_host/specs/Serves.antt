@@ -23,7 +23,7 @@ use Rattle.canon_memory.specs.declared.event.Event.{Event}
 use Rattle.canon_model.specs.Flat.{max_results}
 use Rattle.canon_model.specs.Layout.{members_flat}
 use Rattle.canon_model.specs.Shape.{member_count}
-use Rattle.canon_types.specs.Table.{Table, param_members, result_members}
+use Rattle.canon_types.specs.Table.{TypeTable, param_members, result_members}
 use Rattle.canon_value_parts.specs.Args.{IsArea, IsNoArea, LowersResults, args_words}
 use Rattle.canon_value_parts.specs.Fails.{AreSmall, BlamesMembers}
 use Rattle.canon_value_parts.specs.Lifts.{LiftsParams}
@@ -39,10 +39,10 @@ use Rattle.canon_host.specs.declared.error.HostError.TheVariants as error
 -- ---- the steps of every form
 
 -- where the results are to be stored, if they don't go in a row
-abbrev pub IsResultPlace : Table → Asked → List ℕ → List ℕ → ℕ → Type 0
+abbrev pub IsResultPlace : TypeTable → Asked → List ℕ → List ℕ → ℕ → Type 0
 IsResultPlace types asked bytes words at = max_results < members_flat (result_members types asked.func) → IsArea bytes (result_members types asked.func) words (args_words (param_members types asked.func)) at
 
-abbrev pub IsNoPlace : Table → Asked → List ℕ → List ℕ → Fault → Type 0
+abbrev pub IsNoPlace : TypeTable → Asked → List ℕ → List ℕ → Fault → Type 0
 IsNoPlace types asked bytes words e = (max_results < members_flat (result_members types asked.func)) × IsNoArea bytes (result_members types asked.func) words (args_words (param_members types asked.func)) e
 
 -- the scope of the ask ends
@@ -130,7 +130,7 @@ LiftsAsked asked before words result after =
     × SameButLedger before after
 
 -- a slot for each result
-abbrev pub blank : Table → Asked → List Val
+abbrev pub blank : TypeTable → Asked → List Val
 blank types asked = replicate (member_count (result_members types asked.func)) (val.Bool false)
 
 -- One call of a function: the core before, its parameters, its answer, and the core and the results after.
@@ -172,8 +172,8 @@ module _ {T G : Type 0} (seen : G → Seen) (moves : GuestIn G → List Event �
 abbrev pub AskValues : Type 0
 AskValues = Values (List Val) (List Val)
 
-abbrev pub values_of : List Val → List Val → AskValues
-values_of params results = record { params = params; results = results }
+abbrev pub params_and_results : List Val → List Val → AskValues
+params_and_results params results = record { params = params; results = results }
 
 -- they stand in a row
 abbrev pub AnswersInRow : (Result AskValues HostError → Type 0) → Result (Vec Val Global) HostError → Type 0

@@ -7,15 +7,15 @@ use lib.Pointwise.{pointwise}
 use Rattle.serde_json.specs.Data.{Data, array, boolean, null, number, object, string}
 use Rattle.serde_json.specs.Find.{as_u64}
 use Rattle.canon_json.proofs.Found.{found_so}
-use Rattle.canon_types.specs.Table.{Knows, Table}
+use Rattle.canon_types.specs.Table.{Knows, TypeTable}
 use Rattle.canon_types.specs.declared.types.InterfaceType.{InterfaceType}
 use Rattle.canon_layout.specs.Entries.{reference_of}
 use Rattle.canon_layout.specs.Words.{plain_types, type_word}
 
-plain_known : (t : Table) → AllByRecursion (Knows t) plain_types
+plain_known : (t : TypeTable) → AllByRecursion (Knows t) plain_types
 plain_known t = (refl, (refl, (refl, (refl, (refl, (refl, (refl, (refl, (refl, (refl, (refl, (refl, (refl, tt)))))))))))))
 
-pub reference_known : (t : Table) (before : List InterfaceType) (d : Data) (type : InterfaceType) → All (Knows t) before → reference_of before d ≡ Some type → Knows t type
+pub reference_known : (t : TypeTable) (before : List InterfaceType) (d : Data) (type : InterfaceType) → All (Knows t) before → reference_of before d ≡ Some type → Knows t type
 reference_known t before null type known e = absurd (cc)
 reference_known t before (boolean b) type known e = absurd (cc)
 reference_known t before (number n) type known e = option_and_then_some (slice_get before) (as_u64 n) type e (λ i s at.

@@ -4,7 +4,7 @@ use Rattle.serde_json.specs.Data.{Data}
 use Rattle.serde_json.specs.Find.{get, as_object}
 use Rattle.canon_json.specs.Hex.{bytes_of}
 use Rattle.canon_json.specs.Json.{has_len}
-use Rattle.canon_types.specs.Table.{Table}
+use Rattle.canon_types.specs.Table.{TypeTable}
 use Rattle.canon_types.specs.declared.types.InterfaceType.{InterfaceType}
 use Rattle.canon_layout.specs.Asked.{types_listed}
 use Rattle.canon_layout.specs.Entries.{reference_of}
@@ -21,11 +21,11 @@ pub data Told : Type 0 where
 
 -- a type of this table, and what is printed of it
 pub record Question : Type 0 where
-  pub table : Table
+  pub table : TypeTable
   pub type : InterfaceType
   pub told : Told
 
-abbrev pub question_of : Table → InterfaceType → Told → Question
+abbrev pub question_of : TypeTable → InterfaceType → Told → Question
 question_of table type told = record { table = table; type = type; told = told }
 
 -- exactly one of the two is there: a value as a script spells it, without resources, or hex

@@ -11,7 +11,7 @@ use Rattle.canon_model.specs.Memory.{num}
 use Rattle.canon_model.specs.Shape.{Members, Name, Shape, VariantKind, case_count, member_count, variant}
 use Rattle.canon_types.specs.Depth.{deepest, depth, variant_cases}
 use Rattle.canon_types.specs.Keeps.{flags_type, names_of}
-use Rattle.canon_types.specs.Table.{IsDefined, Table}
+use Rattle.canon_types.specs.Table.{IsDefined, TypeTable}
 use Rattle.canon_types.specs.declared.types.InterfaceType.TheVariants as ty
 use Rattle.canon_types.specs.declared.types.TypeFlags.{TypeFlags}
 use Rattle.canon_plan.specs.NoHandle.{HaveNoHandle, HasNoHandle}
@@ -45,7 +45,7 @@ module _ (s : Shape) (k : VariantKind) (is : s ≡ variant k (variant_cases s)) 
 pub payload_count : (bs : List ℕ) (from to : ℕ) (ms ns : Members) (vs : List Val) → ms ≡ ns → PartsRead bs from to ms vs → length vs ≡ member_count ns
 payload_count bs from to ms ns vs e (ts, xs, span, images, are) = have_count ms vs ts are ∙ ap member_count e
 
-pub flags_many : (t : Table) (i : ℕ) (f : TypeFlags) (n : ℕ) → IsDefined t (ty.Flags i) (flags_type f) → n ≡ length f.names.keys → n ≡ length (flag_names t i)
+pub flags_many : (t : TypeTable) (i : ℕ) (f : TypeFlags) (n : ℕ) → IsDefined t (ty.Flags i) (flags_type f) → n ≡ length f.names.keys → n ≡ length (flag_names t i)
 flags_many t i f n is e =
     let counted : length (names_of f.names.keys) ≡ length f.names.keys = simp length-map in
     e ∙ (sym counted ∙ ap length (sym (names_are t i f is)))

@@ -4,7 +4,8 @@ use Rattle.canon_lowering.specs.Copies.{case_members, copies}
 use Rattle.canon_model.specs.Shape.{Cases, Members, Name, ProductKind, Shape, VariantKind, fixed, member, member_count, product, variant}
 use Rattle.canon_model.specs.Text.{utf8}
 use Rattle.canon_value_parts.specs.Fails.{Blames, FailsAt, MemberFails}
-use Rattle.canon_val.specs.Value.{IsCase, IsFixed, IsProduct, all_places, cap, member_names, places}
+use Rattle.canon_val.specs.Value.{IsCase, IsFixed, IsProduct, all_places, member_names, places}
+use Rattle.canon_model.specs.Memory.{cap}
 use Rattle.canon_context.specs.declared.fault.Fault.{Fault}
 use Rattle.canon_val.specs.declared.val.Val.{Val}
 use Rattle.canon_value_parts.proofs.Cases.{case_fails, case_places}

@@ -22,7 +22,7 @@ use Rattle.canon_model.specs.Reach.{StoredFault, no_scalar}
 use Rattle.canon_context.specs.Told.{Exactly, LiftBlames}
 use Rattle.canon_model.specs.Text.{Spells, in_utf8, utf8}
 use Rattle.canon_model.specs.Tree.{Tree, bits, text}
-use Rattle.canon_types.specs.Table.{Table, shape_of}
+use Rattle.canon_types.specs.Table.{TypeTable, shape_of}
 use Rattle.canon_types.specs.declared.types.InterfaceType.{InterfaceType}
 use Rattle.canon_types.specs.declared.types.InterfaceType.TheVariants as ty
 use Rattle.canon_plan.specs.NoHandle.{IsScalarType, scalar_type}
@@ -92,7 +92,7 @@ least_by f32 n h = tt
 least_by f64 n h = tt
 least_by char n h = tt
 
-module _ (t : Table) (type : InterfaceType) (k : Scalar) (e : scalar_type type ≡ Some k) (bs : List ℕ) (at : ℕ) where
+module _ (t : TypeTable) (type : InterfaceType) (k : Scalar) (e : scalar_type type ≡ Some k) (bs : List ℕ) (at : ℕ) where
   here : shape_of t type ≡ scalar k
   here = scalar_shape t type k e
 

@@ -8,13 +8,12 @@ use Rattle.std.proofs.Math.Seq.{take-append_seam, take-length}
 use Rattle.canon_lowering.specs.Storing.{narrow}
 use Rattle.canon_model.specs.Image.{IsField, le_bytes}
 use Rattle.canon_model.specs.Layout.{flags_size}
-use Rattle.canon_model.specs.Memory.{bytes_at, le_number, num}
+use Rattle.canon_model.specs.Memory.{bytes_at, cap, le_number, num}
 use Rattle.canon_model.specs.Rep.{bits_of}
 use Rattle.canon_model.specs.Shape.{Name, Shape, flags}
 use Rattle.canon_model.specs.Tree.{bits}
 use Rattle.canon_types.specs.Keeps.{names_of}
 use Rattle.canon_value_parts.specs.Flags.{SomeUnknown}
-use Rattle.canon_val.specs.Value.{cap}
 use Rattle.canon_context.specs.declared.fault.Fault.{Fault}
 use Rattle.canon_context.specs.declared.fault.Fault.TheVariants as fault
 use Rattle.canon_val.specs.declared.val.Val.TheVariants as val

@@ -9,7 +9,8 @@ use Rattle.canon_types.specs.Depth.{element_shape}
 use Rattle.canon_plan.specs.NoHandle.{HasNoHandle, has_no_handle}
 use Rattle.canon_value_parts.specs.Elements.{by_turns}
 use Rattle.canon_value_parts.specs.Fails.{FailsAt, MemberFails, PairFails, SomeFails}
-use Rattle.canon_val.specs.Value.{PairHas, all_places, cap, pair_places, total}
+use Rattle.canon_val.specs.Value.{PairHas, all_places, pair_places, total}
+use Rattle.canon_model.specs.Memory.{cap}
 use Rattle.canon_plan.specs.Element.{IsMap, first_of, second_of}
 use Rattle.canon_context.specs.declared.fault.Fault.{Fault}
 use Rattle.canon_val.specs.declared.val.Val.{Val}

@@ -8,7 +8,7 @@ use Rattle.canon_model.specs.Layout.{tag_size}
 use Rattle.canon_model.specs.Shape.{Cases, Members, Name, Shape, VariantKind, bare, borrow, case_count, fixed, flags, list, member, member_count, no_cases, no_members, of_items, of_pairs, own, payload, product, scalar, string, variant}
 use Rattle.canon_model.specs.Tree.{Tree, Trees, items, no_trees, parts, tree, tree_count}
 use Rattle.canon_types.specs.Depth.{variant_cases}
-use Rattle.canon_types.specs.Table.{Table, shape_of}
+use Rattle.canon_types.specs.Table.{TypeTable, shape_of}
 use Rattle.canon_plan.specs.Plan.{IsSlot, LiesAs, members_from}
 use Rattle.canon_plan.specs.declared.plan.Slot.{Slot}
 use Rattle.canon_plan.proofs.Lookups.{copies_count, members_from-all}
@@ -72,7 +72,7 @@ pub begin_read : (bs : List ℕ) (from : ℕ) (ms : Members) → from ≤ length
 begin_read bs from ms h = record { inside = h; rest = λ z ws g. g; stops = λ e g. g }
 
 module _ (bs : List ℕ) (from : ℕ) (ms : Members) (at : ℕ) (vs : List Val) (i : ℕ) (h : AreRead bs from ms at vs i) where
-  module _ (t : Table) (m : Slot) (is : IsSlot t ms i m) where
+  module _ (t : TypeTable) (m : Slot) (is : IsSlot t ms i m) where
     abbrev s : Shape
     s = shape_of t m.ty
 

@@ -10,13 +10,14 @@ use Rattle.canon_model.specs.Shape.{Cases, Members, Name, Shape, VariantKind, ba
 use Rattle.canon_model.specs.Text.{utf8}
 use Rattle.canon_model.specs.Tree.{Trees, items, no_trees, parts, text, tree, tree_count}
 use Rattle.canon_abi.specs.Sizes.{tag_bytes}
-use Rattle.canon_types.specs.Table.{Table, shape_of}
+use Rattle.canon_types.specs.Table.{TypeTable, shape_of}
 use Rattle.canon_types.specs.declared.types.InterfaceType.{InterfaceType}
 use Rattle.canon_plan.specs.NoHandle.{HaveNoHandle, HasNoHandle}
 use Rattle.canon_value_parts.specs.Fails.{FailsAt, MemberFails}
-use Rattle.canon_val.specs.Value.{HaveTrees, IsCase, IsProduct, cap, member_names, no_names}
+use Rattle.canon_val.specs.Value.{HaveTrees, IsCase, IsProduct, member_names, no_names}
+use Rattle.canon_model.specs.Memory.{cap}
 use Rattle.canon_plan.specs.Plan.{LiesAs, members_from}
-use Rattle.canon_value_parts.specs.View.{IsMember, names_of, shapes_of, values_of}
+use Rattle.canon_value_parts.specs.View.{IsMember, viewed_names, viewed_shapes, viewed_values}
 use Rattle.canon_value_parts.specs.Viewed.{BlamesItself, HasMembers, IsCaseSeen}
 use Rattle.canon_value_parts.specs.Words.{IsWordOf}
 use Rattle.canon_context.specs.declared.fault.Fault.{Fault}
@@ -90,7 +91,7 @@ pub record AreWritten (a : List ℕ) (place : ℕ) (ms : Members) (names : List 
   pub rest : (z : List ℕ) (r : Result ℕ Fault) → PartsWriteTo now z place (members_from i ms) (drop i names) (drop i vs) next r → PartsWriteTo a z place ms names vs from r
 
 module _ (a : List ℕ) (place : ℕ) (ms : Members) (names : List Name) (vs : List Val) (from : ℕ) (now : List ℕ) (next i : ℕ) (h : AreWritten a place ms names vs from now next i) where
-  module _ (t : Table) (m : Member) (is : IsMember t ms names vs i m) where
+  module _ (t : TypeTable) (m : Member) (is : IsMember t ms names vs i m) where
     abbrev s : Shape
     s = shape_of t m.ty
 
@@ -231,7 +232,7 @@ case_written a b c place d n k cs names vs v (Ok to) lt few of named en eb h =
 pub short : (a b : List ℕ) (s : Shape) (v : Val) (place : ℕ) (e : Fault) → e ≡ fault.OutOfMemory → WritesTo a b s v place (Err e)
 short a b s v place e is = subst (λ x. WritesTo a b s v place (Err x)) (sym is) (record { written = tt; counted = tt; told = tt })
 
-pub scalar_written : (t : Table) (a b : List ℕ) (type : InterfaceType) (v : Val) (w n place next : ℕ) → n ≡ size false (shape_of t type) → IsWordOf type v w → b ≡ a ++ le_bytes n w → next ≡ cap (place + 1)
+pub scalar_written : (t : TypeTable) (a b : List ℕ) (type : InterfaceType) (v : Val) (w n place next : ℕ) → n ≡ size false (shape_of t type) → IsWordOf type v w → b ≡ a ++ le_bytes n w → next ≡ cap (place + 1)
     → WritesTo a b (shape_of t type) v place (Ok next)
 unfolding size
 scalar_written t a b type v w n place next en (k, u, e, has, is, least) eb counted =
@@ -274,19 +275,20 @@ member_no_handle no_members (suc i) name s rest e h = cc
 member_no_handle (member n u ms) zero name s rest e h = let same : u ≡ s = cc in subst HasNoHandle same (both _ _ h).0
 member_no_handle (member n u ms) (suc i) name s rest e h = member_no_handle ms i name s rest e (both _ _ h).1
 
-pub seen_no_handle : (t : Table) (s : Shape) (v : Val) (x : Case) → HasNoHandle s → IsCaseSeen t s v x → HaveNoHandle (shapes_of t x.payload)
+pub seen_no_handle : (t : TypeTable) (s : Shape) (v : Val) (x : Case) → HasNoHandle s → IsCaseSeen t s v x → HaveNoHandle (viewed_shapes t x.payload)
 seen_no_handle t s v x h seen = subst HaveNoHandle (sym seen.shapes) (case_no_handle seen.cases x.tag (subst HasNoHandle seen.shape h))
 
 -- ---- what a step of the walk left, said of what it was asked
 
-pub case_told : (t : Table) (a b c : List ℕ) (place n m first : ℕ) (s : Shape) (x : Case) (v : Val) (r : Result ℕ Fault) → IsCaseSeen t s v x → n ≡ tag_bytes x.info.size → m ≡ x.tag → b ≡ a ++ le_bytes n m → first ≡ cap (place + 1)
-    → PartsWriteTo b c place (shapes_of t x.payload) (names_of x.payload) (values_of x.payload) first r → WritesTo a c s v place r
+pub case_told : (t : TypeTable) (a b c : List ℕ) (place n m first : ℕ) (s : Shape) (x : Case) (v : Val) (r : Result ℕ Fault) → IsCaseSeen t s v x → n ≡ tag_bytes x.info.size → m ≡ x.tag → b ≡ a ++ le_bytes n m → first ≡ cap (place + 1)
+    → PartsWriteTo b c place (viewed_shapes t x.payload) (viewed_names x.payload) (viewed_values x.payload) first r → WritesTo a c s v place r
 case_told t a b c place n m first s x v r seen en em eb ef h =
     subst (λ (y : Shape). WritesTo a c y v place r) (sym seen.shape)
-    (case_written a b c place x.tag n seen.kind seen.cases (names_of x.payload) (values_of x.payload) v r seen.inside (omega (arith, seen.inside, seen.info.few)) seen.is (seen.names ∙ ap member_names seen.shapes) (en ∙ seen.info.size)
+    (case_written a b c place x.tag n seen.kind seen.cases (viewed_names x.payload) (viewed_values x.payload) v r seen.inside (omega (arith, seen.inside, seen.info.few)) seen.is (seen.names ∙ ap member_names seen.shapes)
+    (en ∙ seen.info.size)
     (eb ∙ ap (λ k. a ++ le_bytes n k) em)
-    (subst (λ (ms : Members). PartsWriteTo b c place ms (names_of x.payload) (values_of x.payload) (cap (place + 1)) r) seen.shapes
-    (subst (λ (f : ℕ). PartsWriteTo b c place (shapes_of t x.payload) (names_of x.payload) (values_of x.payload) f r) ef h)))
+    (subst (λ (ms : Members). PartsWriteTo b c place ms (viewed_names x.payload) (viewed_values x.payload) (cap (place + 1)) r) seen.shapes
+    (subst (λ (f : ℕ). PartsWriteTo b c place (viewed_shapes t x.payload) (viewed_names x.payload) (viewed_values x.payload) f r) ef h)))
 
 pub items_told : (a b c : List ℕ) (place n first : ℕ) (s : Shape) (xs : Vec Val Global) (ys : List Val) (r : Result ℕ Fault) → ys ≡ xs.items → n ≡ length xs.items → n < 2 ^ 64 → b ≡ a ++ le_bytes 8 n → first ≡ cap (place + 1)
     → PartsWriteTo b c place (copies (length ys) s) (no_names ys) ys first r → WritesTo a c (list of_items s) (val.List xs) place r

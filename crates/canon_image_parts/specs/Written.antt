@@ -6,14 +6,14 @@ use Rattle.canon_lowering.specs.Storing.{narrow}
 use Rattle.canon_memory.specs.Realloc.{block}
 use Rattle.canon_model.specs.Image.{EachImage, Image, MembersImage}
 use Rattle.canon_model.specs.Layout.{flags_size}
-use Rattle.canon_model.specs.Memory.{num}
+use Rattle.canon_model.specs.Memory.{cap, num}
 use Rattle.canon_model.specs.Shape.{Members, Name, Shape}
 use Rattle.canon_model.specs.Text.{utf8}
 use Rattle.canon_model.specs.Tree.{Tree, Trees}
 use Rattle.canon_plan.specs.NoHandle.{HasNoHandle}
 use Rattle.canon_value_parts.specs.Fails.{Blames, BlamesValue, FailsAt, Failure, MemberFails, PairFails, SomeFails}
 use Rattle.canon_value_parts.specs.Flags.{AreSet, SomeUnknown}
-use Rattle.canon_val.specs.Value.{EachHas, HasTree, HaveTrees, PairHas, all_places, cap, member_names, pair_places, places, total}
+use Rattle.canon_val.specs.Value.{EachHas, HasTree, HaveTrees, PairHas, all_places, member_names, pair_places, places, total}
 use Rattle.canon_context.specs.declared.fault.Fault.{Fault}
 use Rattle.canon_context.specs.declared.fault.Fault.TheVariants as fault
 use Rattle.canon_val.specs.declared.val.Val.{Val}

@@ -10,7 +10,7 @@ ghost use Rattle.canon_plan.specs.NoHandle.{HaveNoHandle, HasNoHandle};
 ghost use Rattle.canon_plan.specs.Element.{IsKnown, IsMap, list_shape};
 ghost use Rattle.canon_value_parts.specs.Elements.{element_in, list_value};
 ghost use Rattle.canon_value_parts.specs.Flags.{IsFlagsType, flag_names};
-ghost use Rattle.canon_value_parts.specs.View.{AreFew, HaveKnownTypes, names_of, shapes_of, values_of};
+ghost use Rattle.canon_value_parts.specs.View.{AreFew, HaveKnownTypes, viewed_names, viewed_shapes, viewed_values};
 ghost use Rattle.canon_value_parts.specs.Viewed.{IsCaseSeen};
 ghost use Rattle.canon_value_parts.specs.Words.{IsWordOf};
 ghost use Rattle.canon_val.specs.declared.val.Val.TheVariants as val;
@@ -85,9 +85,9 @@ fn write_parts(
     bytes: &mut Vec<u8>,
 ) -> Result<u64, Fault>
     requires known { HaveKnownTypes types.now members.now }
-    requires no_handle { HaveNoHandle (shapes_of types.now members.now) }
-    requires count { length (values_of members.now) ≡ member_count (shapes_of types.now members.now) }
-    ensures writes { PartsWriteTo bytes.old.items bytes.new.items place (shapes_of types.now members.now) (names_of members.now) (values_of members.now) first result }
+    requires no_handle { HaveNoHandle (viewed_shapes types.now members.now) }
+    requires count { length (viewed_values members.now) ≡ member_count (viewed_shapes types.now members.now) }
+    ensures writes { PartsWriteTo bytes.old.items bytes.new.items place (viewed_shapes types.now members.now) (viewed_names members.now) (viewed_values members.now) first result }
 {
     let mut next = first;
     for k in 0..count_of(members) {

@@ -1,7 +1,7 @@
 -- The line of a function, and the lines of those after it.
 use Rattle.std.proofs.Common.{◌≡◌, ◌<◌, ◌+◌, ◌++◌, ℕ, zero, suc, List, [], ◌∷◌, length, drop, Option, Some, refl, ap, sym, subst, ◌∙◌, arith, append_assoc}
 use Rattle.std.specs.Prelude.{IfSome, slice_get}
-use Rattle.canon_types.specs.Table.{Table}
+use Rattle.canon_types.specs.Table.{TypeTable}
 use Rattle.canon_types.specs.declared.types.TypeFunc.{TypeFunc}
 use Rattle.canon_layout.specs.Lines.{func_line, func_lines}
 
@@ -19,7 +19,7 @@ next (x ∷ xs) (suc i) lt =
     let e : suc (i + 1) ≡ suc i + 1 = omega arith in
     record { one = n.one; here = n.here; rest = n.rest ∙ ap (λ k. n.one ∷ drop k (x ∷ xs)) e }
 
-pub funcs_more : (t : Table) (i k : ℕ) (text text' whole : List ℕ) → k ≡ i → k < length t.funcs → IfSome (slice_get t.funcs k) (λ f. text' ≡ text ++ func_line t k f)
+pub funcs_more : (t : TypeTable) (i k : ℕ) (text text' whole : List ℕ) → k ≡ i → k < length t.funcs → IfSome (slice_get t.funcs k) (λ f. text' ≡ text ++ func_line t k f)
     → text ++ func_lines t i (drop i t.funcs) ≡ whole → text' ++ func_lines t (i + 1) (drop (i + 1) t.funcs) ≡ whole
 funcs_more t i k text text' whole same lt printed e =
     let n = next t.funcs i (omega arith) in

@@ -11,8 +11,8 @@ use Rattle.canon_json.proofs.Found.{by_map, by_test, onward_keeps}
 use Rattle.canon_model.specs.Layout.{size}
 use Rattle.canon_model.specs.Shape.{of_places, product}
 use Rattle.canon_types.specs.Depth.{depth, has_borrow}
-use Rattle.canon_types.specs.Refusal.{empty_table, entry_count, first_error, func_parts_refusal, func_refusal, is_full_for, or_else, refusal, resource_refusal, with_definition, with_func}
-use Rattle.canon_types.specs.Table.{Definition, EnumType, FixedListType, FlagsType, Knows, ListType, MapType, OptionType, RecordType, ResultType, Table, TupleType, VariantType, is_enum, is_fixed_list, is_flags, is_list, is_map, is_option, is_record, is_result, is_tuple, is_variant, knows, members_of}
+use Rattle.canon_types.specs.Refusal.{empty_type_table, first_error, func_parts_refusal, func_refusal, is_full_for, or_else, refusal, resource_refusal, type_entry_count, with_definition, with_func}
+use Rattle.canon_types.specs.Table.{Definition, EnumType, FixedListType, FlagsType, Knows, ListType, MapType, OptionType, RecordType, ResultType, TupleType, TypeTable, VariantType, is_enum, is_fixed_list, is_flags, is_list, is_map, is_option, is_record, is_result, is_tuple, is_variant, knows, members_of}
 use Rattle.canon_types.proofs.Adding.{has_new}
 use Rattle.canon_types.proofs.Growth.{has_more, knows-with}
 use Rattle.canon_types.specs.declared.error.TypeError.{TypeError}
@@ -34,7 +34,7 @@ not_refused (Some e) a b h = absurd (cc)
 
 -- ---- types
 
-knows_new : (t : Table) (d : Definition) → Knows (with_definition t d) (type_at (length t.definitions) d)
+knows_new : (t : TypeTable) (d : Definition) → Knows (with_definition t d) (type_at (length t.definitions) d)
 knows_new t (ListType x) = has_new is_list t (ListType x) (length t.definitions) refl refl
 knows_new t (MapType k v) = has_new is_map t (MapType k v) (length t.definitions) refl refl
 knows_new t (RecordType fs) = has_new is_record t (RecordType fs) (length t.definitions) refl refl
@@ -51,13 +51,13 @@ pub record Begun (l : Listed) : Type 0 where
   pub known : All (Knows l.table) l.types
   pub none : length l.table.funcs ≡ 0
 
-one_more : (t new : Table) (types : List InterfaceType) (type : InterfaceType) → ((x : InterfaceType) → Knows t x → Knows new x)
+one_more : (t new : TypeTable) (types : List InterfaceType) (type : InterfaceType) → ((x : InterfaceType) → Knows t x → Knows new x)
     → All (Knows t) types → Knows new type → All (Knows new) (types ++ type ∷ [])
 one_more t new types type keeps known is = All-push (Knows new) types type (λ k d lt. keeps _ (known k d lt)) is
 
 keeps_entry : (l m : Listed) (e : Entry) → Begun l → entry_added l e ≡ Some m → Begun m
 keeps_entry l m (defines d) begun e =
-    let new : Table = with_definition l.table d in
+    let new : TypeTable = with_definition l.table d in
     let type : InterfaceType = type_at (length l.table.definitions) d in
     let grew : grown new l.types type ≡ m = accepted_is (refusal l.table d) _ m e in
     subst Begun grew (record { known = one_more l.table new l.types type (λ x h. knows-with l.table d x h) begun.known (knows_new l.table d); none = begun.none })
@@ -67,7 +67,7 @@ keeps_entry l m (handle t) begun e = by_test (knows l.table t) (Some (grown l.ta
 keeps_types : (l m : Listed) (d : Data) → Begun l → add_entry l d ≡ Some m → Begun m
 keeps_types l m d begun e = option_and_then_some (entry_added l) (entry_by_member l.types d) m e (λ x s h. keeps_entry l m x begun h)
 
-pub types_begun : (t : Table) (ds : Items) (l : Listed) → length t.funcs ≡ 0 → types_over t ds ≡ Some l → Begun l
+pub types_begun : (t : TypeTable) (ds : Items) (l : Listed) → length t.funcs ≡ 0 → types_over t ds ≡ Some l → Begun l
 types_begun t ds l none e = onward_keeps Begun add_entry keeps_types (listed_so_far t []) l ds (record { known = All-nil (Knows t); none = none }) e
 
 -- ---- functions
@@ -87,16 +87,16 @@ last_test None false false false true p q r s h = absurd (cc)
 last_test None false false false false p q r s h = refl
 
 -- a function that was accepted found room
-room : (t : Table) (params results : List InterfaceType) → func_refusal t params results ≡ None → length t.funcs + 1 ≤ 1048576
+room : (t : TypeTable) (params results : List InterfaceType) → func_refusal t params results ≡ None → length t.funcs + 1 ≤ 1048576
 room t params results e =
     let ps = product of_places (members_of t params) in
     let rs = product of_places (members_of t results) in
     let free : is_full_for 3 t ≡ false =
     last_test (func_parts_refusal t params results) (nat_lt 100 (max (depth ps) (depth rs))) (nat_lt 4294967295 (max (size false ps) (size false rs))) (has_borrow rs) (is_full_for 3 t)
     error.TooDeep error.SizeTooLarge error.BorrowInResult error.TooManyTypes e in
-    omega (arith, ltb-false 1048576 (entry_count t + 3) free)
+    omega (arith, ltb-false 1048576 (type_entry_count t + 3) free)
 
-knows_more : (t new : Table) (more : List Definition) → new.definitions ≡ t.definitions ++ more → new.resources ≡ t.resources → (type : InterfaceType) → Knows t type → Knows new type
+knows_more : (t new : TypeTable) (more : List Definition) → new.definitions ≡ t.definitions ++ more → new.resources ≡ t.resources → (type : InterfaceType) → Knows t type → Knows new type
 knows_more t new more grown same (ty.List i) h = has_more is_list t new more i grown h
 knows_more t new more grown same (ty.Map i) h = has_more is_map t new more i grown h
 knows_more t new more grown same (ty.Record i) h = has_more is_record t new more i grown h
@@ -135,12 +135,12 @@ funcs_stand ds l fs begun e = onward_keeps (Stands l.types) (add_func l.types) (
 
 -- ---- all of it
 
-keeps_resources : (t u : Table) (d : Data) → length t.funcs ≡ 0 → add_resource t d ≡ Some u → length u.funcs ≡ 0
+keeps_resources : (t u : TypeTable) (d : Data) → length t.funcs ≡ 0 → add_resource t d ≡ Some u → length u.funcs ≡ 0
 keeps_resources t u d none e = option_and_then_some (with_resource t) (resource_table_of d) u e (λ r s h.
-    subst (λ (x : Table). length x.funcs ≡ 0) (accepted_is (resource_refusal t r) (record t { resources = t.resources ++ r ∷ [] }) u h) none)
+    subst (λ (x : TypeTable). length x.funcs ≡ 0) (accepted_is (resource_refusal t r) (record t { resources = t.resources ++ r ∷ [] }) u h) none)
 
-pub resources_begun : (ds : Items) (t : Table) → onward add_resource empty_table ds ≡ Some t → length t.funcs ≡ 0
-resources_begun ds t e = onward_keeps (λ x. length x.funcs ≡ 0) add_resource keeps_resources empty_table t ds refl e
+pub resources_begun : (ds : Items) (t : TypeTable) → onward add_resource empty_type_table ds ≡ Some t → length t.funcs ≡ 0
+resources_begun ds t e = onward_keeps (λ x. length x.funcs ≡ 0) add_resource keeps_resources empty_type_table t ds refl e
 
 -- what is known of a listing
 pub record IsKnown (l : Listed) : Type 0 where
@@ -149,7 +149,7 @@ pub record IsKnown (l : Listed) : Type 0 where
 
 pub listing_known : (resources types funcs : Items) (l : Listed) → listing_over resources types funcs ≡ Some l → IsKnown l
 listing_known resources types funcs l e =
-    option_and_then_some (λ t. option_and_then (with_funcs funcs) (types_over t types)) (onward add_resource empty_table resources) l e (λ t s more.
+    option_and_then_some (λ t. option_and_then (with_funcs funcs) (types_over t types)) (onward add_resource empty_type_table resources) l e (λ t s more.
     option_and_then_some (with_funcs funcs) (types_over t types) l more (λ m made last.
     by_map (λ fs. listed_so_far fs.table m.types) (funcs_over funcs m) l last (λ fs over is.
     let none = resources_begun resources t s in
@@ -163,4 +163,4 @@ layout_known d l e = by_test (has_len (layout_members d) (as_object d)) _ l e (�
     option_and_then_some _ (items_of (get (codes "funcs") d)) l e2 (λ funcs s3 e3. listing_known resources types funcs l e3))))
 
 pub types_known : (d : Data) (l : Listed) → types_listed d ≡ Some l → Begun l
-types_known d l e = option_and_then_some (types_over empty_table) (as_array d) l e (λ ds s h. types_begun empty_table ds l refl h)
+types_known d l e = option_and_then_some (types_over empty_type_table) (as_array d) l e (λ ds s h. types_begun empty_type_table ds l refl h)

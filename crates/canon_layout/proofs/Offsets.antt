@@ -12,7 +12,7 @@ use Rattle.canon_types.proofs.Laid.{told_below}
 use Rattle.canon_types.specs.Keeps.{fields_type}
 use Rattle.canon_types.specs.declared.types.InterfaceType.{InterfaceType}
 use Rattle.canon_types.specs.declared.types.RecordField.{RecordField}
-use Rattle.canon_types.specs.Table.{Knows, Table, fields_in, members_in, parts, shape_in}
+use Rattle.canon_types.specs.Table.{Knows, TypeTable, fields_in, members_in, parts, shape_in}
 use Rattle.canon_layout.specs.Lines.{offsets_text}
 
 pub drop_next : {A : Type 0} → (xs : List A) (i : ℕ) (x : A) → i < length xs → x ≡ slice_index_or xs i x → drop i xs ≡ x ∷ drop (i + 1) xs
@@ -59,10 +59,10 @@ pub row_fits : (abi : CanonicalAbiInfo) (s : Shape) (k : ProductKind) (ms : Memb
 row_fits abi s k ms layout e = omega (arith, told_below abi s layout, ap (size false) e, members_end-le-size false k ms)
 
 -- what holds of the types of the fields holds of each field's
-known_at : (t : Table) (fields : List RecordField) (i : ℕ) (d : RecordField) → All (Knows t) (parts (fields_type fields)) → i < length fields → Knows t (slice_index_or fields i d).ty
+known_at : (t : TypeTable) (fields : List RecordField) (i : ℕ) (d : RecordField) → All (Knows t) (parts (fields_type fields)) → i < length fields → Knows t (slice_index_or fields i d).ty
 known_at t [] i d known lt = absurd (omega arith)
 known_at t (f ∷ fs) zero d known lt = known 0 f.ty (omega arith)
 known_at t (f ∷ fs) (suc i) d known lt = known_at t fs i d (All-tail (Knows t) f.ty (parts (fields_type fs)) known) (omega arith)
 
-pub field_known : (t : Table) (fields : List RecordField) (i : ℕ) (x : RecordField) → All (Knows t) (parts (fields_type fields)) → i < length fields → x ≡ slice_index_or fields i x → Knows t x.ty
+pub field_known : (t : TypeTable) (fields : List RecordField) (i : ℕ) (x : RecordField) → All (Knows t) (parts (fields_type fields)) → i < length fields → x ≡ slice_index_or fields i x → Knows t x.ty
 field_known t fields i x known lt is = subst (λ (f : RecordField). Knows t f.ty) (sym is) (known_at t fields i x known lt)

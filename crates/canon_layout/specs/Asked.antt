@@ -3,8 +3,8 @@ use Rattle.std.specs.Prelude.{ℕ, ◌+◌, List, [], ◌∷◌, ◌++◌, lengt
 use Rattle.serde_json.specs.Data.{Data, Items}
 use Rattle.serde_json.specs.Find.{get, as_array, as_object}
 use Rattle.canon_json.specs.Json.{has_len, items_of, onward, there}
-use Rattle.canon_types.specs.Refusal.{empty_table, func_refusal, refusal, resource_refusal, with_definition, with_func}
-use Rattle.canon_types.specs.Table.{Definition, EnumType, FixedListType, FlagsType, ListType, MapType, OptionType, RecordType, ResultType, Table, TupleType, VariantType, knows}
+use Rattle.canon_types.specs.Refusal.{empty_type_table, func_refusal, refusal, resource_refusal, with_definition, with_func}
+use Rattle.canon_types.specs.Table.{Definition, EnumType, FixedListType, FlagsType, ListType, MapType, OptionType, RecordType, ResultType, TupleType, TypeTable, VariantType, knows}
 use Rattle.canon_types.specs.declared.error.TypeError.{TypeError}
 use Rattle.canon_types.specs.declared.types.InterfaceType.{InterfaceType}
 use Rattle.canon_types.specs.declared.types.InterfaceType.TheVariants as ty
@@ -13,14 +13,14 @@ use Rattle.canon_layout.specs.Entries.{Entry, FuncParts, defines, entry_by_membe
 
 -- a table, and the type of each entry
 pub record Listed : Type 0 where
-  pub table : Table
+  pub table : TypeTable
   pub types : List InterfaceType
 
-abbrev pub listed_so_far : Table → List InterfaceType → Listed
+abbrev pub listed_so_far : TypeTable → List InterfaceType → Listed
 listed_so_far t types = record { table = t; types = types }
 
 -- with one type more
-abbrev pub grown : Table → List InterfaceType → InterfaceType → Listed
+abbrev pub grown : TypeTable → List InterfaceType → InterfaceType → Listed
 grown t types type = listed_so_far t (types ++ type ∷ [])
 
 -- the type that a definition of this number defines
@@ -48,18 +48,18 @@ entry_added l (handle t) = if knows l.table t then Some (grown l.table l.types t
 abbrev pub add_entry : Listed → Data → Option Listed
 add_entry l d = option_and_then (entry_added l) (entry_by_member l.types d)
 
-abbrev pub with_resource : Table → TypeResourceTable → Option Table
+abbrev pub with_resource : TypeTable → TypeResourceTable → Option TypeTable
 with_resource t r = unless (resource_refusal t r) (record t { resources = t.resources ++ r ∷ [] })
 
-abbrev pub add_resource : Table → Data → Option Table
+abbrev pub add_resource : TypeTable → Data → Option TypeTable
 add_resource t d = option_and_then (with_resource t) (resource_table_of d)
 
 -- a table, and for each of its functions whether it has a post-return function
 pub record Funcs : Type 0 where
-  pub table : Table
+  pub table : TypeTable
   pub posts : List Bool
 
-abbrev pub funcs_so_far : Table → List Bool → Funcs
+abbrev pub funcs_so_far : TypeTable → List Bool → Funcs
 funcs_so_far t posts = record { table = t; posts = posts }
 
 abbrev pub with_parts : Funcs → FuncParts → Option Funcs
@@ -71,12 +71,12 @@ abbrev pub add_func : List InterfaceType → Funcs → Data → Option Funcs
 add_func types fs d = option_and_then (with_parts fs) (func_of types d)
 
 -- the types of an array, over these resources
-abbrev pub types_over : Table → Items → Option Listed
+abbrev pub types_over : TypeTable → Items → Option Listed
 types_over t entries = onward add_entry (listed_so_far t []) entries
 
 -- the types of an array, without resources
 abbrev pub types_listed : Data → Option Listed
-types_listed d = option_and_then (types_over empty_table) (as_array d)
+types_listed d = option_and_then (types_over empty_type_table) (as_array d)
 
 -- the functions of an array, over these types
 abbrev pub funcs_over : Items → Listed → Option Funcs
@@ -87,7 +87,7 @@ with_funcs funcs l = option_map (λ fs. listed_so_far fs.table l.types) (funcs_o
 
 -- resources come first, then types, then functions
 abbrev pub listing_over : Items → Items → Items → Option Listed
-listing_over resources types funcs = option_and_then (λ t. option_and_then (with_funcs funcs) (types_over t types)) (onward add_resource empty_table resources)
+listing_over resources types funcs = option_and_then (λ t. option_and_then (with_funcs funcs) (types_over t types)) (onward add_resource empty_type_table resources)
 
 abbrev pub layout_members : Data → ℕ
 layout_members d = there (get (codes "resources") d) + (there (get (codes "types") d) + there (get (codes "funcs") d))

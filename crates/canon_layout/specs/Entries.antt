@@ -41,19 +41,19 @@ optional_type_of before d = option_map (λ t. Some t) (reference_of before d)
 abbrev pub both : {A B : Type 0} → (Data → Option A) → (Data → Option B) → Data × Data → Option (A × B)
 both first second p = option_and_then (λ a. option_map (λ b. (a, b)) (second p.1)) (first p.0)
 
-abbrev pub pair_of : {A B : Type 0} → (Data → Option A) → (Data → Option B) → Data → Option (A × B)
-pair_of first second d = option_and_then (both first second) (two d)
+abbrev pub array_of_two : {A B : Type 0} → (Data → Option A) → (Data → Option B) → Data → Option (A × B)
+array_of_two first second d = option_and_then (both first second) (two d)
 
 -- a name and a type
-abbrev pub field_of : List InterfaceType → Data → Option (Name × InterfaceType)
-field_of before = pair_of as_str (reference_of before)
+abbrev pub name_and_type : List InterfaceType → Data → Option (Name × InterfaceType)
+name_and_type before = array_of_two as_str (reference_of before)
 
 abbrev pub bare_case : Data → Option (Name × Option InterfaceType)
 bare_case name = option_map (λ n. (n, None)) (as_str name)
 
 -- a name alone, or with a type
 abbrev pub case_of : List InterfaceType → Data → Option (Name × Option InterfaceType)
-case_of before d = option_map_or bare_case (only d) (option_map (λ f. (f.0, Some f.1)) (field_of before d))
+case_of before d = option_map_or bare_case (only d) (option_map (λ f. (f.0, Some f.1)) (name_and_type before d))
 
 -- ---- entries
 
@@ -66,14 +66,14 @@ pub data Entry : Type 0 where
 abbrev pub entry_by : Kind → List InterfaceType → Data → Option Entry
 entry_by kind.List before d = option_map (λ t. defines (ListType t)) (reference_of before d)
 entry_by kind.Option before d = option_map (λ t. defines (OptionType t)) (reference_of before d)
-entry_by kind.Map before d = option_map (λ p. defines (MapType p.0 p.1)) (pair_of (reference_of before) (reference_of before) d)
-entry_by kind.Record before d = option_map (λ fields. defines (RecordType fields)) (each_of (field_of before) d)
+entry_by kind.Map before d = option_map (λ p. defines (MapType p.0 p.1)) (array_of_two (reference_of before) (reference_of before) d)
+entry_by kind.Record before d = option_map (λ fields. defines (RecordType fields)) (each_of (name_and_type before) d)
 entry_by kind.Tuple before d = option_map (λ ts. defines (TupleType ts)) (each_of (reference_of before) d)
 entry_by kind.Variant before d = option_map (λ cases. defines (VariantType cases)) (each_of (case_of before) d)
 entry_by kind.Enum before d = option_map (λ names. defines (EnumType names)) (each_of as_str d)
 entry_by kind.Flags before d = option_map (λ names. defines (FlagsType names)) (each_of as_str d)
-entry_by kind.Result before d = option_map (λ p. defines (ResultType p.0 p.1)) (pair_of (optional_type_of before) (optional_type_of before) d)
-entry_by kind.Fixed before d = option_map (λ p. defines (FixedListType p.0 p.1)) (pair_of (reference_of before) u32_of d)
+entry_by kind.Result before d = option_map (λ p. defines (ResultType p.0 p.1)) (array_of_two (optional_type_of before) (optional_type_of before) d)
+entry_by kind.Fixed before d = option_map (λ p. defines (FixedListType p.0 p.1)) (array_of_two (reference_of before) u32_of d)
 entry_by kind.Own before d = option_map (λ r. handle (ty.Own r)) (u32_of d)
 entry_by kind.Borrow before d = option_map (λ r. handle (ty.Borrow r)) (u32_of d)
 

@@ -4,7 +4,7 @@ use Rattle.std.specs.Fmt.{decimal}
 use Rattle.canon_model.specs.Flat.{max_params, max_results}
 use Rattle.canon_model.specs.Layout.{align, begins, ends, flat, payload_offset, size, tag_size}
 use Rattle.canon_model.specs.Shape.{Cases, Members, Shape, borrow, case_count, fixed, flags, list, member, no_members, own, product, scalar, string, variant}
-use Rattle.canon_types.specs.Table.{Table, shape_of}
+use Rattle.canon_types.specs.Table.{TypeTable, shape_of}
 use Rattle.canon_types.specs.declared.types.InterfaceType.{InterfaceType}
 use Rattle.canon_types.specs.declared.types.InterfaceType.TheVariants as ty
 use Rattle.canon_types.specs.declared.types.TypeFunc.{TypeFunc}
@@ -39,10 +39,10 @@ parts_text (fixed n s) = []
 parts_text (flags names) = []
 
 -- the line of a type, the entry of number i
-abbrev pub type_line : Table → ℕ → InterfaceType → List ℕ
+abbrev pub type_line : TypeTable → ℕ → InterfaceType → List ℕ
 type_line t i type = codes "type " ++ decimal i ++ 32 ∷ type_word type ++ numbers_text (shape_of t type) ++ parts_text (shape_of t type) ++ codes "\n"
 
-abbrev pub type_lines : Table → ℕ → List InterfaceType → List ℕ
+abbrev pub type_lines : TypeTable → ℕ → List InterfaceType → List ℕ
 type_lines t i [] = []
 type_lines t i (type ∷ types) = type_line t i type ++ type_lines t (i + 1) types
 
@@ -53,12 +53,12 @@ passed_text most s =
     else codes "memory " ++ decimal (size false s) ++ 32 ∷ decimal (align false s)
 
 -- the line of function i
-abbrev pub func_line : Table → ℕ → TypeFunc → List ℕ
+abbrev pub func_line : TypeTable → ℕ → TypeFunc → List ℕ
 func_line t i f =
     codes "func " ++ decimal i ++ codes " params " ++ passed_text max_params (shape_of t (ty.Tuple f.params))
     ++ codes " results " ++ passed_text max_results (shape_of t (ty.Tuple f.results)) ++ codes "\n"
 
-abbrev pub func_lines : Table → ℕ → List TypeFunc → List ℕ
+abbrev pub func_lines : TypeTable → ℕ → List TypeFunc → List ℕ
 func_lines t i [] = []
 func_lines t i (f ∷ fs) = func_line t i f ++ func_lines t (i + 1) fs
 

@@ -55,7 +55,7 @@ pub(crate) fn type_pair_of(
     v: &Value,
     before: &[InterfaceType],
 ) -> Option<(InterfaceType, InterfaceType)>
-    ensures { result ≡ spec.pair_of (spec.reference_of before.now) (spec.reference_of before.now) (view v.now) }
+    ensures { result ≡ spec.array_of_two (spec.reference_of before.now) (spec.reference_of before.now) (view v.now) }
 {
     let (first, second) = two(v)?;
     Some((reference_of(first, before)?, reference_of(second, before)?))
@@ -66,7 +66,7 @@ pub(crate) fn payload_pair_of(
     v: &Value,
     before: &[InterfaceType],
 ) -> Option<(Option<InterfaceType>, Option<InterfaceType>)>
-    ensures { result ≡ spec.pair_of (spec.optional_type_of before.now) (spec.optional_type_of before.now) (view v.now) }
+    ensures { result ≡ spec.array_of_two (spec.optional_type_of before.now) (spec.optional_type_of before.now) (view v.now) }
 {
     let (first, second) = two(v)?;
     Some((
@@ -77,7 +77,7 @@ pub(crate) fn payload_pair_of(
 
 /// A type and a number below 2^32.
 pub(crate) fn counted_type_of(v: &Value, before: &[InterfaceType]) -> Option<(InterfaceType, u32)>
-    ensures { result ≡ spec.pair_of (spec.reference_of before.now) u32_of (view v.now) }
+    ensures { result ≡ spec.array_of_two (spec.reference_of before.now) u32_of (view v.now) }
 {
     let (first, second) = two(v)?;
     Some((reference_of(first, before)?, u32_of(second)?))
@@ -137,7 +137,7 @@ impl Reader for Fields<'_> {
 
     ghost seen = { λ f. (string_bytes f.name, f.ty) };
 
-    ghost reads = { λ r. spec.field_of r.before.now };
+    ghost reads = { λ r. spec.name_and_type r.before.now };
 
     fn read(&self, alloc: Global, v: &Value) -> Result<RecordField, ScriptError> {
         let Some((name, ty)) = two(v) else {

@@ -3,15 +3,15 @@ use Rattle.std.proofs.Common.{Err, List, None, Ok, Option, Result, Some, [], ap,
 use Rattle.canon_ledger.specs.declared.fault.ResourceFault.{ResourceFault}
 use Rattle.canon_ledger.specs.Ledger.{LedgerState}
 use Rattle.canon_leaves.specs.Laws.{LeavesAreDetermined, LeavesCompose, StopsCompose, StopsExclude, StopsStay}
-use Rattle.canon_leaves.specs.Parts.{LeafTakes, LeavesStop, LeavesTake, Part, Stops, Takes, do_part, last_of}
+use Rattle.canon_leaves.specs.Parts.{LeafTakes, LeavesStop, LeavesTake, Part, Stops, TakesParts, do_part, last_of}
 
 -- ---- parts
 
-pub takes_then : (last : ℕ) (l m n : LedgerState) (ps qs : List Part) (xs ys : List ℕ) → Takes last l ps xs m → ((k : ℕ) → Takes k m qs ys n) → Takes last l (ps ++ qs) (xs ++ ys) n
-takes_then last l m n [] qs xs ys h k = subst (λ zs. Takes last l qs (zs ++ ys) n) (sym h.0) (subst (λ x. Takes last x qs ys n) h.1 (k last))
+pub takes_then : (last : ℕ) (l m n : LedgerState) (ps qs : List Part) (xs ys : List ℕ) → TakesParts last l ps xs m → ((k : ℕ) → TakesParts k m qs ys n) → TakesParts last l (ps ++ qs) (xs ++ ys) n
+takes_then last l m n [] qs xs ys h k = subst (λ zs. TakesParts last l qs (zs ++ ys) n) (sym h.0) (subst (λ x. TakesParts last x qs ys n) h.1 (k last))
 takes_then last l m n (p ∷ ps) qs xs ys (a, rest, is, ok, more) k = (a, rest ++ ys, ap (λ zs. zs ++ ys) is, ok, takes_then a _ m n ps qs rest ys more k)
 
-pub stops_then : (why : Option ResourceFault) (last : ℕ) (l m n : LedgerState) (ps qs : List Part) (xs : List ℕ) → Takes last l ps xs m → ((k : ℕ) → Stops why k m qs n) → Stops why last l (ps ++ qs) n
+pub stops_then : (why : Option ResourceFault) (last : ℕ) (l m n : LedgerState) (ps qs : List Part) (xs : List ℕ) → TakesParts last l ps xs m → ((k : ℕ) → Stops why k m qs n) → Stops why last l (ps ++ qs) n
 stops_then why last l m n [] qs xs h k = subst (λ x. Stops why last x qs n) h.1 (k last)
 stops_then None last l m n (p ∷ ps) qs xs (a, rest, is, ok, more) k = inr (inr (a, ok, stops_then None a _ m n ps qs rest more k))
 stops_then (Some e) last l m n (p ∷ ps) qs xs (a, rest, is, ok, more) k = inr (inr (a, ok, stops_then (Some e) a _ m n ps qs rest more k))
@@ -19,11 +19,11 @@ stops_then (Some e) last l m n (p ∷ ps) qs xs (a, rest, is, ok, more) k = inr 
 same_ok : (r : Result ℕ ResourceFault) (a b : ℕ) → r ≡ Ok a → r ≡ Ok b → a ≡ b
 same_ok r a b e f = cc
 
-takes_along : (last k : ℕ) (l n : LedgerState) (ps : List Part) (ys : List ℕ) → last ≡ k → Takes k l ps ys n → Takes last l ps ys n
-takes_along last k l n ps ys e h = subst (λ x. Takes x l ps ys n) (sym e) h
+takes_along : (last k : ℕ) (l n : LedgerState) (ps : List Part) (ys : List ℕ) → last ≡ k → TakesParts k l ps ys n → TakesParts last l ps ys n
+takes_along last k l n ps ys e h = subst (λ x. TakesParts x l ps ys n) (sym e) h
 
 -- what is answered and left is one
-pub takes_same : (last : ℕ) (l m n : LedgerState) (ps : List Part) (xs ys : List ℕ) → Takes last l ps xs m → Takes last l ps ys n → (xs ≡ ys) × (m ≡ n)
+pub takes_same : (last : ℕ) (l m n : LedgerState) (ps : List Part) (xs ys : List ℕ) → TakesParts last l ps xs m → TakesParts last l ps ys n → (xs ≡ ys) × (m ≡ n)
 takes_same last l m n [] xs ys h k = (h.0 ∙ sym k.0, h.1 ∙ sym k.1)
 takes_same last l m n (p ∷ ps) xs ys (a, as2, is, ok, more) (b, bs, is2, ok2, more2) =
     let e : a ≡ b = same_ok _ a b ok ok2 in
@@ -37,7 +37,7 @@ ok_refused r a e h g = cc
 some_none : (e : ResourceFault) → Some e ≡ None → ⊥
 some_none e h = cc
 
-stops_excluded : (e : ResourceFault) (last : ℕ) (l n m : LedgerState) (ps : List Part) (xs : List ℕ) → Stops (Some e) last l ps n → Takes last l ps xs m → ⊥
+stops_excluded : (e : ResourceFault) (last : ℕ) (l n m : LedgerState) (ps : List Part) (xs : List ℕ) → Stops (Some e) last l ps n → TakesParts last l ps xs m → ⊥
 stops_excluded e last l n m [] xs h takes = h
 stops_excluded e last l n m (p ∷ ps) xs (inl h) takes = some_none e h.0
 stops_excluded e last l n m (p ∷ ps) xs (inr (inl (d, why, is, left))) (a, rest, are, ok, more) = ok_refused (do_part last p l).answer a d ok is

@@ -4,7 +4,7 @@ use Rattle.canon_ledger.specs.declared.fault.ResourceFault.{ResourceFault}
 use Rattle.canon_ledger.specs.Ledger.{Done, LedgerState, LedgerStep, Partway, Through, do_step}
 use Rattle.canon_ledger.proofs.LedgerLemmas.{compose, compose_parts}
 use Rattle.canon_leaves.specs.Laws.{LeavesAreSteps, StopsArePartway}
-use Rattle.canon_leaves.specs.Parts.{LeafTakes, LeavesStop, LeavesTake, Part, Stops, Takes, borrow_in, do_part, host_borrow, host_own, lend, lend_host, lend_inserted, own_in, refuse, take, take_host, tell}
+use Rattle.canon_leaves.specs.Parts.{LeafTakes, LeavesStop, LeavesTake, Part, Stops, TakesParts, borrow_in, do_part, host_borrow, host_own, lend, lend_host, lend_inserted, own_in, refuse, take, take_host, tell}
 use Rattle.canon_leaves.specs.Steps.{after_parts, if_told, leaves_steps, step_of, steps_of}
 
 -- ---- one part
@@ -58,12 +58,12 @@ steps_told : (last a : ℕ) (l : LedgerState) (p : Part) (ps : List Part) → (d
 steps_told last a l p ps ok = ap (λ (xs : List LedgerStep). step_of last p l ++ xs) (told _ a (λ (b : ℕ). steps_of b (do_part last p l).after ps) [] ok)
 
 -- what was taken is one run through the ledger's steps
-pub takes_through : (last : ℕ) (l n : LedgerState) (ps : List Part) (answers : List ℕ) → Takes last l ps answers n → Through l (steps_of last l ps) n
+pub takes_through : (last : ℕ) (l n : LedgerState) (ps : List Part) (answers : List ℕ) → TakesParts last l ps answers n → Through l (steps_of last l ps) n
 takes_through last l n [] answers h = h.1
 takes_through last l n (p ∷ ps) answers (a, rest, is, ok, more) =
     subst (λ (xs : List LedgerStep). Through l xs n) (sym (steps_told last a l p ps ok)) (accepted last p l n _ a (is_step last p l) ok (takes_through a _ n ps rest more))
 
-pub takes_after : (last : ℕ) (l n : LedgerState) (ps : List Part) (answers : List ℕ) → Takes last l ps answers n → n ≡ after_parts last l ps
+pub takes_after : (last : ℕ) (l n : LedgerState) (ps : List Part) (answers : List ℕ) → TakesParts last l ps answers n → n ≡ after_parts last l ps
 takes_after last l n [] answers h = h.1
 takes_after last l n (p ∷ ps) answers (a, rest, is, ok, more) =
     takes_after a _ n ps rest more ∙ sym (told _ a (λ (b : ℕ). after_parts b (do_part last p l).after ps) (do_part last p l).after ok)

@@ -59,9 +59,9 @@ do_part last (tell n) l = record { answer = Ok n; after = l }
 -- Lists of parts
 
 -- every part is accepted and answers so, and the last leaves l2
-abbrev pub Takes : ℕ → LedgerState → List Part → List ℕ → LedgerState → Type 0
-Takes last l [] answers l2 = (answers ≡ []) × (l2 ≡ l)
-Takes last l (p ∷ ps) answers l2 = (a : ℕ) × (rest : List ℕ) × (answers ≡ a ∷ rest) × ((do_part last p l).answer ≡ Ok a) × Takes a (do_part last p l).after ps rest l2
+abbrev pub TakesParts : ℕ → LedgerState → List Part → List ℕ → LedgerState → Type 0
+TakesParts last l [] answers l2 = (answers ≡ []) × (l2 ≡ l)
+TakesParts last l (p ∷ ps) answers l2 = (a : ℕ) × (rest : List ℕ) × (answers ≡ a ∷ rest) × ((do_part last p l).answer ≡ Ok a) × TakesParts a (do_part last p l).after ps rest l2
 
 -- a refusal, except out of memory, which stops where it comes
 abbrev pub refusal_of : ResourceFault → Option ResourceFault
@@ -87,7 +87,7 @@ last_of n (a ∷ answers) = last_of a answers
 -- the parts of one read no answer from before it
 pub record LeafTakes (l : LedgerState) (parts : List Part) (h : ℕ) (l2 : LedgerState) : Type 0 where
   pub answers : List ℕ
-  pub takes : (last : ℕ) → Takes last l parts answers l2
+  pub takes : (last : ℕ) → TakesParts last l parts answers l2
   pub handle : (last : ℕ) → last_of last answers ≡ h
 
 abbrev pub LeavesTake : LedgerState → List (List Part) → List ℕ → LedgerState → Type 0
@@ -128,12 +128,12 @@ is_defined_here i ty = option_map_or (λ (r : TypeResourceTable). r.defined_here
 -- Lowering
 
 -- a resource that is passed where a handle of this resource type is wanted
-pub record Passed : Type 0 where
+pub record PassedResource : Type 0 where
   pub owned : Bool
   pub resource : ℕ
   pub any : Any
 
-abbrev pub passed : Bool → ℕ → Any → Passed
+abbrev pub passed : Bool → ℕ → Any → PassedResource
 passed owned ty a = record { owned = owned; resource = ty; any = a }
 
 -- an own handle is taken out of the host's table and put into the instance's; a borrow that the host made is none
@@ -158,7 +158,7 @@ passed_parts true i ty h = own_parts (table_for i ty) ty h
 passed_parts false i ty h = borrow_parts (is_defined_here i ty) (table_for i ty) ty h
 
 -- the type is tested first
-abbrev pub lower_parts : Instance → Passed → List Part
+abbrev pub lower_parts : Instance → PassedResource → List Part
 lower_parts i p = if is_of_type (resource_type_at i p.resource) p.any.ty then passed_parts p.owned i p.resource p.any.handle else refuse fault.ResourceTypeMismatch ∷ []
 
 -- Lifting

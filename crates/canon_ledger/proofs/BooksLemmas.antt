@@ -8,7 +8,7 @@ use Rattle.canon_handles.specs.declared.error.HandleError.{HandleError}
 use Rattle.canon_ledger.specs.declared.fault.ResourceFault.{ResourceFault}
 use Rattle.canon_handles.specs.Table.{Table, Counter, TableState, Outcome, empty_table, Does, DoesWithMemory}
 use Rattle.canon_handles.specs.Calls.{held_count, lends_of}
-use Rattle.canon_ledger.specs.Handles.{Handles, IsConsistent, Takes, TakesSurely, table_at, with_table, on_table, finished, at_index, fault_at, total, stands}
+use Rattle.canon_ledger.specs.Handles.{Handles, IsConsistent, Takes, TakesSurely, table_at, with_table, on_table, finished, at_index, fault_at, sum_over_tables, stands}
 use Rattle.canon_ledger.specs.Books.{Context, handles_of}
 use Rattle.canon_ledger.proofs.HandlesLemmas.{same_table}
 
@@ -31,7 +31,7 @@ module _ (tables : List (TableState Entry)) (counter : Counter) (scopes : List C
   abbrev before : Handles
   before = handles_of tables counter scopes
 
-  pub counted : total stands (handles_of tables counter scopes) + total lends_of (handles_of tables counter scopes) ≤ counter.live → held_count s.table ≤ counter.live
+  pub counted : sum_over_tables stands (handles_of tables counter scopes) + sum_over_tables lends_of (handles_of tables counter scopes) ≤ counter.live → held_count s.table ≤ counter.live
   counted c =
       let a = term_le (λ (s : TableState Entry). sum_by stands s.table.array) tables n s within read in
       let b = sum_by-tables (λ (t : Table Entry). sum_by stands t.array) tables in

@@ -10,38 +10,38 @@ use Rattle.canon_handles.proofs.StepLemmas.{put_within, put_end}
 use Rattle.canon_ledger.specs.declared.host.TableSlot.{TableSlot}
 use Rattle.canon_ledger.specs.Handles.{Lender}
 use Rattle.canon_ledger.specs.Ledger.{HostIndexes, slot_at, with_slot}
-use Rattle.canon_ledger.specs.Books.{paired, indexes_of}
+use Rattle.canon_ledger.specs.Books.{lenders_from, indexes_of}
 
-pub length_paired : (ps : List ℕ) (is : List TypedResourceIndex) → length ps ≡ length is → length (paired ps is) ≡ length is
+pub length_paired : (ps : List ℕ) (is : List TypedResourceIndex) → length ps ≡ length is → length (lenders_from ps is) ≡ length is
 length_paired [] [] e = refl
 length_paired [] (i ∷ is) e = absurd (omega arith)
 length_paired (p ∷ ps) [] e = absurd (omega arith)
 length_paired (p ∷ ps) (i ∷ is) e = let k = length_paired ps is (omega arith) in omega arith
 
-pub length_paired_tables : (ps : List ℕ) (is : List TypedResourceIndex) → length ps ≡ length is → length (paired ps is) ≡ length ps
+pub length_paired_tables : (ps : List ℕ) (is : List TypedResourceIndex) → length ps ≡ length is → length (lenders_from ps is) ≡ length ps
 length_paired_tables ps is e = let k = length_paired ps is e in omega arith
 
-pub indexes_paired : (ps : List ℕ) (is : List TypedResourceIndex) → length ps ≡ length is → is ≡ map (λ (l : Lender). l.index) (paired ps is)
+pub indexes_paired : (ps : List ℕ) (is : List TypedResourceIndex) → length ps ≡ length is → is ≡ map (λ (l : Lender). l.index) (lenders_from ps is)
 indexes_paired [] [] e = refl
 indexes_paired [] (i ∷ is) e = absurd (omega arith)
 indexes_paired (p ∷ ps) [] e = absurd (omega arith)
 indexes_paired (p ∷ ps) (i ∷ is) e = ap (λ l. i ∷ l) (indexes_paired ps is (omega arith))
 
 pub paired_append : (ps : List ℕ) (is : List TypedResourceIndex) (p : ℕ) (i : TypedResourceIndex) → length ps ≡ length is
-    → paired (ps ++ p ∷ []) (is ++ i ∷ []) ≡ paired ps is ++ record { table = p; index = i } ∷ []
+    → lenders_from (ps ++ p ∷ []) (is ++ i ∷ []) ≡ lenders_from ps is ++ record { table = p; index = i } ∷ []
 paired_append [] [] p i e = refl
 paired_append [] (j ∷ is) p i e = absurd (omega arith)
 paired_append (q ∷ ps) [] p i e = absurd (omega arith)
 paired_append (q ∷ ps) (j ∷ is) p i e = ap (λ l. record { table = q; index = j } ∷ l) (paired_append ps is p i (omega arith))
 
 get_paired : (ps : List ℕ) (is : List TypedResourceIndex) (k p : ℕ) (i : TypedResourceIndex) → length ps ≡ length is → k < length ps → p ≡ slice_index_or ps k p → i ≡ slice_index_or is k i
-    → slice_get (paired ps is) k ≡ Some (record { table = p; index = i })
+    → slice_get (lenders_from ps is) k ≡ Some (record { table = p; index = i })
 get_paired [] is k p i e h a b = absurd (omega arith)
 get_paired (q ∷ ps) [] k p i e h a b = absurd (omega arith)
 get_paired (q ∷ ps) (j ∷ is) zero p i e h a b = λ t. Some (record { table = sym a t; index = sym b t })
 get_paired (q ∷ ps) (j ∷ is) (suc k) p i e h a b = get_paired ps is k p i (omega arith) (omega arith) a b
 
-pub lender_at : (ps : List ℕ) (is : List TypedResourceIndex) (lenders : List Lender) (k p : ℕ) (i : TypedResourceIndex) → length ps ≡ length is → paired ps is ≡ lenders → k < length lenders → p ≡ slice_index_or ps k p → i ≡ slice_index_or is k i
+pub lender_at : (ps : List ℕ) (is : List TypedResourceIndex) (lenders : List Lender) (k p : ℕ) (i : TypedResourceIndex) → length ps ≡ length is → lenders_from ps is ≡ lenders → k < length lenders → p ≡ slice_index_or ps k p → i ≡ slice_index_or is k i
     → slice_get lenders k ≡ Some (record { table = p; index = i })
 lender_at ps is lenders k p i e v h a b =
     ap (λ l. slice_get l k) (sym v) ∙ get_paired ps is k p i e (let n = length_paired_tables ps is e in let m = ap (λ (l : List Lender). length l) v in omega arith) a b

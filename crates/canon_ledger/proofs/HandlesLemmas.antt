@@ -22,7 +22,7 @@ use Rattle.canon_handles.specs.Table.{Table, Counter, Outcome, entry_at, fresh_i
 use Rattle.canon_handles.specs.Calls as table
 use Rattle.canon_handles.specs.Calls.{lends_of, raw_index, rep_as, read_removed, lend_entry, undo_lend_entry, most_lends}
 use Rattle.canon_ledger.specs.Handles as handles
-use Rattle.canon_ledger.specs.Handles.{Handles, Lender, OpenScope, StepAnswer, table_at, with_table, scope_at, with_scope, no_scope, total, stands, borrows, lenders_of, is_lender_of, IsConsistent, borrow_added, borrow_dropped, lender_added, finished, enter, leave, can_leave, is_empty_scope, set_limit, opened, lift_borrow_in, lower_borrow_in, dropped, lifted_own, lent, give_back, undone, exit_scope}
+use Rattle.canon_ledger.specs.Handles.{Handles, Lender, OpenScope, StepAnswer, table_at, with_table, scope_at, with_scope, no_scope, sum_over_tables, stands, borrows, lenders_of, is_lender_of, IsConsistent, borrow_added, borrow_dropped, lender_added, finished, enter, leave, can_leave, is_empty_scope, set_limit, opened, lift_borrow_in, lower_borrow_in, dropped, lifted_own, lent, give_back, undone, exit_scope}
 use Rattle.canon_handles.proofs.StepLemmas.{get_or-put_same, get_or-put_other, some_within, get_or_past_end, sum_by-put, one_if-true, one_if-false}
 use Rattle.canon_ledger.proofs.StepLemmas.{if_ok-refuse, if_ok-then, if_ok_always}
 use Rattle.canon_handles.proofs.TableLemmas.{fresh, equal_or_not, is_table-with_new, is_table-with_entry, is_table-without}
@@ -56,7 +56,7 @@ there_by_entry h p i x is = elim (within_or_past p (length h.tables)) [
 
 -- Index i of table p is written.
 module _ (h : Handles) (p i : ℕ) (t' : Table Entry) (c : Counter) (x : Option Entry) (present : p < length h.tables) (place : i ≤ length (table_at h p).array) (written : t'.array ≡ put (table_at h p).array i x) where
-  pub total_after : (f : Option Entry → ℕ) → f None ≡ 0 → total f (with_table h p t' c) + f (entry_at (table_at h p) i) ≡ total f h + f x
+  pub total_after : (f : Option Entry → ℕ) → f None ≡ 0 → sum_over_tables f (with_table h p t' c) + f (entry_at (table_at h p) i) ≡ sum_over_tables f h + f x
   total_after f z =
       let a = sum_by-set (λ (t : Table Entry). sum_by f t.array) h.tables p t' (empty_table 0) present in
       let b = sum_by-put f (table_at h p).array i x None z in
@@ -158,7 +158,7 @@ sound-insert_borrow h p k r s room within =
       lend_counts = entries_after h p n t' (one_more h.counter) (Some e) present f.at_end refl (λ q j o. lenders_of q j (set h.scopes k scope) ≡ lends_of o)
           (λ q j _. (let l = lenders-with_scope q j h k scope within in let was = s.lend_counts q j in omega arith))
           (let l = lenders-with_scope p n h k scope within in let was = s.lend_counts p n in let old = ap lends_of f.vacant in omega arith);
-      borrow_counts = λ j. elim (equal_or_not j k) as (λ _. (scope_at (borrow_added h' k) j).borrow_count ≡ total (borrows j) h') [
+      borrow_counts = λ j. elim (equal_or_not j k) as (λ _. (scope_at (borrow_added h' k) j).borrow_count ≡ sum_over_tables (borrows j) h') [
         | inl at ↦
             (let a = after (borrows j) refl in let old = ap (borrows j) f.vacant in let was = s.borrow_counts j in
             let one : one_if (k == j) ≡ 1 = one_if-true _ (eq-eqb k j (sym at)) in
@@ -215,10 +215,10 @@ sound-remove_borrow h p i k r s is =
       lend_counts = entries_after h p i t' (one_less h.counter) None present place refl (λ q j o. lenders_of q j (set h.scopes k scope) ≡ lends_of o)
           (λ q j _. (let l = lenders-with_scope q j h k scope within in let was = s.lend_counts q j in omega arith))
           (let l = lenders-with_scope p i h k scope within in let was = s.lend_counts p i in let old = ap lends_of is in omega arith);
-      borrow_counts = λ j. elim (equal_or_not j k) as (λ _. (scope_at (borrow_dropped h' k) j).borrow_count ≡ total (borrows j) h') [
+      borrow_counts = λ j. elim (equal_or_not j k) as (λ _. (scope_at (borrow_dropped h' k) j).borrow_count ≡ sum_over_tables (borrows j) h') [
         | inl at ↦
             (let now : (scope_at (borrow_dropped h' k) j).borrow_count ≡ (scope_at h k).borrow_count - 1 = ap (λ (i : ℕ). (scope_at (borrow_dropped h' k) i).borrow_count) at ∙ ap (λ (s : OpenScope). s.borrow_count) (same_scope h k scope within) in
-            let same : total (borrows j) h' ≡ total (borrows k) h' = ap (λ (i : ℕ). total (borrows i) h') at in
+            let same : sum_over_tables (borrows j) h' ≡ sum_over_tables (borrows k) h' = ap (λ (i : ℕ). sum_over_tables (borrows i) h') at in
             omega arith)
         | inr ne ↦
             (let a = after (borrows j) refl in let old = ap (borrows j) is in let was = s.borrow_counts j in
@@ -267,7 +267,7 @@ sound-lend h p k n idx r s is within =
           (let l = lenders-with_scope p i h k scope within in let was = s.lend_counts p i in let old = ap lends_of is in
           let b = standing-append p i (scope_at h k).lenders lender in let z = lender_here p i lender refl refl in omega arith);
       borrow_counts = λ j. (let a = after (borrows j) refl in let old = ap (borrows j) is in let was = s.borrow_counts j in
-          elim (equal_or_not j k) as (λ _. (scope_at (lender_added h' k lender) j).borrow_count ≡ total (borrows j) h') [
+          elim (equal_or_not j k) as (λ _. (scope_at (lender_added h' k lender) j).borrow_count ≡ sum_over_tables (borrows j) h') [
             | inl at ↦
                 (let now : (scope_at (lender_added h' k lender) j).borrow_count ≡ (scope_at h k).borrow_count = ap (λ (i : ℕ). (scope_at (lender_added h' k lender) i).borrow_count) at ∙ ap (λ (s : OpenScope). s.borrow_count) (same_scope h k scope within) in
                 let same : (scope_at h j).borrow_count ≡ (scope_at h k).borrow_count = ap (λ (i : ℕ). (scope_at h i).borrow_count) at in
@@ -281,9 +281,9 @@ sound-lend h p k n idx r s is within =
 -- What holds while lends are given back: those of the lenders in a list are yet to be.
 record IsSoundBut (lenders : List Lender) (h : Handles) : Type 0 where
   tables_sound : (p : ℕ) → IsTable (table_at h p)
-  live_handles : h.counter.live ≡ total stands h + total lends_of h
+  live_handles : h.counter.live ≡ sum_over_tables stands h + sum_over_tables lends_of h
   lend_counts : (p i : ℕ) → lenders_of p i h.scopes + standing p i lenders ≡ lends_of (entry_at (table_at h p) i)
-  borrow_counts : (k : ℕ) → (scope_at h k).borrow_count ≡ total (borrows k) h
+  borrow_counts : (k : ℕ) → (scope_at h k).borrow_count ≡ sum_over_tables (borrows k) h
 
 sound-undo_own : (h : Handles) (lender : Lender) (lenders : List Lender) (r : TypedResource) (n : ℕ) → IsSoundBut (lender ∷ lenders) h → entry_at (table_at h lender.table) (raw_index lender.index) ≡ Some (ResourceOwn r n)
     → IsSoundBut lenders (with_table h lender.table (with_entry (table_at h lender.table) (raw_index lender.index) (ResourceOwn r (n - 1))) (one_less h.counter))
@@ -351,7 +351,7 @@ cleared h k s within no_borrows =
       live_handles = s.live_handles;
       lend_counts = λ p i. (let was = s.lend_counts p i in let l = lenders-with_scope p i h k no_scope within in let z : standing p i [] ≡ 0 = refl in omega arith);
       borrow_counts = λ j. (let was = s.borrow_counts j in
-          elim (equal_or_not j k) as (λ _. (scope_at (with_scope h k no_scope) j).borrow_count ≡ total (borrows j) h) [
+          elim (equal_or_not j k) as (λ _. (scope_at (with_scope h k no_scope) j).borrow_count ≡ sum_over_tables (borrows j) h) [
             | inl at ↦
                 (let now : (scope_at (with_scope h k no_scope) j).borrow_count ≡ 0 = ap (λ (i : ℕ). (scope_at (with_scope h k no_scope) i).borrow_count) at ∙ ap (λ (s : OpenScope). s.borrow_count) (same_scope h k no_scope within) in
                 let same : (scope_at h j).borrow_count ≡ (scope_at h k).borrow_count = ap (λ (i : ℕ). (scope_at h i).borrow_count) at in
@@ -420,11 +420,11 @@ sound-leave h s can =
           let l = last_out (λ (s : OpenScope). standing p i s.lenders) h.scopes n (omega arith) in
           let z = no_lenders (scope_at h n).lenders w.1 p i in omega arith);
       borrow_counts = λ k. (let was = s.borrow_counts k in
-          elim (within_or_past k n) as (λ _. (scope_at (leave h) k).borrow_count ≡ total (borrows k) h) [
+          elim (within_or_past k n) as (λ _. (scope_at (leave h) k).borrow_count ≡ sum_over_tables (borrows k) h) [
             | inl lt ↦ ap (λ (s : OpenScope). s.borrow_count) (get_or-take n h.scopes k no_scope lt) ∙ was
             | inr past ↦
                 (let gone : (scope_at (leave h) k).borrow_count ≡ 0 = ap (λ (s : OpenScope). s.borrow_count) (get_or-take_past h.scopes n k no_scope past) in
-                elim (equal_or_not k n) as (λ _. (scope_at (leave h) k).borrow_count ≡ total (borrows k) h) [
+                elim (equal_or_not k n) as (λ _. (scope_at (leave h) k).borrow_count ≡ sum_over_tables (borrows k) h) [
                   | inl at ↦ (let same : (scope_at h k).borrow_count ≡ (scope_at h n).borrow_count = ap (λ (i : ℕ). (scope_at h i).borrow_count) at in omega arith)
                   | inr ne ↦ (let z = scope_past h k (omega arith) in omega arith)
                 ])

@@ -20,9 +20,9 @@ use Rattle.canon_handles.specs.Calls.{raw_index, undo_lend_entry, is_own, lends_
 use Rattle.canon_ledger.specs.Handles as handles
 use Rattle.canon_ledger.specs.Handles.{Handles, Lender, StepAnswer, IsConsistent, can_leave, host_table, table_at, with_table, with_scope, no_scope, scope_at, finished, dropped, lifted_own, lent, opened, lift_borrow_in, lower_borrow_in, borrow_added, give_back, undone, exit_scope, borrows, stands}
 use Rattle.canon_ledger.specs.Index.{GivenIndex}
-use Rattle.canon_ledger.specs.Ledger.{LedgerState, HostIndexes, Done, LedgerStep, Enter, Leave, SetLimit, New, Rep, Drop, LiftOwn, LiftBorrow, LowerBorrow, ExitScope, HostLiftOwn, HostLiftBorrow, HostDrop, HostRemove, HostLowerOwn, HostLowerBorrow, do_step, run, plainly, inserting, host_removing, unless_stale, is_stale, slot_is_stale, leaving, with_slot, slot_at, host_entry, last_generation, IsAccepted, IsHostSound, new_ledger, resource_rep, resource_drop, resource_lift_own, resource_lift_borrow, host_resource_drop, removed_once_told}
+use Rattle.canon_ledger.specs.Ledger.{LedgerState, HostIndexes, Done, LedgerStep, Enter, Leave, SetLimit, New, Rep, Drop, LiftOwn, LiftBorrow, LowerBorrow, ExitScope, HostLiftOwn, HostLiftBorrow, HostDrop, HostRemove, HostLowerOwn, HostLowerBorrow, do_step, run_steps, plainly, inserting, host_removing, unless_stale, is_stale, slot_is_stale, leaving, with_slot, slot_at, host_entry, last_generation, IsAccepted, IsHostSound, new_ledger, resource_rep, resource_drop, resource_lift_own, resource_lift_borrow, host_resource_drop, removed_once_told}
 use Rattle.canon_ledger.specs.declared.fault.ResourceFault.{ResourceFault}
-use Rattle.canon_ledger.specs.Laws.{GivesIndex, Names, IsGivenIn, handle_of, inserted, written_slot, is_host_insertion, StepsKeepHostSound, IndexesAnswerForTheirInsertion, IndexesNameTheirInsertion, AcceptedIndexesWereGiven, IndexesAreGivenOnce, NewLedgersAreSound, with_generation_raised}
+use Rattle.canon_ledger.specs.Laws.{GivesIndex, Names, IsGivenIn, resource_and_scope, inserted, written_slot, is_host_insertion, StepsKeepHostSound, IndexesAnswerForTheirInsertion, IndexesNameTheirInsertion, AcceptedIndexesWereGiven, IndexesAreGivenOnce, NewLedgersAreSound, with_generation_raised}
 use Rattle.canon_handles.proofs.StepLemmas.{length-put, length-put_end, get_or-put_same, get_or-put_other, some_within}
 use Rattle.canon_ledger.proofs.StepLemmas.{if_ok-refuse, if_ok-then, if_ok_always}
 use Rattle.canon_handles.proofs.TableLemmas.{fresh, equal_or_not, is_table-empty}
@@ -37,22 +37,22 @@ at_host h i = entry_at (table_at h 0) i
 pub record SameIndexes (h h' : Handles) : Type 0 where
   as_long : length (table_at h' 0).array ≡ length (table_at h 0).array
   stands : (i : ℕ) → is_some (at_host h' i) ≡ is_some (at_host h i)
-  handle : (i : ℕ) → handle_of (at_host h' i) ≡ handle_of (at_host h i)
+  handle : (i : ℕ) → resource_and_scope (at_host h' i) ≡ resource_and_scope (at_host h i)
 
 -- It names nothing at any more indexes, and at each the same or nothing.
 pub record FewerIndexes (h h' : Handles) : Type 0 where
   as_long : length (table_at h' 0).array ≡ length (table_at h 0).array
   stands : (i : ℕ) → is_some (at_host h' i) ≡ true → is_some (at_host h i) ≡ true
-  handle : (i : ℕ) → is_some (at_host h' i) ≡ true → handle_of (at_host h' i) ≡ handle_of (at_host h i)
+  handle : (i : ℕ) → is_some (at_host h' i) ≡ true → resource_and_scope (at_host h' i) ≡ resource_and_scope (at_host h i)
 
 -- It names something at one more index, which it may not have given before.
 pub record OneMoreIndex (h h' : Handles) (n : ℕ) (made : Option (TypedResource × Option ℕ)) : Type 0 where
   place : n ≤ length (table_at h 0).array
   was : is_some (at_host h n) ≡ false
   here : is_some (at_host h' n) ≡ true
-  handle : handle_of (at_host h' n) ≡ made
+  handle : resource_and_scope (at_host h' n) ≡ made
   others : (i : ℕ) → i ≢ n → is_some (at_host h' i) ≡ is_some (at_host h i)
-  other_handles : (i : ℕ) → i ≢ n → handle_of (at_host h' i) ≡ handle_of (at_host h i)
+  other_handles : (i : ℕ) → i ≢ n → resource_and_scope (at_host h' i) ≡ resource_and_scope (at_host h i)
   grown : (xs : List (Option TableSlot)) → length xs ≡ length (table_at h 0).array → (s : Option TableSlot) → length (put xs n s) ≡ length (table_at h' 0).array
 
 fewer : (h h' : Handles) → SameIndexes h h' → FewerIndexes h h'
@@ -68,7 +68,7 @@ same_elsewhere : (h : Handles) (q : ℕ) (t : Table Entry) (c : Counter) → Sam
 same_elsewhere h q t c =
     let ne : 0 ≢ suc q = omega arith in
     let e : table_at (with_table h (suc q) t c) 0 ≡ table_at h 0 = get_or-set_other h.tables (suc q) 0 t (empty_table 0) ne in
-    record { as_long = ap (λ (t : Table Entry). length t.array) e; stands = λ i. ap (λ (t : Table Entry). is_some (entry_at t i)) e; handle = λ i. ap (λ (t : Table Entry). handle_of (entry_at t i)) e }
+    record { as_long = ap (λ (t : Table Entry). length t.array) e; stands = λ i. ap (λ (t : Table Entry). is_some (entry_at t i)) e; handle = λ i. ap (λ (t : Table Entry). resource_and_scope (entry_at t i)) e }
 
 -- what a function of an entry is after one was written in the place of another, of which it is the same
 read-with_entry : {A : Type 0} (f : Option Entry → A) (h : Handles) (i : ℕ) (e e' : Entry) (c : Counter) → entry_at (table_at h 0) i ≡ Some e → f (Some e') ≡ f (Some e) → (j : ℕ) → f (at_host (with_table h 0 (with_entry (table_at h 0) i e') c) j) ≡ f (at_host h j)
@@ -83,7 +83,7 @@ read-with_entry f h i e e' c is alike j =
       | inr ne ↦ ap f (entry_other h 0 i t' c (Some e') present place refl j ne)
     ]
 
-same-with_entry : (h : Handles) (p i : ℕ) (e e' : Entry) (c : Counter) → entry_at (table_at h p) i ≡ Some e → handle_of (Some e') ≡ handle_of (Some e) → SameIndexes h (with_table h p (with_entry (table_at h p) i e') c)
+same-with_entry : (h : Handles) (p i : ℕ) (e e' : Entry) (c : Counter) → entry_at (table_at h p) i ≡ Some e → resource_and_scope (Some e') ≡ resource_and_scope (Some e) → SameIndexes h (with_table h p (with_entry (table_at h p) i e') c)
 same-with_entry h zero i e e' c is alike =
     let t' = with_entry (table_at h 0) i e' in
     let present = there_by_entry h 0 i e is in
@@ -92,7 +92,7 @@ same-with_entry h zero i e e' c is alike =
     record {
       as_long = ap (λ (t : Table Entry). length t.array) (table_same h 0 i t' c (Some e') present place refl) ∙ length-put (table_at h 0).array i (Some e') within;
       stands = read-with_entry is_some h i e e' c is refl;
-      handle = read-with_entry handle_of h i e e' c is alike;
+      handle = read-with_entry resource_and_scope h i e e' c is alike;
     }
 same-with_entry h (suc q) i e e' c is alike = same_elsewhere h q (with_entry (table_at h (suc q)) i e') c
 
@@ -108,9 +108,9 @@ fewer-without h zero i e c is =
         | inl at ↦ λ _. ap (λ (k : ℕ). is_some (at_host h k)) at ∙ ap is_some is
         | inr ne ↦ λ w. sym (ap is_some (entry_other h 0 i t' c None present place refl j ne)) ∙ w
       ];
-      handle = λ j. elim (equal_or_not j i) as (λ _. is_some (at_host (with_table h 0 t' c) j) ≡ true → handle_of (at_host (with_table h 0 t' c) j) ≡ handle_of (at_host h j)) [
+      handle = λ j. elim (equal_or_not j i) as (λ _. is_some (at_host (with_table h 0 t' c) j) ≡ true → resource_and_scope (at_host (with_table h 0 t' c) j) ≡ resource_and_scope (at_host h j)) [
         | inl at ↦ λ w. absurd (let gone : is_some (at_host (with_table h 0 t' c) j) ≡ false = ap (λ (k : ℕ). is_some (at_host (with_table h 0 t' c) k)) at ∙ ap is_some (entry_same h 0 i t' c None present place refl) in cc)
-        | inr ne ↦ λ w. ap handle_of (entry_other h 0 i t' c None present place refl j ne)
+        | inr ne ↦ λ w. ap resource_and_scope (entry_other h 0 i t' c None present place refl j ne)
       ];
     }
 fewer-without h (suc q) i e c is = fewer h _ (same_elsewhere h q (without (table_at h (suc q)) i) c)
@@ -121,7 +121,7 @@ put_alike xs ys n x y e h = elim (equal_or_not n (length xs)) [
   | inr ne ↦ (let a = length-put xs n x (omega arith) in let b = length-put ys n y (omega arith) in omega arith)
 ]
 
-one_more-new : (h : Handles) (e : Entry) (c : Counter) → IsTable (table_at h 0) → is_full (table_at h 0) ≡ false → OneMoreIndex h (with_table h 0 (with_new (table_at h 0) e) c) (fresh_index (table_at h 0)) (handle_of (Some e))
+one_more-new : (h : Handles) (e : Entry) (c : Counter) → IsTable (table_at h 0) → is_full (table_at h 0) ≡ false → OneMoreIndex h (with_table h 0 (with_new (table_at h 0) e) c) (fresh_index (table_at h 0)) (resource_and_scope (Some e))
 one_more-new h e c s room =
     let t = table_at h 0 in
     let n = fresh_index t in
@@ -132,9 +132,9 @@ one_more-new h e c s room =
       place = f.at_end;
       was = ap is_some f.vacant;
       here = ap is_some (entry_same h 0 n t' c (Some e) present f.at_end refl);
-      handle = ap handle_of (entry_same h 0 n t' c (Some e) present f.at_end refl);
+      handle = ap resource_and_scope (entry_same h 0 n t' c (Some e) present f.at_end refl);
       others = λ i ne. ap is_some (entry_other h 0 n t' c (Some e) present f.at_end refl i ne);
-      other_handles = λ i ne. ap handle_of (entry_other h 0 n t' c (Some e) present f.at_end refl i ne);
+      other_handles = λ i ne. ap resource_and_scope (entry_other h 0 n t' c (Some e) present f.at_end refl i ne);
       grown = λ xs len x. put_alike xs t.array n x (Some e) len (subst (λ (m : ℕ). n ≤ m) (sym len) f.at_end) ∙ sym (ap (λ (t : Table Entry). length t.array) (table_same h 0 n t' c (Some e) present f.at_end refl));
     }
 
@@ -507,12 +507,12 @@ spent-step x call l s h w = elim (effect call l s) as (λ _. IsSpent x (do_step 
   | inr v ↦ spent-inserts x l _ v.0 _ _ v.3 h w
 ]
 
-spent-run : (x : GivenIndex) (calls : List LedgerStep) (l : LedgerState) → IsConsistent l.handles → IsHostSound l → IsSpent x l → IsSpent x (run calls l)
+spent-run : (x : GivenIndex) (calls : List LedgerStep) (l : LedgerState) → IsConsistent l.handles → IsHostSound l → IsSpent x l → IsSpent x (run_steps calls l)
 spent-run x [] l s h w = w
 spent-run x (call ∷ calls) l s h w =
     spent-run x calls (do_step call l).after (sound-step call l s) (host-step call l s h) (spent-step x call l s h w)
 
-known-run : (x : GivenIndex) (calls : List LedgerStep) (l : LedgerState) → IsConsistent l.handles → IsHostSound l → IsKnown x l → IsKnown x (run calls l)
+known-run : (x : GivenIndex) (calls : List LedgerStep) (l : LedgerState) → IsConsistent l.handles → IsHostSound l → IsKnown x l → IsKnown x (run_steps calls l)
 known-run x [] l s h w = w
 known-run x (call ∷ calls) l s h w =
     known-run x calls (do_step call l).after (sound-step call l s) (host-step call l s h) (known-step x call l s h w)
@@ -556,11 +556,11 @@ known_when_given call l x s h g =
     let n = k.generation in let same = g.generation in
     record { slot = written_slot call l.host.generation; there = slot_new l _ x.index _ _ k h; older = omega arith }
 
-run-append : (calls more : List LedgerStep) (l : LedgerState) → run (calls ++ more) l ≡ run more (run calls l)
+run-append : (calls more : List LedgerStep) (l : LedgerState) → run_steps (calls ++ more) l ≡ run_steps more (run_steps calls l)
 run-append [] more l = refl
 run-append (call ∷ calls) more l = run-append calls more (do_step call l).after
 
-sound-run' : (calls : List LedgerStep) (l : LedgerState) → IsConsistent l.handles → IsConsistent (run calls l).handles
+sound-run' : (calls : List LedgerStep) (l : LedgerState) → IsConsistent l.handles → IsConsistent (run_steps calls l).handles
 sound-run' [] l s = s
 sound-run' (call ∷ calls) l s = sound-run' calls (do_step call l).after (sound-step call l s)
 
@@ -572,9 +572,9 @@ answers_for_insertion l s h call x g calls more a =
     let k = known-run x calls m sm hm (known_when_given call l x s h g) in
     let sr = sound-run' calls m sm in
     let hr = host-run calls m sm hm in
-    elim (spent_or_accepted x (run calls m) hr k) as (λ _. IsAccepted x (run calls m)) [
+    elim (spent_or_accepted x (run_steps calls m) hr k) as (λ _. IsAccepted x (run_steps calls m)) [
       | inl accepted ↦ accepted
-      | inr spent ↦ absurd (not_spent x (run more (run calls m)) (spent-run x more (run calls m) sr hr spent) (subst (IsAccepted x) (run-append calls more m) a))
+      | inr spent ↦ absurd (not_spent x (run_steps more (run_steps calls m)) (spent-run x more (run_steps calls m) sr hr spent) (subst (IsAccepted x) (run-append calls more m) a))
     ]
 
 pub given_once : IndexesAreGivenOnce
@@ -583,7 +583,7 @@ given_once l s h call x g calls again g' =
     let sm = sound-step call l s in
     let hm = host-step call l s h in
     let k = known-run x calls m sm hm (known_when_given call l x s h g) in
-    let r = run calls m in
+    let r = run_steps calls m in
     let hr = host-run calls m sm hm in
     let w = inserts again r x.index (sound-run' calls m sm) g'.insertion g'.index in
     let below : k.slot.generation < r.host.generation = at_slot r x.index k.slot (λ x. x.generation < r.host.generation) k.there (hr.spent_slots_below x.index w.indexes.was) in
@@ -626,7 +626,7 @@ told-step given x call l s h w = elim w.told as (λ _. IsTold given x (do_step c
       ])
 ]
 
-told-run : (given : LedgerStep) (x : GivenIndex) (calls : List LedgerStep) (l : LedgerState) → IsConsistent l.handles → IsHostSound l → IsTold given x l → IsTold given x (run calls l)
+told-run : (given : LedgerStep) (x : GivenIndex) (calls : List LedgerStep) (l : LedgerState) → IsConsistent l.handles → IsHostSound l → IsTold given x l → IsTold given x (run_steps calls l)
 told-run given x [] l s h w = w
 told-run given x (call ∷ calls) l s h w =
     told-run given x calls (do_step call l).after (sound-step call l s) (host-step call l s h) (told-step given x call l s h w)
@@ -635,8 +635,8 @@ pub names_insertion : IndexesNameTheirInsertion
 names_insertion l s h call x g calls a =
     let m = (do_step call l).after in
     let w = told-run call x calls m (sound-step call l s) (host-step call l s h) (told_if call x m (host-step call l s h) (known_when_given call l x s h g) (λ _. names_when_given call l x s h g)) in
-    elim w.told as (λ _. Names call x (run calls m)) [
-      | inl spent ↦ absurd (not_spent x (run calls m) spent a)
+    elim w.told as (λ _. Names call x (run_steps calls m)) [
+      | inl spent ↦ absurd (not_spent x (run_steps calls m) spent a)
       | inr v ↦ v.1
     ]
 
@@ -709,7 +709,7 @@ accepted_or_given call x l s h a = elim (effect call l s) as (λ _. IsAccepted x
   ]
 ]
 
-accepted_or_given_in : (calls : List LedgerStep) (l : LedgerState) (x : GivenIndex) → IsConsistent l.handles → IsHostSound l → IsAccepted x (run calls l) → IsAccepted x l ⊎ IsGivenIn calls l x
+accepted_or_given_in : (calls : List LedgerStep) (l : LedgerState) (x : GivenIndex) → IsConsistent l.handles → IsHostSound l → IsAccepted x (run_steps calls l) → IsAccepted x l ⊎ IsGivenIn calls l x
 accepted_or_given_in [] l x s h a = inl a
 accepted_or_given_in (call ∷ calls) l x s h a = elim (accepted_or_given_in calls (do_step call l).after x (sound-step call l s) (host-step call l s h) a) as (λ _. IsAccepted x l ⊎ IsGivenIn (call ∷ calls) l x) [
   | inl b ↦ elim (accepted_or_given call x l s h b) as (λ _. IsAccepted x l ⊎ IsGivenIn (call ∷ calls) l x) [

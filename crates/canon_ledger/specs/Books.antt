@@ -22,10 +22,10 @@ pub record KeptIndexes : Type 0 where
   pub room : ℕ
 
 -- lenders, whose tables and indexes stand in two lists
-abbrev pub paired : List ℕ → List TypedResourceIndex → List Lender
-paired [] indexes = []
-paired (p ∷ tables) [] = []
-paired (p ∷ tables) (i ∷ indexes) = record { table = p; index = i } ∷ paired tables indexes
+abbrev pub lenders_from : List ℕ → List TypedResourceIndex → List Lender
+lenders_from [] indexes = []
+lenders_from (p ∷ tables) [] = []
+lenders_from (p ∷ tables) (i ∷ indexes) = record { table = p; index = i } ∷ lenders_from tables indexes
 
 abbrev pub indexes_of : List (Option TableSlot) → ℕ → HostIndexes
 indexes_of slots generation = record { slots = slots; generation = generation }

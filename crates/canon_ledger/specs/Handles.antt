@@ -127,7 +127,7 @@ resource_new h p resource = on_table h p 0 (λ t c. table.resource_own_insert t 
 
 -- canon resource.rep
 abbrev pub resource_rep : Handles → ℕ → TypedResourceIndex → Result ℕ ResourceFault
-resource_rep h p idx = at_index (raw_index idx) (table.resource_rep (table_at h p) idx)
+resource_rep h p idx = at_index (raw_index idx) (table.handle_rep (table_at h p) idx)
 
 -- one borrow handle fewer names scope k
 abbrev pub borrow_dropped : Handles → ℕ → Handles
@@ -225,8 +225,8 @@ abbrev pub stands : Option Entry → ℕ
 stands o = one_if (is_some o)
 
 -- the sum of f over what the indexes of every table name
-abbrev pub total : (Option Entry → ℕ) → Handles → ℕ
-total f h = sum_by (λ t. sum_by f t.array) h.tables
+abbrev pub sum_over_tables : (Option Entry → ℕ) → Handles → ℕ
+sum_over_tables f h = sum_by (λ t. sum_by f t.array) h.tables
 
 -- the handle at index i of table p is this lender
 abbrev pub is_lender_of : ℕ → ℕ → Lender → Bool
@@ -244,11 +244,11 @@ borrows k _ = 0
 pub record IsConsistent (h : Handles) : Type 0 where
   pub tables_sound : (p : ℕ) → IsTable (table_at h p)
   -- the live handles are the entries of all tables and the lends
-  pub live_handles : h.counter.live ≡ total stands h + total lends_of h
+  pub live_handles : h.counter.live ≡ sum_over_tables stands h + sum_over_tables lends_of h
   -- an own handle's lend count is the number of times it stands among the lenders, and nothing else stands there
   pub lend_counts : (p i : ℕ) → lenders_of p i h.scopes ≡ lends_of (entry_at (table_at h p) i)
   -- a scope's borrow count is the number of borrow handles that name it, and none names a scope that is not open
-  pub borrow_counts : (k : ℕ) → (scope_at h k).borrow_count ≡ total (borrows k) h
+  pub borrow_counts : (k : ℕ) → (scope_at h k).borrow_count ≡ sum_over_tables (borrows k) h
 
 -- Contracts
 

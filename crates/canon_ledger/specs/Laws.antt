@@ -9,7 +9,7 @@ use Rattle.canon_ledger.specs.declared.host.TableSlot.{TableSlot}
 use Rattle.canon_ledger.specs.declared.fault.ResourceFault.{ResourceFault}
 use Rattle.canon_ledger.specs.Handles.{IsConsistent}
 use Rattle.canon_ledger.specs.Index.{GivenIndex}
-use Rattle.canon_ledger.specs.Ledger.{LedgerState, LedgerStep, New, Drop, LiftOwn, LowerBorrow, HostLiftOwn, HostLiftBorrow, HostDrop, HostRemove, HostLowerOwn, HostLowerBorrow, do_step, run, raised, slot_at, host_entry, Through, Partway, IsAccepted, IsHostSound, new_ledger}
+use Rattle.canon_ledger.specs.Ledger.{LedgerState, LedgerStep, New, Drop, LiftOwn, LowerBorrow, HostLiftOwn, HostLiftBorrow, HostDrop, HostRemove, HostLowerOwn, HostLowerBorrow, do_step, run_steps, raised, slot_at, host_entry, Through, Partway, IsAccepted, IsHostSound, new_ledger}
 
 -- Refusals
 
@@ -37,12 +37,12 @@ NewLedgersAreSound = (instances limit generation : ℕ) → IsConsistent (new_le
 
 -- every list of steps keeps the counts of live handles, of lends and of borrows
 abbrev pub StepsKeepHandlesSound : Type 0
-StepsKeepHandlesSound = (calls : List LedgerStep) (l : LedgerState) → IsConsistent l.handles → IsConsistent (run calls l).handles
+StepsKeepHandlesSound = (calls : List LedgerStep) (l : LedgerState) → IsConsistent l.handles → IsConsistent (run_steps calls l).handles
 
 -- Host indexes
 
 abbrev pub StepsKeepHostSound : Type 0
-StepsKeepHostSound = (calls : List LedgerStep) (l : LedgerState) → IsConsistent l.handles → IsHostSound l → IsHostSound (run calls l)
+StepsKeepHostSound = (calls : List LedgerStep) (l : LedgerState) → IsConsistent l.handles → IsHostSound l → IsHostSound (run_steps calls l)
 
 abbrev pub is_host_insertion : LedgerStep → Bool
 is_host_insertion (New p resource) = p == 0
@@ -60,13 +60,13 @@ pub record GivesIndex (call : LedgerStep) (l : LedgerState) (x : GivenIndex) : T
 -- a host index is accepted only while the entry of the insertion that gave it stands: where it is accepted after more steps, it was accepted all along
 abbrev pub IndexesAnswerForTheirInsertion : Type 0
 IndexesAnswerForTheirInsertion = (l : LedgerState) → IsConsistent l.handles → IsHostSound l → (call : LedgerStep) (x : GivenIndex) → GivesIndex call l x →
-    (calls more : List LedgerStep) → IsAccepted x (run (calls ++ more) (do_step call l).after) → IsAccepted x (run calls (do_step call l).after)
+    (calls more : List LedgerStep) → IsAccepted x (run_steps (calls ++ more) (do_step call l).after) → IsAccepted x (run_steps calls (do_step call l).after)
 
 -- what a handle is of: its resource, and for a borrow handle its scope
-abbrev pub handle_of : Option Entry → Option (TypedResource × Option ℕ)
-handle_of (Some (ResourceOwn resource lends)) = Some (resource, None)
-handle_of (Some (ResourceBorrow resource (Id k))) = Some (resource, Some k)
-handle_of _ = None
+abbrev pub resource_and_scope : Option Entry → Option (TypedResource × Option ℕ)
+resource_and_scope (Some (ResourceOwn resource lends)) = Some (resource, None)
+resource_and_scope (Some (ResourceBorrow resource (Id k))) = Some (resource, Some k)
+resource_and_scope _ = None
 
 -- what the handle is of that an insertion makes
 abbrev pub inserted : LedgerStep → Option (TypedResource × Option ℕ)
@@ -83,13 +83,13 @@ written_slot _ generation = record { generation = generation; instance = None; d
 
 -- at the index stands the handle of the insertion, but for its lends, with the slot of the insertion
 pub record Names (call : LedgerStep) (x : GivenIndex) (l : LedgerState) : Type 0 where
-  pub handle : handle_of (host_entry l x.index) ≡ inserted call
+  pub handle : resource_and_scope (host_entry l x.index) ≡ inserted call
   pub slot : slot_at l.host x.index ≡ Some (written_slot call x.generation)
 
 -- while an index is accepted, it names what its insertion put there: the resource with its type and representation, the scope of a borrow handle, instance and destructor
 abbrev pub IndexesNameTheirInsertion : Type 0
 IndexesNameTheirInsertion = (l : LedgerState) → IsConsistent l.handles → IsHostSound l → (call : LedgerStep) (x : GivenIndex) → GivesIndex call l x →
-    (calls : List LedgerStep) → IsAccepted x (run calls (do_step call l).after) → Names call x (run calls (do_step call l).after)
+    (calls : List LedgerStep) → IsAccepted x (run_steps calls (do_step call l).after) → Names call x (run_steps calls (do_step call l).after)
 
 -- the index by which a step looks for a handle of the host
 abbrev pub accessed : LedgerStep → Option GivenIndex
@@ -109,18 +109,18 @@ pub record IsGivenIn (calls : List LedgerStep) (l : LedgerState) (x : GivenIndex
   pub call : LedgerStep
   pub more : List LedgerStep
   pub split : calls ≡ before ++ call ∷ more
-  pub gives : GivesIndex call (run before l) x
+  pub gives : GivesIndex call (run_steps before l) x
 
 -- from a new ledger, only indexes that insertions gave are accepted
 abbrev pub AcceptedIndexesWereGiven : Type 0
 AcceptedIndexesWereGiven = (instances limit generation : ℕ) (calls : List LedgerStep) (x : GivenIndex) →
     let l = new_ledger instances limit generation in
-    IsAccepted x (run calls l) → IsGivenIn calls l x
+    IsAccepted x (run_steps calls l) → IsGivenIn calls l x
 
 -- no later insertion gives the index again
 abbrev pub IndexesAreGivenOnce : Type 0
 IndexesAreGivenOnce = (l : LedgerState) → IsConsistent l.handles → IsHostSound l → (call : LedgerStep) (x : GivenIndex) → GivesIndex call l x →
-    (calls : List LedgerStep) (again : LedgerStep) → GivesIndex again (run calls (do_step call l).after) x → ⊥
+    (calls : List LedgerStep) (again : LedgerStep) → GivesIndex again (run_steps calls (do_step call l).after) x → ⊥
 
 -- Lists of steps
 

@@ -219,9 +219,9 @@ do_step (HostLowerOwn rep dtor instance) l = host_resource_lower_own l rep dtor 
 do_step (HostLowerBorrow scope rep) l = host_resource_lower_borrow scope l rep
 
 -- the ledger after steps, refused or not
-abbrev pub run : List LedgerStep → LedgerState → LedgerState
-run [] l = l
-run (call ∷ calls) l = run calls (do_step call l).after
+abbrev pub run_steps : List LedgerStep → LedgerState → LedgerState
+run_steps [] l = l
+run_steps (call ∷ calls) l = run_steps calls (do_step call l).after
 
 -- what each step answers
 abbrev pub answers : List LedgerStep → LedgerState → List (Result ℕ ResourceFault)

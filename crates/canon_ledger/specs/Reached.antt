@@ -1,6 +1,6 @@
 -- What the host's resource tables reach.
 use Rattle.std.specs.Prelude.{ℕ, Option}
-use Rattle.canon_types.specs.Table.{Table}
+use Rattle.canon_types.specs.Table.{TypeTable}
 use Rattle.canon_handles.specs.declared.handle.CurrentScope.{CurrentScope}
 use Rattle.canon_ledger.specs.declared.host_tables.HostResourceTables.{HostResourceTables}
 use Rattle.canon_ledger.specs.declared.known.KnownTypes.{KnownTypes}
@@ -19,7 +19,7 @@ reference_in t = t.tables.ledger.ghost_name
 abbrev pub types_in : HostResourceTables → KnownTypes
 types_in t = t.tables.types
 
-abbrev pub known_in : HostResourceTables → Option Table
+abbrev pub known_in : HostResourceTables → Option TypeTable
 known_in t = first_type (types_in t).list.now
 
 -- the scope of the call that runs, where there is one

@@ -19,11 +19,11 @@ pub struct CallContext {
 impl Model for CallContext {
     ghost use Rattle.std.specs.Prelude.{◌≡◌, ◌-◌, min, length};
     ghost use Rattle.std.specs.Vec.{vec_capacity};
-    ghost use Rattle.canon_ledger.specs.Books.{Context, paired};
+    ghost use Rattle.canon_ledger.specs.Books.{Context, lenders_from};
 
     ghost Value = { Context };
 
-    ghost view = { λ a. record { scope = record { lenders = paired a.tables.items a.lenders.items; borrow_count = a.borrow_count }; room = min (vec_capacity a.tables - length a.tables.items) (vec_capacity a.lenders - length a.lenders.items) } };
+    ghost view = { λ a. record { scope = record { lenders = lenders_from a.tables.items a.lenders.items; borrow_count = a.borrow_count }; room = min (vec_capacity a.tables - length a.tables.items) (vec_capacity a.lenders - length a.lenders.items) } };
 
     ghost invariant = { λ a. length a.tables.items ≡ length a.lenders.items };
 }

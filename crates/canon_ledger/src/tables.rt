@@ -2,7 +2,7 @@
 
 ghost use Rattle.std.specs.Prelude.{◌≡◌, ◌<◌, ◌↔◌, IsTrue, length};
 ghost use Rattle.canon_ledger.specs.Handles.{host_table};
-ghost use Rattle.canon_ledger.specs.Places.{first_type, HasType, IsIndexPlaced, IsPlaced, SamePlaces, table_of, table_of_index, type_table};
+ghost use Rattle.canon_ledger.specs.Places.{first_type, HasType, IsIndexPlaced, IsPlaced, SamePlaces, table_of_resource, table_of_index, type_table};
 ghost use Rattle.canon_ledger.specs.Ledger.{Did, host_resource_lower_own, is_stale, resource_drop, resource_lift_borrow, resource_lift_own, resource_lower_borrow, resource_new, resource_rep, slot_at, validate_scope_exit};
 ghost use Rattle.canon_ledger.specs.Books.{DidSurely, IsOpen, scope_number};
 
@@ -55,7 +55,7 @@ impl<'a> ResourceTables<'a> {
     /// The number of the table that keeps a resource.
     fn table_of(&self, resource: &TypedResource) -> u32
         requires { IsPlaced (first_type self.now.types.list.now) resource.now self.now.ledger.now }
-        ensures number { result ≡ table_of (first_type self.now.types.list.now) resource.now }
+        ensures number { result ≡ table_of_resource (first_type self.now.types.list.now) resource.now }
         ensures within { result < length self.now.ledger.now.handles.tables }
     {
         match resource {
@@ -135,7 +135,7 @@ impl<'a> ResourceTables<'a> {
         ensures same_reference { self.new.ledger.ghost_name ≡ self.old.ledger.ghost_name }
         ensures same_types { self.new.types ≡ self.old.types }
         ensures same_scope { self.new.current_scope ≡ self.old.current_scope }
-        ensures step { Did (resource_new self.old.ledger.now (table_of (first_type self.old.types.list.now) resource) resource) result self.old.ledger.now self.new.ledger.now }
+        ensures step { Did (resource_new self.old.ledger.now (table_of_resource (first_type self.old.types.list.now) resource) resource) result self.old.ledger.now self.new.ledger.now }
         ensures places { SamePlaces self.old.ledger.now self.new.ledger.now }
     {
         let table = self.table_of(&resource);
@@ -150,7 +150,7 @@ impl<'a> ResourceTables<'a> {
         ensures same_reference { self.new.ledger.ghost_name ≡ self.old.ledger.ghost_name }
         ensures same_types { self.new.types ≡ self.old.types }
         ensures same_scope { self.new.current_scope ≡ self.old.current_scope }
-        ensures step { Did (resource_new self.old.ledger.now (table_of (first_type self.old.types.list.now) resource) resource) result self.old.ledger.now self.new.ledger.now }
+        ensures step { Did (resource_new self.old.ledger.now (table_of_resource (first_type self.old.types.list.now) resource) resource) result self.old.ledger.now self.new.ledger.now }
         ensures places { SamePlaces self.old.ledger.now self.new.ledger.now }
     {
         let table = self.table_of(&resource);
@@ -227,7 +227,7 @@ impl<'a> ResourceTables<'a> {
         ensures same_reference { self.new.ledger.ghost_name ≡ self.old.ledger.ghost_name }
         ensures same_types { self.new.types ≡ self.old.types }
         ensures same_scope { self.new.current_scope ≡ self.old.current_scope }
-        ensures step { Did (resource_lower_borrow (scope_number self.old.current_scope) self.old.ledger.now (table_of (first_type self.old.types.list.now) resource) resource) result self.old.ledger.now self.new.ledger.now }
+        ensures step { Did (resource_lower_borrow (scope_number self.old.current_scope) self.old.ledger.now (table_of_resource (first_type self.old.types.list.now) resource) resource) result self.old.ledger.now self.new.ledger.now }
         ensures places { SamePlaces self.old.ledger.now self.new.ledger.now }
     {
         let table = self.table_of(&resource);

@@ -9,7 +9,8 @@ use Rattle.canon_model.specs.Reach as reach
 use Rattle.canon_model.specs.Reach.{Kind}
 use Rattle.canon_model.specs.Shape.{Shape}
 use Rattle.canon_types.specs.Depth.{variant_cases}
-use Rattle.canon_reading.specs.Reading.{Lifts, NamedBy, Reading, Refused, Setting, stop_of}
+use Rattle.canon_reading.specs.Reading.{Lifts, NamedBy, Reading, Refused, Setting}
+use Rattle.canon_context.specs.Faults.{stop_of}
 use Rattle.canon_reading.specs.Readings.{CasesFault, cases_reach, cases_reading, OptionReads, ResultReads, nothing_reading, option_reading, payload_reading, result_reading}
 use Rattle.canon_reading.specs.Spots.{HasRoom, Spot, flat_in, payload_spot, stored, tag_in}
 use Rattle.canon_lift_parts.proofs.CaseLifting.{or_left, or_right}

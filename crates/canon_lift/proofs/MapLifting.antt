@@ -17,7 +17,8 @@ use Rattle.canon_types.specs.declared.types.InterfaceType.{InterfaceType}
 use Rattle.canon_reading.specs.Items.{vec_reading}
 use Rattle.canon_reading.specs.MapsOfTrees.{map_reading, pair_reading, pairs_reading}
 use Rattle.canon_lift.specs.Ranges.{IsListThere, list_range_reach}
-use Rattle.canon_reading.specs.Reading.{Lifts, Reading, Setting, setting_in, stop_of}
+use Rattle.canon_reading.specs.Reading.{Lifts, Reading, Setting, setting_in}
+use Rattle.canon_context.specs.Faults.{stop_of}
 use Rattle.canon_reading.specs.Readings.{IsGoodList, each_reach, each_steps, list_reading, read_as}
 use Rattle.canon_reading.specs.Spots.{HasRoom, Spot, length_in, pointer_in, stored}
 use Rattle.canon_lift.specs.declared.wasm_list.WasmList.{WasmList}

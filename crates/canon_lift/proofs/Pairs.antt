@@ -26,7 +26,8 @@ use Rattle.canon_types.specs.declared.types.InterfaceType.{InterfaceType}
 use Rattle.canon_reading.specs.MapsOfTrees.{map_reading, pair_reading}
 use Rattle.canon_reading.specs.OfTrees.{text_price}
 use Rattle.canon_lift.specs.Ranges.{IsNamedSo, ListRefused, ListTested, list_range_reach, wasm_list_reading}
-use Rattle.canon_reading.specs.Reading.{Lifts, NamedBy, Reading, Refused, Setting, stop_of}
+use Rattle.canon_reading.specs.Reading.{Lifts, NamedBy, Reading, Refused, Setting}
+use Rattle.canon_context.specs.Faults.{stop_of}
 use Rattle.canon_reading.specs.Readings.{IsGoodList, ListPointerFault, each_reach, list_reading, read_as, text_charge, text_reading}
 use Rattle.canon_reading.specs.Spots.{Faulty, HasRoom, Represents, Spot, at_of, flat_in, length_in, pointer_in, stored}
 use Rattle.canon_lift.specs.declared.wasm_list.WasmList.{WasmList}

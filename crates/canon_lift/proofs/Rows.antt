@@ -17,7 +17,8 @@ use Rattle.canon_types.specs.Table.{Knows, shape_of}
 use Rattle.canon_types.specs.declared.types.InterfaceType.{InterfaceType}
 use Rattle.canon_reading.specs.Items.{vec_reading}
 use Rattle.canon_lift.specs.Ranges.{HasItems, IsListFrom}
-use Rattle.canon_reading.specs.Reading.{AreTaken, Lifts, NamedBy, Reading, Refused, Setting, setting_in, stop_of}
+use Rattle.canon_reading.specs.Reading.{AreTaken, Lifts, NamedBy, Reading, Refused, Setting, setting_in}
+use Rattle.canon_context.specs.Faults.{stop_of}
 use Rattle.canon_reading.specs.Readings.{EachFault, EachReads, IsGoodList, each_reach, each_steps, fixed_element, fixed_reading, item_spot, read_as}
 use Rattle.canon_reading.specs.Spots.{Spot, behind, flat_in, stored}
 use Rattle.canon_reading.specs.Taken.{each_counted}

@@ -1,7 +1,7 @@
 //! Vectors.
 
 ghost use Rattle.canon_reading.specs.Scopes.{list_kept};
-ghost use Rattle.canon_typed.specs.Charges.{cap};
+ghost use Rattle.canon_model.specs.Memory.{cap};
 ghost use Rattle.canon_reading.specs.Apart.{as_apart, list_apart};
 ghost use Rattle.canon_reading.specs.Readings.{list_reading, read_as};
 ghost use Rattle.canon_reading.specs.RowsOfTrees.{list_faulted, list_priced, list_told};

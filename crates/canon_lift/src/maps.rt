@@ -6,7 +6,7 @@ ghost use Rattle.canon_reading.specs.Scopes.{map_kept};
 ghost use Rattle.canon_model.specs.Layout.{align, begins, ends, size};
 ghost use Rattle.canon_model.specs.Shape.{tuple};
 ghost use Rattle.canon_types.specs.Table.{Knows, shape_of};
-ghost use Rattle.canon_typed.specs.Charges.{cap};
+ghost use Rattle.canon_model.specs.Memory.{cap};
 ghost use Rattle.canon_typed.specs.Maps.{IsFilledWith};
 ghost use Rattle.canon_reading.specs.Apart.{map_apart};
 ghost use Rattle.canon_reading.specs.MapsOfTrees.{map_faulted, map_priced, map_reading, map_taken, map_told, pair_reading, pairs_reading};

@@ -6,7 +6,7 @@ ghost use Rattle.std.proofs.Common.{refl};
 ghost use Rattle.canon_reading.specs.Scopes.{plain_kept};
 ghost use Rattle.canon_types.specs.Table.{Knows, shape_of};
 ghost use Rattle.canon_types.specs.declared.types.InterfaceType.TheVariants as ty;
-ghost use Rattle.canon_typed.specs.Charges.{cap, free, list_cost};
+ghost use Rattle.canon_typed.specs.Charges.{free, list_cost};
 ghost use Rattle.canon_typed.specs.Types.{IsListOf};
 ghost use Rattle.canon_lift.specs.RangesOfTrees.{wasm_list_apart, wasm_list_faulted, wasm_list_priced};
 ghost use Rattle.canon_reading.specs.OfTrees.{untrue};
@@ -19,7 +19,7 @@ ghost use Rattle.canon_reading.specs.Spots.{stored};
 ghost use Rattle.canon_lowering.specs.Storing.{narrow};
 ghost use Rattle.canon_reading.specs.Taken.{none_taken};
 ghost use Rattle.canon_lift.specs.Views.{ListFits};
-ghost use Rattle.canon_model.specs.Memory.{bytes_at};
+ghost use Rattle.canon_model.specs.Memory.{bytes_at, cap};
 
 use crate::Lift;
 use canon_bytes::load_u32;

@@ -1,7 +1,7 @@
 -- Handles through the ledger, one by one.
 use Rattle.std.proofs.Common.{◌≡◌, ◌≤◌, ◌<◌, ◌+◌, Err, List, Ok, Option, Result, [], ◌∷◌, ap, arith, false, inl, inr, length, refl, subst, sym, ℕ}
 use Rattle.canon_context.proofs.LedgerSteps.{partway_after, through_after}
-use Rattle.canon_context.specs.Faults.{resource_fault}
+use Rattle.canon_context.specs.Faults.{resource_fault, stop_of}
 use Rattle.canon_context.specs.Lifter.{IsAfterSteps}
 use Rattle.canon_context.specs.Told.{LiftBlames}
 use Rattle.canon_context.specs.declared.fault.At.{At as Place}
@@ -25,7 +25,7 @@ use Rattle.canon_types.specs.declared.types.InterfaceType.{InterfaceType}
 use Rattle.canon_types.specs.declared.types.InterfaceType.TheVariants as ty
 use Rattle.canon_typed.specs.Types.{IsHandleType}
 use Rattle.canon_reading.specs.Handles.{HandleLifts, IsRefusal, any_reading, leaf_at, leaf_of}
-use Rattle.canon_reading.specs.Reading.{Lifts, NamedBy, Setting, stop_of}
+use Rattle.canon_reading.specs.Reading.{Lifts, NamedBy, Setting}
 use Rattle.canon_reading.specs.Spots.{HasRoom, Spot, handle_in}
 
 -- what was done to the ledger

@@ -6,7 +6,7 @@ use Rattle.canon_model.specs.Layout.{align, begins, ends, payload_shape, size}
 use Rattle.canon_model.specs.Shape.{Cases, Shape, case_count, case_for, fixed, list_of, map_of, no_cases, tuple, of_option, of_result, option_of, result_of, variant}
 use Rattle.canon_types.specs.Depth.{element_shape, variant_cases}
 use Rattle.canon_types.specs.Instance.{Instance}
-use Rattle.canon_types.specs.Table.{FixedListType, IsDefined, Knows, KnowsPayload, ListType, MapType, OptionType, ResultType, Table, all_shapes, payload_in, shape_of}
+use Rattle.canon_types.specs.Table.{FixedListType, IsDefined, Knows, KnowsPayload, ListType, MapType, OptionType, ResultType, TypeTable, all_shapes, payload_in, shape_of}
 use Rattle.canon_types.specs.Keeps.{HasPair}
 use Rattle.canon_types.specs.declared.types.TypeMap.{TypeMap}
 use Rattle.canon_types.specs.declared.types.InterfaceType.{InterfaceType}
@@ -18,21 +18,21 @@ use Rattle.canon_lift_parts.proofs.CaseLifting.{IsOfCases}
 
 -- ---- lists
 
-module _ (t t2 : Table) (j : ℕ) (type element : InterfaceType) (same : t2 ≡ t) (is : type ≡ ty.List j) (d : IsDefined t2 (ty.List j) (ListType element)) where
+module _ (t t2 : TypeTable) (j : ℕ) (type element : InterfaceType) (same : t2 ≡ t) (is : type ≡ ty.List j) (d : IsDefined t2 (ty.List j) (ListType element)) where
   pub list_shape : shape_of t type ≡ list_of (shape_of t element)
-  list_shape = ap (shape_of t) is ∙ subst (λ (x : Table). shape_of x (ty.List j) ≡ list_of (shape_of x element)) same d.shape
+  list_shape = ap (shape_of t) is ∙ subst (λ (x : TypeTable). shape_of x (ty.List j) ≡ list_of (shape_of x element)) same d.shape
 
   pub list_element : shape_of t element ≡ element_shape (shape_of t type)
   list_element = sym (ap element_shape list_shape)
 
   pub list_known : Knows t element
-  list_known = subst (λ (x : Table). Knows x element) same (d.known 0 element (omega arith))
+  list_known = subst (λ (x : TypeTable). Knows x element) same (d.known 0 element (omega arith))
 
 -- the element that a look-up gave fits
-pub list_fits : (Fit : Instance → InterfaceType → Type 0) (i : Instance) (t2 : Table) (j : ℕ) (type element : InterfaceType) → t2 ≡ i.types → type ≡ ty.List j → IsDefined t2 (ty.List j) (ListType element) → IsListOf Fit i type → Fit i element
+pub list_fits : (Fit : Instance → InterfaceType → Type 0) (i : Instance) (t2 : TypeTable) (j : ℕ) (type element : InterfaceType) → t2 ≡ i.types → type ≡ ty.List j → IsDefined t2 (ty.List j) (ListType element) → IsListOf Fit i type → Fit i element
 list_fits Fit i t2 j type element same is d f =
     let (other, d2, fits) = subst (λ x. IsListOf Fit i x) is f in
-    let here = subst (λ (x : Table). IsDefined x (ty.List j) (ListType element)) same d in
+    let here = subst (λ (x : TypeTable). IsDefined x (ty.List j) (ListType element)) same d in
     let both : Some (ListType other) ≡ Some (ListType element) = sym d2.definition ∙ here.definition in
     let one : other ≡ element = cc in
     subst (λ x. Fit i x) one fits
@@ -43,24 +43,24 @@ first_shape : (o : Option Shape) (cs : Cases) → payload_shape (case_for o no_c
 first_shape None cs = refl
 first_shape (Some s) cs = refl
 
-known_first : (t : Table) (ok error : Option InterfaceType) → All (Knows t) (option_to_list ok ++ option_to_list error) → KnowsPayload t ok
+known_first : (t : TypeTable) (ok error : Option InterfaceType) → All (Knows t) (option_to_list ok ++ option_to_list error) → KnowsPayload t ok
 known_first t None error h = tt
 known_first t (Some x) error h = h 0 x (omega arith)
 
-known_second : (t : Table) (ok error : Option InterfaceType) → All (Knows t) (option_to_list ok ++ option_to_list error) → KnowsPayload t error
+known_second : (t : TypeTable) (ok error : Option InterfaceType) → All (Knows t) (option_to_list ok ++ option_to_list error) → KnowsPayload t error
 known_second t ok None h = tt
 known_second t None (Some y) h = h 0 y (omega arith)
 known_second t (Some x) (Some y) h = h 1 y (omega arith)
 
-module _ (t t2 : Table) (j : ℕ) (type some : InterfaceType) (info : VariantInfo) (memory : List ℕ) (at : ℕ) (same : t2 ≡ t) (is : type ≡ ty.Option j) (d : IsDefined t2 (ty.Option j) (OptionType some)) where
+module _ (t t2 : TypeTable) (j : ℕ) (type some : InterfaceType) (info : VariantInfo) (memory : List ℕ) (at : ℕ) (same : t2 ≡ t) (is : type ≡ ty.Option j) (d : IsDefined t2 (ty.Option j) (OptionType some)) where
   pub option_shape : shape_of t type ≡ option_of (shape_of t some)
-  option_shape = ap (shape_of t) is ∙ subst (λ (x : Table). shape_of x (ty.Option j) ≡ option_of (shape_of x some)) same d.shape
+  option_shape = ap (shape_of t) is ∙ subst (λ (x : TypeTable). shape_of x (ty.Option j) ≡ option_of (shape_of x some)) same d.shape
 
   pub option_cases : HasInfo info (variant_cases (shape_of t2 (ty.Option j))) → at % align false (shape_of t type) ≡ 0 → at + size false (shape_of t type) ≤ length memory → IsOfCases (shape_of t type) info memory at
   option_cases numbers aligned inside = record {
     kind = of_option;
     is = option_shape ∙ ap (λ cs. variant of_option cs) (sym (ap variant_cases option_shape));
-    numbers = subst (λ x. HasInfo info (variant_cases (shape_of t x))) (sym is) (subst (λ (x : Table). HasInfo info (variant_cases (shape_of x (ty.Option j)))) same numbers);
+    numbers = subst (λ x. HasInfo info (variant_cases (shape_of t x))) (sym is) (subst (λ (x : TypeTable). HasInfo info (variant_cases (shape_of x (ty.Option j)))) same numbers);
     aligned = aligned;
     inside = inside;
   }
@@ -72,7 +72,7 @@ module _ (t t2 : Table) (j : ℕ) (type some : InterfaceType) (info : VariantInf
   option_few = subst (λ (z : Shape). 1 < case_count (variant_cases z)) (sym option_shape) (omega arith)
 
   pub option_known : Knows t some
-  option_known = subst (λ (x : Table). Knows x some) same (d.known 0 some (omega arith))
+  option_known = subst (λ (x : TypeTable). Knows x some) same (d.known 0 some (omega arith))
 
 -- ---- lists of fixed length
 
@@ -82,11 +82,11 @@ pub record IsFixedElement (Fit : Instance → InterfaceType → Type 0) (i : Ins
   pub known : Knows i.types element
   pub fits : Fit i element
 
-pub fixed_there : (Fit : Instance → InterfaceType → Type 0) (i : Instance) (t2 : Table) (j n count : ℕ) (type element : InterfaceType) → t2 ≡ i.types → type ≡ ty.FixedLengthList j
+pub fixed_there : (Fit : Instance → InterfaceType → Type 0) (i : Instance) (t2 : TypeTable) (j n count : ℕ) (type element : InterfaceType) → t2 ≡ i.types → type ≡ ty.FixedLengthList j
     → IsDefined t2 (ty.FixedLengthList j) (FixedListType element count) → IsFixedOf n Fit i type → IsFixedElement Fit i n type element
 fixed_there Fit i t2 j n count type element same is d f =
     let (some, (other, d2, fits)) = subst (λ x. IsFixedOf n Fit i x) is f in
-    let here = subst (λ (x : Table). IsDefined x (ty.FixedLengthList j) (FixedListType element count)) same d in
+    let here = subst (λ (x : TypeTable). IsDefined x (ty.FixedLengthList j) (FixedListType element count)) same d in
     let both : Some (FixedListType other n) ≡ Some (FixedListType element count) = sym d2.definition ∙ here.definition in
     let one : other ≡ element = cc in
     record {
@@ -109,7 +109,7 @@ module _ (s u : Shape) (n at : ℕ) (is : s ≡ fixed n u) where
 
 -- ---- results
 
-module _ (t t2 : Table) (j : ℕ) (type : InterfaceType) (ok error : Option InterfaceType) (same : t2 ≡ t) (is : type ≡ ty.Result j) (d : IsDefined t2 (ty.Result j) (ResultType ok error)) where
+module _ (t t2 : TypeTable) (j : ℕ) (type : InterfaceType) (ok error : Option InterfaceType) (same : t2 ≡ t) (is : type ≡ ty.Result j) (d : IsDefined t2 (ty.Result j) (ResultType ok error)) where
   abbrev good : Option Shape
   good = payload_in (all_shapes t) ok
 
@@ -117,14 +117,14 @@ module _ (t t2 : Table) (j : ℕ) (type : InterfaceType) (ok error : Option Inte
   bad = payload_in (all_shapes t) error
 
   pub result_shape : shape_of t type ≡ result_of good bad
-  result_shape = ap (shape_of t) is ∙ subst (λ (x : Table). shape_of x (ty.Result j) ≡ result_of (payload_in (all_shapes x) ok) (payload_in (all_shapes x) error)) same d.shape
+  result_shape = ap (shape_of t) is ∙ subst (λ (x : TypeTable). shape_of x (ty.Result j) ≡ result_of (payload_in (all_shapes x) ok) (payload_in (all_shapes x) error)) same d.shape
 
   pub result_cases : (info : VariantInfo) (memory : List ℕ) (at : ℕ) → HasInfo info (variant_cases (shape_of t2 (ty.Result j))) → at % align false (shape_of t type) ≡ 0 → at + size false (shape_of t type) ≤ length memory
       → IsOfCases (shape_of t type) info memory at
   result_cases info memory at numbers aligned inside = record {
     kind = of_result;
     is = result_shape ∙ ap (λ cs. variant of_result cs) (sym (ap variant_cases result_shape));
-    numbers = subst (λ x. HasInfo info (variant_cases (shape_of t x))) (sym is) (subst (λ (x : Table). HasInfo info (variant_cases (shape_of x (ty.Result j)))) same numbers);
+    numbers = subst (λ x. HasInfo info (variant_cases (shape_of t x))) (sym is) (subst (λ (x : TypeTable). HasInfo info (variant_cases (shape_of x (ty.Result j)))) same numbers);
     aligned = aligned;
     inside = inside;
   }
@@ -139,10 +139,10 @@ module _ (t t2 : Table) (j : ℕ) (type : InterfaceType) (ok error : Option Inte
   error_payload = sym (second_shape good (case_for bad no_cases)) ∙ sym (ap (λ (z : Shape). payload_shape (variant_cases z) 1) result_shape)
 
   pub ok_known : KnowsPayload t ok
-  ok_known = known_first t ok error (subst (λ (x : Table). All (Knows x) (option_to_list ok ++ option_to_list error)) same d.known)
+  ok_known = known_first t ok error (subst (λ (x : TypeTable). All (Knows x) (option_to_list ok ++ option_to_list error)) same d.known)
 
   pub error_known : KnowsPayload t error
-  error_known = known_second t ok error (subst (λ (x : Table). All (Knows x) (option_to_list ok ++ option_to_list error)) same d.known)
+  error_known = known_second t ok error (subst (λ (x : TypeTable). All (Knows x) (option_to_list ok ++ option_to_list error)) same d.known)
 
 -- ---- maps
 
@@ -154,11 +154,12 @@ pub record IsPairThere (Key Value : Instance → InterfaceType → Type 0) (i : 
   pub key_fits : Key i key
   pub value_fits : Value i value
 
-pub map_there : (Key Value : Instance → InterfaceType → Type 0) (i : Instance) (t2 : Table) (j : ℕ) (type key value : InterfaceType) → t2 ≡ i.types → type ≡ ty.Map j → IsDefined t2 (ty.Map j) (MapType key value) → IsMapOf Key Value i type
+pub map_there : (Key Value : Instance → InterfaceType → Type 0) (i : Instance) (t2 : TypeTable) (j : ℕ) (type key value : InterfaceType) → t2 ≡ i.types → type ≡ ty.Map j → IsDefined t2 (ty.Map j) (MapType key value)
+    → IsMapOf Key Value i type
     → IsPairThere Key Value i type key value
 map_there Key Value i t2 j type key value same is d f =
     let (k, v, d2, fits, fits2) = subst (λ x. IsMapOf Key Value i x) is f in
-    let here = subst (λ (x : Table). IsDefined x (ty.Map j) (MapType key value)) same d in
+    let here = subst (λ (x : TypeTable). IsDefined x (ty.Map j) (MapType key value)) same d in
     let both : Some (MapType k v) ≡ Some (MapType key value) = sym d2.definition ∙ here.definition in
     let one : k ≡ key = cc in
     let two : v ≡ value = cc in
@@ -171,9 +172,9 @@ map_there Key Value i t2 j type key value same is d f =
     }
 
 -- its numbers
-module _ (t t2 : Table) (j : ℕ) (type key value : InterfaceType) (m : TypeMap) (same : t2 ≡ t) (is : type ≡ ty.Map j) (shape : shape_of t type ≡ map_of (shape_of t key) (shape_of t value)) (h : HasPair m (shape_of t2 (ty.Map j))) where
+module _ (t t2 : TypeTable) (j : ℕ) (type key value : InterfaceType) (m : TypeMap) (same : t2 ≡ t) (is : type ≡ ty.Map j) (shape : shape_of t type ≡ map_of (shape_of t key) (shape_of t value)) (h : HasPair m (shape_of t2 (ty.Map j))) where
   numbers : HasPair m (map_of (shape_of t key) (shape_of t value))
-  numbers = subst (λ (z : Shape). HasPair m z) shape (subst (λ x. HasPair m (shape_of t x)) (sym is) (subst (λ (x : Table). HasPair m (shape_of x (ty.Map j))) same h))
+  numbers = subst (λ (z : Shape). HasPair m z) shape (subst (λ x. HasPair m (shape_of t x)) (sym is) (subst (λ (x : TypeTable). HasPair m (shape_of x (ty.Map j))) same h))
 
   pub map_layout : HasLayout m.entry_abi (tuple (shape_of t key ∷ shape_of t value ∷ []))
   map_layout = numbers.abi

@@ -17,12 +17,13 @@ use Rattle.canon_model.specs.Reach.{Kind}
 use Rattle.canon_model.specs.Shape.{Members, Name, Shape, member, of_places, product}
 use Rattle.canon_types.specs.Instance.{Instance}
 use Rattle.canon_types.specs.Table as table
-use Rattle.canon_types.specs.Table.{Table, members_of, shape_of}
+use Rattle.canon_types.specs.Table.{TypeTable, members_of, shape_of}
 use Rattle.canon_types.specs.declared.types.InterfaceType.{InterfaceType}
 use Rattle.canon_types.specs.declared.types.InterfaceType.TheVariants as ty
 use Rattle.std.specs.Option.{option_map_or}
 use Rattle.canon_typed.specs.Types.{AreOf, IsTupleOf}
-use Rattle.canon_reading.specs.Reading.{AreTaken, Lifts, NamedBy, Reading, Refused, Setting, setting_in, stop_of}
+use Rattle.canon_reading.specs.Reading.{AreTaken, Lifts, NamedBy, Reading, Refused, Setting, setting_in}
+use Rattle.canon_context.specs.Faults.{stop_of}
 use Rattle.canon_reading.specs.Readings.{RestReading, first_reading}
 use Rattle.canon_reading.specs.Rests.{rest_reading}
 use Rattle.canon_reading.specs.Spots.{Rest, Spot, first_spot, flat_from, flat_in, others, stored, stored_from}
@@ -46,7 +47,7 @@ some_left F fs i (x ∷ xs) zero h = omega arith
 some_left F fs i (x ∷ xs) (suc k) h = omega (arith, some_left F fs i xs k h)
 
 -- of a tuple, by its look-up
-pub next_of_tuple : (t t2 : Table) (i k : ℕ) (items : List InterfaceType) (x : InterfaceType) (F : Instance → InterfaceType → Type 0) (fs : List (Instance → InterfaceType → Type 0)) (j : Instance) → t2 ≡ t → items ≡ table.types_of t2 i → x ≡ slice_index_or items k x
+pub next_of_tuple : (t t2 : TypeTable) (i k : ℕ) (items : List InterfaceType) (x : InterfaceType) (F : Instance → InterfaceType → Type 0) (fs : List (Instance → InterfaceType → Type 0)) (j : Instance) → t2 ≡ t → items ≡ table.types_of t2 i → x ≡ slice_index_or items k x
     → AreOf (F ∷ fs) j (drop k (table.types_of t i)) → drop k (table.types_of t i) ≡ x ∷ drop (k + 1) (table.types_of t i)
 next_of_tuple t t2 i k items x F fs j same are is h =
     let all : items ≡ table.types_of t i = are ∙ ap (λ z. table.types_of z i) same in
@@ -58,7 +59,7 @@ next_of_tuple t t2 i k items x F fs j same are is h =
 aligned_part : (a x y : ℕ) → IsAlignment x → IsAlignment y → x ≤ y → a % y ≡ 0 → a % x ≡ 0
 aligned_part a x y p q h e = mod-eq-zero_of_dvd x (dvd_trans x (align-dvd-align x y p q h) (dvd_of_mod-eq-zero y e))
 
-module _ (t : Table) (types more : List InterfaceType) (type : InterfaceType) (split : types ≡ type ∷ more) (at end : ℕ) where
+module _ (t : TypeTable) (types more : List InterfaceType) (type : InterfaceType) (split : types ≡ type ∷ more) (at end : ℕ) where
   abbrev s : Shape
   s = shape_of t type
 
@@ -96,9 +97,9 @@ module _ (t : Table) (types more : List InterfaceType) (type : InterfaceType) (s
         let one : at % align false s ≡ 0 = aligned_part at (align false s) (members_align false (member [] s rest)) (alignment false s) (members_alignment false (member [] s rest)) (omega arith) whole_aligned in
         mod-eq-zero_of_dvd (align false s) (dvd-add (align false s) (dvd_of_mod-eq-zero (align false s) one) (align_to-dvd end (align false s)))
 
-    module _ (t2 : Table) (abi : CanonicalAbiInfo) (same : t2 ≡ t) (layout : HasLayout abi (shape_of t2 type)) where
+    module _ (t2 : TypeTable) (abi : CanonicalAbiInfo) (same : t2 ≡ t) (layout : HasLayout abi (shape_of t2 type)) where
       here : HasLayout abi s
-      here = subst (λ (x : Table). HasLayout abi (shape_of x type)) same layout
+      here = subst (λ (x : TypeTable). HasLayout abi (shape_of x type)) same layout
 
       starts_so : align_to end abi.align32 ≡ begins false end s
       starts_so = ap (align_to end) here.align

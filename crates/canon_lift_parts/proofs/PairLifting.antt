@@ -12,7 +12,7 @@ use Rattle.canon_lowering.proofs.Copying.{begins-same}
 use Rattle.canon_model.proofs.Layouts.{members_end-le-size}
 use Rattle.canon_model.specs.Layout.{align, begins, ends, members_align, members_end, size}
 use Rattle.canon_model.specs.Shape.{Shape, member, no_members, of_places, tuple}
-use Rattle.canon_types.specs.Table.{Table, members_of, shape_of}
+use Rattle.canon_types.specs.Table.{TypeTable, members_of, shape_of}
 use Rattle.canon_types.specs.declared.types.InterfaceType.{InterfaceType}
 use Rattle.canon_typed.specs.Maps.{IsFilledWith}
 use Rattle.canon_reading.specs.Items.{vec_reading}
@@ -28,7 +28,7 @@ starts-at-zero s = begins-same false 0 s (dvd_of_mod-eq-zero (align false s) (ze
 
 -- ---- where they stand
 
-module _ (t : Table) (key value : InterfaceType) (memory : List ℕ) (at : ℕ) where
+module _ (t : TypeTable) (key value : InterfaceType) (memory : List ℕ) (at : ℕ) where
   abbrev s : Shape
   s = shape_of t key
 

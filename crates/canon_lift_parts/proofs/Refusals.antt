@@ -12,7 +12,8 @@ use Rattle.canon_ledger.specs.declared.fault.ResourceFault.{ResourceFault}
 use Rattle.canon_model.specs.Reach as reach
 use Rattle.canon_model.specs.Reach.{Kind}
 use Rattle.canon_model.specs.Shape.{Shape}
-use Rattle.canon_reading.specs.Reading.{NamedBy, Reading, Refused, Setting, stop_of}
+use Rattle.canon_reading.specs.Reading.{NamedBy, Reading, Refused, Setting}
+use Rattle.canon_context.specs.Faults.{stop_of}
 use Rattle.canon_reading.specs.Spots.{Spot, flat_in, stored}
 
 -- ---- places

@@ -6,7 +6,7 @@ use Rattle.canon_model.proofs.Layouts.{elements_fit}
 use Rattle.canon_model.specs.Layout.{align, size}
 use Rattle.canon_context.specs.Core.{Parts, component_types}
 use Rattle.canon_model.specs.Shape.{Shape}
-use Rattle.canon_types.specs.Table.{Table, shape_of}
+use Rattle.canon_types.specs.Table.{TypeTable, shape_of}
 use Rattle.canon_types.specs.declared.types.InterfaceType.{InterfaceType}
 use Rattle.canon_reading.specs.Reading.{setting_in}
 
@@ -18,15 +18,15 @@ module _ {D G : Type 0} (core now : Parts D G) (same : now ≡ record core { led
   same_types = ap (λ (c : Parts D G). component_types c) same
 
   pub same_shape : (type : InterfaceType) → shape_of (component_types now) type ≡ shape_of (component_types core) type
-  same_shape type = ap (λ (t : Table). shape_of t type) same_types
+  same_shape type = ap (λ (t : TypeTable). shape_of t type) same_types
 
 -- what a look-up gave of a type's size and alignment
-module _ (t t2 : Table) (type : InterfaceType) (abi : CanonicalAbiInfo) (same : t2 ≡ t) (layout : HasLayout abi (shape_of t2 type)) where
+module _ (t t2 : TypeTable) (type : InterfaceType) (abi : CanonicalAbiInfo) (same : t2 ≡ t) (layout : HasLayout abi (shape_of t2 type)) where
   pub looked_up_size : (n : ℕ) → n ≡ abi.size32 → n ≡ size false (shape_of t type)
-  looked_up_size n is = is ∙ layout.size ∙ ap (λ (x : Table). size false (shape_of x type)) same
+  looked_up_size n is = is ∙ layout.size ∙ ap (λ (x : TypeTable). size false (shape_of x type)) same
 
   pub looked_up_align : (n : ℕ) → n ≡ abi.align32 → n ≡ align false (shape_of t type)
-  looked_up_align n is = is ∙ layout.align ∙ ap (λ (x : Table). align false (shape_of x type)) same
+  looked_up_align n is = is ∙ layout.align ∙ ap (λ (x : TypeTable). align false (shape_of x type)) same
 
 pub element_aligned : (s : Shape) (a i : ℕ) → a % align false s ≡ 0 → (a + i * size false s) % align false s ≡ 0
 unfolding align

@@ -5,7 +5,7 @@ ghost use Rattle.canon_context.specs.Core.{component_types};
 ghost use Rattle.canon_leaves.specs.Parts.{Part};
 ghost use Rattle.canon_lower_parts.specs.Gives.{row_gives};
 ghost use Rattle.canon_lower_parts.specs.Stores.{TypedMembersStore, TypedStores};
-ghost use Rattle.canon_lower_parts.specs.Tuples.{member_type, members_after, types_from, types_in};
+ghost use Rattle.canon_lower_parts.specs.Tuples.{member_type, members_after, types_from, types_of_tuple};
 ghost use Rattle.canon_lower_parts.specs.Words.{TypedLowers, TypedMembersLower};
 ghost use Rattle.canon_value_parts.specs.Words.{WordsStay};
 ghost use Rattle.canon_model.specs.Layout.{begins, ends, flat, members_end, members_flat};
@@ -34,7 +34,7 @@ fn lower_member<A: Lower, D, G: Guest>(
     at: &mut usize,
 ) -> Result<(), Fault>
     requires known { Knows (component_types cx.old.core.now) ty.now }
-    requires member { k.old < length (types_in (component_types cx.old.core.now) ty.now) }
+    requires member { k.old < length (types_of_tuple (component_types cx.old.core.now) ty.now) }
     requires fits { A.fits cx.old.core.now.component.types (member_type (component_types cx.old.core.now) ty.now k.old) }
     requires room { at.old + flat (shape_of (component_types cx.old.core.now) (member_type (component_types cx.old.core.now) ty.now k.old)) ≤ length dst.old }
     ensures lowers { TypedLowers G.seen G.moves cx.old.options cx.old.core.now cx.new.core.now (shape_of (component_types cx.old.core.now) (member_type (component_types cx.old.core.now) ty.now k.old)) dst.new at.old (A.walks value.old)
@@ -60,7 +60,7 @@ fn store_member<A: Lower, D, G: Guest>(
     end: &mut u64,
 ) -> Result<(), Fault>
     requires known { Knows (component_types cx.old.core.now) ty.now }
-    requires member { k.old < length (types_in (component_types cx.old.core.now) ty.now) }
+    requires member { k.old < length (types_of_tuple (component_types cx.old.core.now) ty.now) }
     requires fits { A.fits cx.old.core.now.component.types (member_type (component_types cx.old.core.now) ty.now k.old) }
     requires room { at + ends false end.old (shape_of (component_types cx.old.core.now) (member_type (component_types cx.old.core.now) ty.now k.old)) ≤ length cx.old.core.now.memory }
     ensures stores { TypedStores G.seen G.moves cx.old.options cx.old.core.now cx.new.core.now (shape_of (component_types cx.old.core.now) (member_type (component_types cx.old.core.now) ty.now k.old))

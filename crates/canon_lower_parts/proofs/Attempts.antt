@@ -13,7 +13,8 @@ use Rattle.canon_ledger.specs.Ledger.{LedgerState}
 use Rattle.canon_value_parts.proofs.Passing.{handles_then, no_stop}
 use Rattle.canon_lower_parts.specs.Blames.{IsElsewhere}
 use Rattle.canon_lower_parts.specs.Lowers.{EndsBy, HandlesCross, TypedAttempt}
-use Rattle.canon_value_parts.specs.Resources.{ledger_fault, stop_of}
+use Rattle.canon_value_parts.specs.Resources.{ledger_fault}
+use Rattle.canon_context.specs.Faults.{stop_of}
 use Rattle.canon_lowering.proofs.Attempts.{attempt_other}
 use Rattle.canon_lowering.proofs.Lowerings.{NotDone}
 use Rattle.canon_lowering.specs.Attempt.{Aim, Attempt}

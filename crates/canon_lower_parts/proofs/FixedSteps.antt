@@ -11,7 +11,7 @@ use Rattle.canon_model.specs.Layout.{size}
 use Rattle.canon_model.specs.Shape.{Shape, fixed}
 use Rattle.canon_model.specs.Tree.{Tree}
 use Rattle.canon_types.specs.Instance.{Instance}
-use Rattle.canon_types.specs.Table.{FixedListType, IsDefined, Table, shape_of}
+use Rattle.canon_types.specs.Table.{FixedListType, IsDefined, TypeTable, shape_of}
 use Rattle.canon_types.specs.declared.types.InterfaceType.{InterfaceType}
 use Rattle.canon_types.specs.declared.types.InterfaceType.TheVariants as ty
 use Rattle.canon_typed.specs.Meaning.{EachMeans, RowMeans}
@@ -31,10 +31,11 @@ same_item x y n m e = cc
 same_count : (x y : InterfaceType) (n m : ℕ) → Some (FixedListType x n) ≡ Some (FixedListType y m) → n ≡ m
 same_count x y n m e = cc
 
-pub fixed_found : (count : ℕ) (Fits : Instance → InterfaceType → Type 0) (i : Instance) (t2 : Table) (type : InterfaceType) (j : ℕ) (element : InterfaceType) (n : ℕ) → t2 ≡ i.types → type ≡ ty.FixedLengthList j → IsFixedOf count Fits i type
+pub fixed_found : (count : ℕ) (Fits : Instance → InterfaceType → Type 0) (i : Instance) (t2 : TypeTable) (type : InterfaceType) (j : ℕ) (element : InterfaceType) (n : ℕ) → t2 ≡ i.types → type ≡ ty.FixedLengthList j
+    → IsFixedOf count Fits i type
     → IsDefined t2 (ty.FixedLengthList j) (FixedListType element n) → IsElementOf (λ s. fixed count s) Fits i type element
 fixed_found count Fits i t2 type j element n e is fits defined =
-    let here : IsDefined i.types (ty.FixedLengthList j) (FixedListType element n) = subst (λ (x : Table). IsDefined x (ty.FixedLengthList j) (FixedListType element n)) e defined in
+    let here : IsDefined i.types (ty.FixedLengthList j) (FixedListType element n) = subst (λ (x : TypeTable). IsDefined x (ty.FixedLengthList j) (FixedListType element n)) e defined in
     let (some, (other, d, f)) = subst (IsFixedOf count Fits i) is fits in
     let both = sym d.definition ∙ here.definition in
     subst (λ (x : InterfaceType). IsElementOf (λ s. fixed count s) Fits i x element) (sym is) (record {

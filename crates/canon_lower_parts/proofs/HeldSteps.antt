@@ -2,7 +2,7 @@
 use Rattle.std.proofs.Common.{◌≡◌, ◌∙◌, ◌∷◌, ◌⊎◌, Bool, Err, List, None, Ok, Option, Result, [], ap, false, if◌then◌else◌, inl, inr, refl, subst, sym, true, zero, ℕ}
 use Rattle.canon_handles.specs.Step.{and_then}
 use Rattle.canon_leaves.proofs.Moves.{moves_both, moves_one}
-use Rattle.canon_leaves.specs.Parts.{LeafMoves, Part, Stops, Takes, borrow_parts, do_part, host_own, is_defined_here, is_of_type, lend_host, lend_inserted, lower_parts, own_in, passed, refusal_of, refuse, table_for, tell}
+use Rattle.canon_leaves.specs.Parts.{LeafMoves, Part, Stops, TakesParts, borrow_parts, do_part, host_own, is_defined_here, is_of_type, lend_host, lend_inserted, lower_parts, own_in, passed, refusal_of, refuse, table_for, tell}
 use Rattle.canon_handles.specs.declared.handle.TypedResource.TheVariants.{Component, Host}
 use Rattle.canon_ledger.specs.Handles as handles
 use Rattle.canon_ledger.specs.Handles.{StepAnswer, host_table, top_scope}
@@ -101,8 +101,8 @@ module _ (rep : ℕ) (l m : LedgerState) (x : GivenIndex) (inserted : Did (given
   same_step : do_step (HostLiftBorrow (top_scope m.handles) x) m ≡ do_part x.index lend_inserted m
   same_step = ap (λ (y : GivenIndex). do_step (HostLiftBorrow (top_scope m.handles) y) m) index
 
-  takes : (rest : List Part) (answers : List ℕ) (n : LedgerState) → Takes x.index m (lend_host x ∷ rest) answers n → Takes x.index m (lend_inserted ∷ rest) answers n
-  takes rest answers n h = subst (λ (d : Done ℕ). (a : ℕ) × (more : List ℕ) × (answers ≡ a ∷ more) × (d.answer ≡ Ok a) × Takes a d.after rest more n) same_step h
+  takes : (rest : List Part) (answers : List ℕ) (n : LedgerState) → TakesParts x.index m (lend_host x ∷ rest) answers n → TakesParts x.index m (lend_inserted ∷ rest) answers n
+  takes rest answers n h = subst (λ (d : Done ℕ). (a : ℕ) × (more : List ℕ) × (answers ≡ a ∷ more) × (d.answer ≡ Ok a) × TakesParts a d.after rest more n) same_step h
 
   stops : (why : Option ResourceFault) (rest : List Part) (n : LedgerState) → Stops why x.index m (lend_host x ∷ rest) n → Stops why x.index m (lend_inserted ∷ rest) n
   stops why rest n h = subst (λ (d : Done ℕ). ((why ≡ None) × (n ≡ m)) ⊎ ((e : ResourceFault) × (why ≡ refusal_of e) × (d.answer ≡ Err e) × (n ≡ d.after)) ⊎ ((a : ℕ) × (d.answer ≡ Ok a) × Stops why a d.after rest n)) same_step h
@@ -110,7 +110,7 @@ module _ (rep : ℕ) (l m : LedgerState) (x : GivenIndex) (inserted : Did (given
   pub lent_after : (rest : List Part) (n : LedgerState) (q : Result ℕ ResourceFault) → LeafMoves m n (lend_host x ∷ rest) q → LeafMoves l n (tell rep ∷ host_own None None ∷ lend_inserted ∷ rest) q
   lent_after rest n (Ok h) k = record {
     answers = rep ∷ x.index ∷ k.answers;
-    takes = λ last. (rep, x.index ∷ k.answers, refl, refl, (x.index, k.answers, refl, answered, subst (λ (z : LedgerState). Takes x.index z (lend_inserted ∷ rest) k.answers n) inserted.1 (takes rest k.answers n (k.takes x.index))));
+    takes = λ last. (rep, x.index ∷ k.answers, refl, refl, (x.index, k.answers, refl, answered, subst (λ (z : LedgerState). TakesParts x.index z (lend_inserted ∷ rest) k.answers n) inserted.1 (takes rest k.answers n (k.takes x.index))));
     handle = λ last. k.handle x.index;
   }
   lent_after rest n (Err e) k = λ last. inr (inr (rep, refl, inr (inr (x.index, answered, subst (λ (z : LedgerState). Stops (refusal_of e) x.index z (lend_inserted ∷ rest) n) inserted.1 (stops (refusal_of e) rest n (k x.index))))))

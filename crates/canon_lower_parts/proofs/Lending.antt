@@ -13,7 +13,7 @@ use Rattle.canon_handles.specs.declared.handle.TypedResource.{TypedResource}
 use Rattle.canon_handles.specs.declared.handle.TypedResource.TheVariants.{Component, Host}
 use Rattle.canon_handles.specs.declared.handle.TypedResourceIndex.{TypedResourceIndex}
 use Rattle.canon_handles.specs.declared.handle.TypedResourceIndex.TheVariants.{Host as HostIndex}
-use Rattle.canon_leaves.specs.Parts.{LeafMoves, Part, Stops, Takes, borrow_in, borrow_parts, do_part, is_defined_here, is_of_type, lend_host, lower_parts, passed, refusal_of, refuse, table_for}
+use Rattle.canon_leaves.specs.Parts.{LeafMoves, Part, Stops, TakesParts, borrow_in, borrow_parts, do_part, is_defined_here, is_of_type, lend_host, lower_parts, passed, refusal_of, refuse, table_for}
 use Rattle.canon_ledger.specs.Handles as handles
 use Rattle.canon_ledger.specs.Handles.{Handles, Lender, StepAnswer, borrow_added, finished, host_table, lent, table_at, top_scope}
 use Rattle.canon_ledger.specs.Index.{GivenIndex}
@@ -135,7 +135,7 @@ abbrev AllGrow : List Part → Type 0
 AllGrow [] = ⊤
 AllGrow (p ∷ ps) = Grows p × AllGrow ps
 
-takes_more : (last : ℕ) (l : LedgerState) (ps : List Part) (answers : List ℕ) (l2 : LedgerState) → AllGrow ps → Takes last l ps answers l2 → live l ≤ live l2
+takes_more : (last : ℕ) (l : LedgerState) (ps : List Part) (answers : List ℕ) (l2 : LedgerState) → AllGrow ps → TakesParts last l ps answers l2 → live l ≤ live l2
 takes_more last l [] answers l2 g (e, same) = omega (arith, ap live same)
 takes_more last l (p ∷ ps) answers l2 (g, gs) (a, rest, e, ok, t) = omega (arith, g last l, takes_more a (do_part last p l).after ps rest l2 gs t)
 

@@ -13,7 +13,7 @@ use Rattle.canon_model.specs.Shape.{ListKind, Shape, list, of_items}
 use Rattle.canon_model.specs.Text.{Encoding}
 use Rattle.canon_model.specs.Tree.{Tree, tree_count, trees_of}
 use Rattle.canon_types.specs.Instance.{Instance}
-use Rattle.canon_types.specs.Table.{IsDefined, Knows, ListType, Table, shape_of}
+use Rattle.canon_types.specs.Table.{IsDefined, Knows, ListType, TypeTable, shape_of}
 use Rattle.canon_types.specs.declared.types.InterfaceType.{InterfaceType}
 use Rattle.canon_types.specs.declared.types.InterfaceType.TheVariants as ty
 use Rattle.canon_typed.specs.Meaning.{EachMeans, ListMeans}
@@ -24,17 +24,17 @@ use Rattle.canon_value_parts.proofs.Passing.{handles_instance, same_handles}
 use Rattle.canon_lower_parts.specs.Blames.{IsTooLarge}
 use Rattle.canon_lower_parts.specs.Gives.{item_shape}
 use Rattle.canon_lower_parts.specs.Lists.{IsElementOf}
-use Rattle.canon_lower_parts.specs.Places.{IsGivenBlock, IsNoBlock, IsPairPut, IsPlacedPut, TypedPlaces, without}
+use Rattle.canon_lower_parts.specs.Places.{IsGivenBlock, IsNoBlock, IsPairPut, IsPlacedPut, TypedPlaces, without_value}
 use Rattle.canon_lower_parts.specs.Stores.{TypedMembersStore, TypedStores}
 use Rattle.canon_lower_parts.specs.declared.blocks.Placed.{Placed}
 
 same_list : (x y : InterfaceType) → Some (ListType x) ≡ Some (ListType y) → x ≡ y
 same_list x y e = cc
 
-pub list_found : (Fits : Instance → InterfaceType → Type 0) (i : Instance) (t2 : Table) (type : InterfaceType) (j : ℕ) (element : InterfaceType) → t2 ≡ i.types → type ≡ ty.List j → IsListOf Fits i type → IsDefined t2 (ty.List j) (ListType element)
+pub list_found : (Fits : Instance → InterfaceType → Type 0) (i : Instance) (t2 : TypeTable) (type : InterfaceType) (j : ℕ) (element : InterfaceType) → t2 ≡ i.types → type ≡ ty.List j → IsListOf Fits i type → IsDefined t2 (ty.List j) (ListType element)
     → IsElementOf (λ s. list of_items s) Fits i type element
 list_found Fits i t2 type j element e is fits defined =
-    let here : IsDefined i.types (ty.List j) (ListType element) = subst (λ (x : Table). IsDefined x (ty.List j) (ListType element)) e defined in
+    let here : IsDefined i.types (ty.List j) (ListType element) = subst (λ (x : TypeTable). IsDefined x (ty.List j) (ListType element)) e defined in
     let (other, d, f) = subst (IsListOf Fits i) is fits in
     subst (λ (x : InterfaceType). IsElementOf (λ s. list of_items s) Fits i x element) (sym is) (record {
       shape = here.shape;
@@ -139,6 +139,7 @@ module _ {D G : Type 0} (L : GuestLaws G) (options : ℕ) (a b : Parts D G) (z s
   list_stops : (e : Fault) → TypedPlaces L.seen L.moves options a b z Has gs (Err e) → TypedStores L.seen L.moves options a b z at Has gs (Err e)
   list_stops e h = placed_stops L options a b z at Has gs e (list_blocks z s k shape) h
 
-  pub list_done : (c : Parts D G) (r : Result Placed Fault) (q : Result (Unit {0}) Fault) → q ≡ without r → IsPlacedPut b c at r → TypedPlaces L.seen L.moves options a b z Has gs r → TypedStores L.seen L.moves options a c z at Has gs q
+  pub list_done : (c : Parts D G) (r : Result Placed Fault) (q : Result (Unit {0}) Fault) → q ≡ without_value r → IsPlacedPut b c at r → TypedPlaces L.seen L.moves options a b z Has gs r
+      → TypedStores L.seen L.moves options a c z at Has gs q
   list_done c (Ok x) q e w h = subst (λ (y : Result (Unit {0}) Fault). TypedStores L.seen L.moves options a c z at Has gs y) (sym e) (list_stores c x h w)
   list_done c (Err f) q e w h = subst (λ (y : Result (Unit {0}) Fault). TypedStores L.seen L.moves options a c z at Has gs y) (sym e) (subst (λ (x : Parts D G). TypedStores L.seen L.moves options a x z at Has gs (Err f)) (sym w) (list_stops f h))

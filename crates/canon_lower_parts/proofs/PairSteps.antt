@@ -6,7 +6,7 @@ use Rattle.canon_context.specs.declared.fault.Fault.{Fault}
 use Rattle.canon_leaves.specs.Parts.{Part}
 use Rattle.canon_model.proofs.Layouts.{members_end-le, members_end-le-size}
 use Rattle.canon_model.specs.Layout.{begins, ends, offset, size}
-use Rattle.canon_model.specs.Shape.{Members, Shape, member, no_members, of_places, tuple, tuple_members}
+use Rattle.canon_model.specs.Shape.{Members, Shape, member, no_members, of_places, tuple, unnamed_members}
 use Rattle.canon_model.specs.Tree.{Tree}
 use Rattle.canon_typed.specs.Meaning.{FirstAnd, NoTrees, ProductMeans}
 use Rattle.canon_lower_parts.proofs.MemberSteps.{begins_zero, members_end as members_stop, members_last, members_more, product_stores}
@@ -45,5 +45,5 @@ module _ (s u : Shape) where
         (members_stop L options a b s (member [] u no_members) 0 at Has (FirstAnd Has2 NoTrees) gs (fs ++ []) e (subst (λ (n : ℕ). TypedStores L.seen L.moves options a b s n Has gs (Err e)) first_place h))
 
 -- where a value begins in a pair
-pub second_place : (s u : Shape) → offset false (tuple_members (s ∷ u ∷ [])) 1 ≡ begins false (ends false 0 s) u
+pub second_place : (s u : Shape) → offset false (unnamed_members (s ∷ u ∷ [])) 1 ≡ begins false (ends false 0 s) u
 second_place s u = refl

@@ -11,7 +11,7 @@ use Rattle.canon_model.specs.Shape.{Cases, Shape, case_count, case_for, no_cases
 use Rattle.canon_model.specs.Tree.{Tree}
 use Rattle.canon_types.specs.Depth.{variant_cases}
 use Rattle.canon_types.specs.Instance.{Instance}
-use Rattle.canon_types.specs.Table.{IsDefined, KnowsPayload, ResultType, Table, all_shapes, payload_in, shape_of}
+use Rattle.canon_types.specs.Table.{IsDefined, KnowsPayload, ResultType, TypeTable, all_shapes, payload_in, shape_of}
 use Rattle.canon_types.specs.declared.types.InterfaceType.{InterfaceType}
 use Rattle.canon_types.specs.declared.types.InterfaceType.TheVariants as ty
 use Rattle.canon_typed.proofs.Layouts.{error_known, ok_known}
@@ -32,15 +32,15 @@ same_first a b c d e = cc
 same_second : (a b c d : Option InterfaceType) → Some (ResultType a b) ≡ Some (ResultType c d) → b ≡ d
 same_second a b c d e = cc
 
-pick_known : (t : Table) (d : ℕ) (a b : Option InterfaceType) → KnowsPayload t a → KnowsPayload t b → KnowsPayload t (pick d a b)
+pick_known : (t : TypeTable) (d : ℕ) (a b : Option InterfaceType) → KnowsPayload t a → KnowsPayload t b → KnowsPayload t (pick d a b)
 pick_known t zero a b h k = h
 pick_known t (suc d) a b h k = k
 
-pub result_put : {D G : Type 0} (unit : Bool) (F : Instance → InterfaceType → Type 0) (unit2 : Bool) (F2 : Instance → InterfaceType → Type 0) (a b : Parts D G) (t2 : Table) (type : InterfaceType) (j : ℕ) (first second part : Option InterfaceType) (at d place : ℕ)
+pub result_put : {D G : Type 0} (unit : Bool) (F : Instance → InterfaceType → Type 0) (unit2 : Bool) (F2 : Instance → InterfaceType → Type 0) (a b : Parts D G) (t2 : TypeTable) (type : InterfaceType) (j : ℕ) (first second part : Option InterfaceType) (at d place : ℕ)
     → t2 ≡ component_types a → type ≡ ty.Result j → IsResultOf unit F unit2 F2 a.component.types type → IsDefined t2 (ty.Result j) (ResultType first second) → part ≡ pick d first second
     → IsCasePut a b (variant_cases (shape_of (component_types a) (ty.Result j))) at d place → IsResultPut unit F unit2 F2 a b type at d part place
 result_put unit F unit2 F2 a b t2 type j first second part at d place e is fits defined picked put =
-    let here : IsDefined (component_types a) (ty.Result j) (ResultType first second) = subst (λ (x : Table). IsDefined x (ty.Result j) (ResultType first second)) e defined in
+    let here : IsDefined (component_types a) (ty.Result j) (ResultType first second) = subst (λ (x : TypeTable). IsDefined x (ty.Result j) (ResultType first second)) e defined in
     let (ok, error, def, f, f2) = subst (IsResultOf unit F unit2 F2 a.component.types) is fits in
     subst (λ (x : InterfaceType). IsResultPut unit F unit2 F2 a b x at d part place) (sym is) (record {
       first = first;
@@ -56,7 +56,7 @@ result_put unit F unit2 F2 a b t2 type j first second part at d place e is fits 
 -- ---- payloads
 
 -- the payload of a case by its type
-payload_as : (t : Table) (unit : Bool) (F : Instance → InterfaceType → Type 0) (i : Instance) (p : Option InterfaceType) (cs : Cases) →
+payload_as : (t : TypeTable) (unit : Bool) (F : Instance → InterfaceType → Type 0) (i : Instance) (p : Option InterfaceType) (cs : Cases) →
     IsPayloadOf unit F i p → (case_members (case_for (payload_in (all_shapes t) p) cs) 0 ≡ payload_members (unless_unit unit (payload_type t p))) ×
     (payload_shape (case_for (payload_in (all_shapes t) p) cs) 0 ≡ payload_type t p)
 payload_as t true F i None cs h = (refl, refl)
@@ -64,7 +64,7 @@ payload_as t false F i (Some type) cs h = (refl, refl)
 payload_as t true F i (Some type) cs h = absurd h
 payload_as t false F i None cs h = absurd h
 
-later_as : (t : Table) (q : Option InterfaceType) (cs : Cases) (d : ℕ) → (case_members (case_for (payload_in (all_shapes t) q) cs) (suc d) ≡ case_members cs d) × (payload_shape (case_for (payload_in (all_shapes t) q) cs) (suc d) ≡ payload_shape cs d)
+later_as : (t : TypeTable) (q : Option InterfaceType) (cs : Cases) (d : ℕ) → (case_members (case_for (payload_in (all_shapes t) q) cs) (suc d) ≡ case_members cs d) × (payload_shape (case_for (payload_in (all_shapes t) q) cs) (suc d) ≡ payload_shape cs d)
 later_as t None cs d = (refl, refl)
 later_as t (Some type) cs d = (refl, refl)
 
@@ -72,7 +72,7 @@ gives_as : {A : Type 0} (unit : Bool) (gives : Instance → Shape → A → List
 gives_as true gives d i s x = refl
 gives_as false gives d i s x = refl
 
-count_two : (t : Table) (p q : Option InterfaceType) → case_count (case_for (payload_in (all_shapes t) p) (case_for (payload_in (all_shapes t) q) no_cases)) ≡ 2
+count_two : (t : TypeTable) (p q : Option InterfaceType) → case_count (case_for (payload_in (all_shapes t) p) (case_for (payload_in (all_shapes t) q) no_cases)) ≡ 2
 count_two t None None = refl
 count_two t None (Some y) = refl
 count_two t (Some x) None = refl
@@ -136,7 +136,7 @@ module _ {D G : Type 0} (unit : Bool) (F : Instance → InterfaceType → Type 0
   abbrev s : Shape
   s = shape_of (component_types a) type
 
-  first_shape : (t : Table) (p : Option InterfaceType) (cs : Cases) → payload_shape (case_for (payload_in (all_shapes t) p) cs) 0 ≡ payload_type t p
+  first_shape : (t : TypeTable) (p : Option InterfaceType) (cs : Cases) → payload_shape (case_for (payload_in (all_shapes t) p) cs) 0 ≡ payload_type t p
   first_shape t None cs = refl
   first_shape t (Some x) cs = refl
 

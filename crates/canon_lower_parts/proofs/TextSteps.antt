@@ -25,7 +25,7 @@ use Rattle.canon_lower_parts.proofs.BlockSteps.{placed_stops, text_put}
 use Rattle.canon_value_parts.proofs.Passing.{ledger_unless, same_handles, same_ledger}
 use Rattle.canon_lower_parts.proofs.TooLarge.{text_small}
 use Rattle.canon_lower_parts.specs.Blames.{HasLarge, IsElsewhere}
-use Rattle.canon_lower_parts.specs.Places.{IsPairPut, IsPlacedPut, TypedPlaces, without}
+use Rattle.canon_lower_parts.specs.Places.{IsPairPut, IsPlacedPut, TypedPlaces, without_value}
 use Rattle.canon_lower_parts.specs.Stores.{TypedStores}
 use Rattle.canon_lower_parts.specs.declared.blocks.Placed.{Placed}
 
@@ -126,7 +126,7 @@ module _ {D G : Type 0} (L : GuestLaws G) (options : ℕ) (a b : Parts D G) (typ
   text_stops : (e : Fault) → TypedPlaces L.seen L.moves options a b string Has gs (Err e) → TypedStores L.seen L.moves options a b (shape_of (component_types a) type) at Has gs (Err e)
   text_stops e h = subst (λ (s : Shape). TypedStores L.seen L.moves options a b s at Has gs (Err e)) (sym shape) (placed_stops L options a b string at Has gs e refl h)
 
-  pub text_done : (c : Parts D G) (r : Result Placed Fault) (q : Result (Unit {0}) Fault) → q ≡ without r → IsPlacedPut b c at r → TypedPlaces L.seen L.moves options a b string Has gs r → TypedStores L.seen L.moves options a c (shape_of (component_types a) type) at Has gs q
+  pub text_done : (c : Parts D G) (r : Result Placed Fault) (q : Result (Unit {0}) Fault) → q ≡ without_value r → IsPlacedPut b c at r → TypedPlaces L.seen L.moves options a b string Has gs r → TypedStores L.seen L.moves options a c (shape_of (component_types a) type) at Has gs q
   text_done c (Ok x) q e w h = subst (λ (y : Result (Unit {0}) Fault). TypedStores L.seen L.moves options a c (shape_of (component_types a) type) at Has gs y) (sym e) (text_stores c x h w)
   text_done c (Err f) q e w h = subst (λ (y : Result (Unit {0}) Fault). TypedStores L.seen L.moves options a c (shape_of (component_types a) type) at Has gs y) (sym e)
       (subst (λ (x : Parts D G). TypedStores L.seen L.moves options a x (shape_of (component_types a) type) at Has gs (Err f)) (sym w) (text_stops f h))

@@ -15,7 +15,7 @@ use Rattle.canon_model.specs.Layout.{begins, ends, members_end, size}
 use Rattle.canon_model.specs.Shape.{Members, Shape, member, no_members, of_places}
 use Rattle.canon_model.specs.Tree.{Tree, Trees}
 use Rattle.canon_types.specs.Instance.{Instance}
-use Rattle.canon_types.specs.Table.{Table, shape_of}
+use Rattle.canon_types.specs.Table.{TypeTable, shape_of}
 use Rattle.canon_types.specs.declared.types.InterfaceType.{InterfaceType}
 use Rattle.canon_typed.specs.Meaning.{FirstAnd, NoTrees, ProductMeans}
 use Rattle.canon_typed.specs.Types.{AreOf, IsTupleOf}
@@ -44,7 +44,7 @@ module _ {D G : Type 0} (L : GuestLaws G) (options : ℕ) (a : Parts D G) (type 
       room,
       ap (members_end false o) next.members,
       ap (λ (n : ℕ). members_end false n (members_after (component_types b) type k2)) end,
-      ap (λ (t : Table). members_end false (ends false o s) (members_after t type k2)) (handles_types a b same),
+      ap (λ (t : TypeTable). members_end false (ends false o s) (members_after t type k2)) (handles_types a b same),
       ap (λ (n : ℕ). members_end false (ends false o s) (members_after (component_types a) type n)) e,
     )
 

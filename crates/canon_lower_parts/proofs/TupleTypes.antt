@@ -1,7 +1,7 @@
 -- What is known of the types of a tuple's members.
 use Rattle.std.proofs.Common.{◌≡◌, ◌+◌, ◌∙◌, List, [], ◌∷◌, ap, arith, drop, get_or, refl, subst, suc, sym, zero, ℕ}
 use Rattle.std.specs.Option.{option_map_or}
-use Rattle.canon_lower_parts.specs.Tuples.{member_type, members_after, types_from, types_in}
+use Rattle.canon_lower_parts.specs.Tuples.{member_type, members_after, types_from, types_of_tuple}
 use Rattle.canon_model.specs.Shape.{member, no_members, of_places, product}
 use Rattle.canon_types.specs.Instance.{Instance}
 use Rattle.canon_types.specs.Table.{members_of, shape_of, tuple_types}
@@ -16,7 +16,7 @@ pub record IsTuple (all : List (Instance → InterfaceType → Type 0)) (i : Ins
 
 pub tuple_seen : (all : List (Instance → InterfaceType → Type 0)) (i : Instance) (type : InterfaceType) → IsTupleOf all i type → IsTuple all i type
 tuple_seen all i (ty.Tuple x) (types, d, are) =
-    let same : types_in i.types (ty.Tuple x) ≡ types = ap (λ o. option_map_or tuple_types o []) d.definition in
+    let same : types_of_tuple i.types (ty.Tuple x) ≡ types = ap (λ o. option_map_or tuple_types o []) d.definition in
     record {
       shape = d.shape ∙ ap (λ (xs : List InterfaceType). product of_places (members_of i.types xs)) (sym same);
       are = subst (λ (xs : List InterfaceType). AreOf all i xs) (sym same) are;
@@ -42,7 +42,7 @@ first_of Fit all i (type ∷ types) (suc k) h = let f = first_of Fit all i types
 
 pub next_of : (Fit : Instance → InterfaceType → Type 0) (all : List (Instance → InterfaceType → Type 0)) (i : Instance) (type : InterfaceType) (k : ℕ) → AreOf (Fit ∷ all) i (types_from i.types type k) → IsNext Fit i type k
 next_of Fit all i type k h =
-    let f = first_of Fit all i (types_in i.types type) k h in
+    let f = first_of Fit all i (types_of_tuple i.types type) k h in
     let e : suc k ≡ k + 1 = omega arith in
     record { fit = f.fit; members = ap (members_of i.types) f.is ∙ ap (λ (n : ℕ). member [] (shape_of i.types (member_type i.types type k)) (members_after i.types type n)) e }
 

@@ -7,16 +7,16 @@ use Rattle.canon_model.specs.Layout.{size}
 use Rattle.canon_model.specs.Shape.{option_of}
 use Rattle.canon_types.specs.Depth.{variant_cases}
 use Rattle.canon_types.specs.Instance.{Instance}
-use Rattle.canon_types.specs.Table.{IsDefined, Knows, OptionType, Table, shape_of}
+use Rattle.canon_types.specs.Table.{IsDefined, Knows, OptionType, TypeTable, shape_of}
 use Rattle.canon_types.specs.declared.types.InterfaceType.{InterfaceType}
 use Rattle.canon_types.specs.declared.types.InterfaceType.TheVariants as ty
 use Rattle.canon_typed.specs.Types.{IsOptionOf}
 
-pub size_here : (t t2 : Table) (type : InterfaceType) (abi : CanonicalAbiInfo) → t2 ≡ t → HasLayout abi (shape_of t2 type) → abi.size32 ≡ size false (shape_of t type)
-size_here t t2 type abi e h = h.size ∙ ap (λ (x : Table). size false (shape_of x type)) e
+pub size_here : (t t2 : TypeTable) (type : InterfaceType) (abi : CanonicalAbiInfo) → t2 ≡ t → HasLayout abi (shape_of t2 type) → abi.size32 ≡ size false (shape_of t type)
+size_here t t2 type abi e h = h.size ∙ ap (λ (x : TypeTable). size false (shape_of x type)) e
 
-pub layout_here : (t t2 : Table) (type : InterfaceType) (abi : CanonicalAbiInfo) → t2 ≡ t → HasLayout abi (shape_of t2 type) → HasLayout abi (shape_of t type)
-layout_here t t2 type abi e h = subst (λ (x : Table). HasLayout abi (shape_of x type)) e h
+pub layout_here : (t t2 : TypeTable) (type : InterfaceType) (abi : CanonicalAbiInfo) → t2 ≡ t → HasLayout abi (shape_of t2 type) → HasLayout abi (shape_of t type)
+layout_here t t2 type abi e h = subst (λ (x : TypeTable). HasLayout abi (shape_of x type)) e h
 
 -- ---- options
 
@@ -30,14 +30,14 @@ pub record IsOptionAt (Fits : Instance → InterfaceType → Type 0) (i : Instan
   pub fits : Fits i some
   pub info : HasInfo numbers (variant_cases (shape_of i.types type))
 
-pub option_found : (Fits : Instance → InterfaceType → Type 0) (i : Instance) (t2 : Table) (type : InterfaceType) (j : ℕ) (some : InterfaceType) (info : VariantInfo) → t2 ≡ i.types → type ≡ ty.Option j → IsOptionOf Fits i type
+pub option_found : (Fits : Instance → InterfaceType → Type 0) (i : Instance) (t2 : TypeTable) (type : InterfaceType) (j : ℕ) (some : InterfaceType) (info : VariantInfo) → t2 ≡ i.types → type ≡ ty.Option j → IsOptionOf Fits i type
     → IsDefined t2 (ty.Option j) (OptionType some) → HasInfo info (variant_cases (shape_of t2 (ty.Option j))) → IsOptionAt Fits i type some info
 option_found Fits i t2 type j some info e is fits defined numbers =
-    let here : IsDefined i.types (ty.Option j) (OptionType some) = subst (λ (x : Table). IsDefined x (ty.Option j) (OptionType some)) e defined in
+    let here : IsDefined i.types (ty.Option j) (OptionType some) = subst (λ (x : TypeTable). IsDefined x (ty.Option j) (OptionType some)) e defined in
     let (other, d, f) = subst (IsOptionOf Fits i) is fits in
     subst (λ (x : InterfaceType). IsOptionAt Fits i x some info) (sym is) (record {
       shape = here.shape;
       known = here.known 0 some (omega arith);
       fits = subst (Fits i) (same_option other some (sym d.definition ∙ here.definition)) f;
-      info = subst (λ (x : Table). HasInfo info (variant_cases (shape_of x (ty.Option j)))) e numbers;
+      info = subst (λ (x : TypeTable). HasInfo info (variant_cases (shape_of x (ty.Option j)))) e numbers;
     })

@@ -6,7 +6,7 @@ use Rattle.canon_context.specs.Quiet.{has_block}
 use Rattle.canon_context.specs.declared.fault.Fault.{Fault}
 use Rattle.canon_leaves.specs.Parts.{Part}
 use Rattle.canon_lower_parts.proofs.Attempts.{ends_early, not_false}
-use Rattle.canon_lower_parts.specs.Places.{TypedPlaces, placed_words, without}
+use Rattle.canon_lower_parts.specs.Places.{TypedPlaces, block_words, without_value}
 use Rattle.canon_lower_parts.specs.Words.{TypedLowers}
 use Rattle.canon_lower_parts.specs.declared.blocks.Placed.{Placed}
 use Rattle.canon_lowering.proofs.AimedWords.{words_moved}
@@ -63,7 +63,7 @@ module _ {D G : Type 0} (L : GuestLaws G) (options : ℕ) (a b : Parts D G) (s :
     small = tt;
   }
 
-  pub placed_done : (r : Result Placed Fault) (q : Result (Unit {0}) Fault) (ws : List ℕ) → flat s ≡ 2 → ((t : Tree) → Has t → Fits s t) → q ≡ without r → SameWords (placed_words r) 0 ws 0 (length (placed_words r))
+  pub placed_done : (r : Result Placed Fault) (q : Result (Unit {0}) Fault) (ws : List ℕ) → flat s ≡ 2 → ((t : Tree) → Has t → Fits s t) → q ≡ without_value r → SameWords (block_words r) 0 ws 0 (length (block_words r))
       → TypedPlaces L.seen L.moves options a b s Has gs r → TypedLowers L.seen L.moves options a b s ws 0 Has gs q
   placed_done (Ok x) q ws two fits e there h = subst (λ (z : Result (Unit {0}) Fault). TypedLowers L.seen L.moves options a b s ws 0 Has gs z) (sym e) (placed_lowers x ws two fits there h)
   placed_done (Err f) q ws two fits e there h = subst (λ (z : Result (Unit {0}) Fault). TypedLowers L.seen L.moves options a b s ws 0 Has gs z) (sym e) (placed_refused f ws h)

@@ -21,7 +21,7 @@ use Rattle.canon_model.specs.Layout.{flat, members_flat}
 use Rattle.canon_model.specs.Shape.{Members, Shape, member, no_members, of_places}
 use Rattle.canon_model.specs.Tree.{Tree, Trees}
 use Rattle.canon_types.specs.Instance.{Instance}
-use Rattle.canon_types.specs.Table.{Table, shape_of}
+use Rattle.canon_types.specs.Table.{TypeTable, shape_of}
 use Rattle.canon_types.specs.declared.types.InterfaceType.{InterfaceType}
 use Rattle.canon_typed.specs.Meaning.{FirstAnd, NoTrees, ProductMeans}
 use Rattle.canon_typed.specs.Types.{AreOf, IsTupleOf}
@@ -54,7 +54,7 @@ module _ {D G : Type 0} (L : GuestLaws G) (options : ℕ) (start : Parts D G) (w
     s = shape_of (component_types start) type
 
     same_shape : shape_of (component_types now) type ≡ s
-    same_shape = ap (λ (x : Table). shape_of x type) (handles_types start now h.same)
+    same_shape = ap (λ (x : TypeTable). shape_of x type) (handles_types start now h.same)
 
     pub done_room : at + flat (shape_of (component_types now) type) ≤ length ws
     done_room = omega (arith, h.room, members_words s ms, ap flat same_shape)
@@ -109,7 +109,7 @@ module _ {D G : Type 0} (L : GuestLaws G) (options : ℕ) (a : Parts D G) (type 
       end,
       ap members_flat next.members,
       members_words part (members_after (component_types a) type (k + 1)),
-      ap (λ (t : Table). members_flat (members_after t type k2)) (handles_types a b same),
+      ap (λ (t : TypeTable). members_flat (members_after t type k2)) (handles_types a b same),
       ap (λ (n : ℕ). members_flat (members_after (component_types a) type n)) e,
     )
 

@@ -6,7 +6,7 @@ use Rattle.canon_lower_parts.specs.Cases.{HasCase, payload_members}
 use Rattle.canon_model.specs.Layout.{flat, members_flat}
 use Rattle.canon_model.specs.Shape.{Shape, bare, case_for, no_cases, of_option, of_result, option_of, payload, result_of}
 use Rattle.canon_types.specs.Instance.{Instance}
-use Rattle.canon_types.specs.Table.{IsDefined, Knows, KnowsPayload, OptionType, ResultType, Table, all_shapes, parts, payload_in, shape_of}
+use Rattle.canon_types.specs.Table.{IsDefined, Knows, KnowsPayload, OptionType, ResultType, TypeTable, all_shapes, parts, payload_in, shape_of}
 use Rattle.canon_types.specs.declared.types.InterfaceType.{InterfaceType}
 use Rattle.canon_types.specs.declared.types.InterfaceType.TheVariants as ty
 use Rattle.canon_typed.specs.Types.{IsPayloadOf}
@@ -41,15 +41,15 @@ result_err s (Some u) (Some v) e = record { kind = of_result; cases = case_for (
 
 -- ---- look-ups, in the types of the start
 
-pub option_shape : (t t2 : Table) (j : ℕ) (some type : InterfaceType) → t2 ≡ t → type ≡ ty.Option j → IsDefined t2 (ty.Option j) (OptionType some) → shape_of t type ≡ option_of (shape_of t some)
-option_shape t t2 j some type e is h = ap (shape_of t) is ∙ subst (λ (x : Table). shape_of x (ty.Option j) ≡ option_of (shape_of x some)) e h.shape
+pub option_shape : (t t2 : TypeTable) (j : ℕ) (some type : InterfaceType) → t2 ≡ t → type ≡ ty.Option j → IsDefined t2 (ty.Option j) (OptionType some) → shape_of t type ≡ option_of (shape_of t some)
+option_shape t t2 j some type e is h = ap (shape_of t) is ∙ subst (λ (x : TypeTable). shape_of x (ty.Option j) ≡ option_of (shape_of x some)) e h.shape
 
-pub option_known : (t t2 : Table) (j : ℕ) (some : InterfaceType) → t2 ≡ t → IsDefined t2 (ty.Option j) (OptionType some) → Knows t some
-option_known t t2 j some e h = subst (λ (x : Table). Knows x some) e (h.known 0 some (omega arith))
+pub option_known : (t t2 : TypeTable) (j : ℕ) (some : InterfaceType) → t2 ≡ t → IsDefined t2 (ty.Option j) (OptionType some) → Knows t some
+option_known t t2 j some e h = subst (λ (x : TypeTable). Knows x some) e (h.known 0 some (omega arith))
 
-pub result_shape : (t t2 : Table) (j : ℕ) (ok error : Option InterfaceType) (type : InterfaceType) → t2 ≡ t → type ≡ ty.Result j → IsDefined t2 (ty.Result j) (ResultType ok error)
+pub result_shape : (t t2 : TypeTable) (j : ℕ) (ok error : Option InterfaceType) (type : InterfaceType) → t2 ≡ t → type ≡ ty.Result j → IsDefined t2 (ty.Result j) (ResultType ok error)
     → shape_of t type ≡ result_of (payload_in (all_shapes t) ok) (payload_in (all_shapes t) error)
-result_shape t t2 j ok error type e is h = ap (shape_of t) is ∙ subst (λ (x : Table). shape_of x (ty.Result j) ≡ result_of (payload_in (all_shapes x) ok) (payload_in (all_shapes x) error)) e h.shape
+result_shape t t2 j ok error type e is h = ap (shape_of t) is ∙ subst (λ (x : TypeTable). shape_of x (ty.Result j) ≡ result_of (payload_in (all_shapes x) ok) (payload_in (all_shapes x) error)) e h.shape
 
 pub no_payload : (unit : Bool) (Fit : Instance → InterfaceType → Type 0) (i : Instance) → IsPayloadOf unit Fit i None → unit ≡ true
 no_payload true Fit i h = refl
@@ -59,10 +59,10 @@ pub some_payload : (unit : Bool) (Fit : Instance → InterfaceType → Type 0) (
 some_payload true Fit i type h = absurd h
 some_payload false Fit i type h = (refl, h)
 
-pub result_knows : (t t2 : Table) (j : ℕ) (ok error : Option InterfaceType) → t2 ≡ t → IsDefined t2 (ty.Result j) (ResultType ok error) → KnowsPayload t ok × KnowsPayload t error
-result_knows t t2 j ok error e h = subst (λ (x : Table). KnowsPayload x ok × KnowsPayload x error) e (both t2 ok error h.known)
+pub result_knows : (t t2 : TypeTable) (j : ℕ) (ok error : Option InterfaceType) → t2 ≡ t → IsDefined t2 (ty.Result j) (ResultType ok error) → KnowsPayload t ok × KnowsPayload t error
+result_knows t t2 j ok error e h = subst (λ (x : TypeTable). KnowsPayload x ok × KnowsPayload x error) e (both t2 ok error h.known)
   where
-    both : (t : Table) (ok error : Option InterfaceType) → All (Knows t) (parts (ResultType ok error)) → KnowsPayload t ok × KnowsPayload t error
+    both : (t : TypeTable) (ok error : Option InterfaceType) → All (Knows t) (parts (ResultType ok error)) → KnowsPayload t ok × KnowsPayload t error
     both t None None all = (tt, tt)
     both t None (Some y) all = (tt, all 0 y (omega arith))
     both t (Some x) None all = (all 0 x (omega arith), tt)

@@ -6,7 +6,7 @@ use Rattle.canon_model.specs.Shape.{Cases, Shape, VariantKind, case_count, no_me
 use Rattle.canon_model.specs.Tree.{Tree, Trees}
 use Rattle.canon_types.specs.Depth.{variant_cases}
 use Rattle.canon_types.specs.Instance.{Instance}
-use Rattle.canon_types.specs.Table.{Knows, KnowsPayload, Table, all_shapes, payload_in, shape_of}
+use Rattle.canon_types.specs.Table.{Knows, KnowsPayload, TypeTable, all_shapes, payload_in, shape_of}
 use Rattle.canon_types.specs.declared.types.InterfaceType.{InterfaceType}
 use Rattle.canon_typed.specs.Meaning.{FirstAnd, NoTrees}
 use Rattle.canon_typed.specs.Types.{IsPayloadOf}
@@ -24,7 +24,7 @@ PayloadTrees true Has = NoTrees
 PayloadTrees false Has = FirstAnd Has NoTrees
 
 -- the shape of a payload's type; without one a product of nothing
-abbrev pub payload_type : Table → Option InterfaceType → Shape
+abbrev pub payload_type : TypeTable → Option InterfaceType → Shape
 payload_type t None = product of_places no_members
 payload_type t (Some type) = shape_of t type
 

@@ -4,12 +4,12 @@ use Rattle.canon_abi.specs.Abi.{HasLayout}
 use Rattle.canon_model.specs.Layout.{begins, ends}
 use Rattle.canon_model.specs.Shape.{Shape, tuple}
 use Rattle.canon_types.specs.Instance.{Instance}
-use Rattle.canon_types.specs.Table.{Knows, Table, shape_of}
+use Rattle.canon_types.specs.Table.{Knows, TypeTable, shape_of}
 use Rattle.canon_types.specs.declared.types.InterfaceType.{InterfaceType}
 use Rattle.canon_lower_parts.specs.declared.maps.PairType.{PairType}
 
 -- the shape of a pair
-abbrev pub pair_in : Table → PairType → Shape
+abbrev pub pair_in : TypeTable → PairType → Shape
 pair_in t p = tuple (shape_of t p.key ∷ shape_of t p.value ∷ [])
 
 -- the types of key and value are the Rust types', and the numbers are the pair's

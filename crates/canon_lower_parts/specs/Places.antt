@@ -17,20 +17,20 @@ use Rattle.canon_lower_parts.specs.Lowers.{TypedAttempt}
 use Rattle.canon_lower_parts.specs.declared.blocks.Placed.{Placed}
 
 -- the two words of a block
-abbrev pub placed_words : Result Placed Fault → List ℕ
-placed_words (Ok b) = b.pointer ∷ b.length ∷ []
-placed_words (Err e) = []
+abbrev pub block_words : Result Placed Fault → List ℕ
+block_words (Ok b) = b.pointer ∷ b.length ∷ []
+block_words (Err e) = []
 
 -- whether it was done
-abbrev pub without : {T : Type 0} → Result T Fault → Result (Unit {0}) Fault
-without (Ok x) = Ok tt
-without (Err e) = Err e
+abbrev pub without_value : {T : Type 0} → Result T Fault → Result (Unit {0}) Fault
+without_value (Ok x) = Ok tt
+without_value (Err e) = Err e
 
 module _ {D G : Type 0} (seen : G → Seen) (moves : GuestIn G → List Event → GuestIn G → Type 0) where
   module _ (options : ℕ) (before after : Parts D G) where
     -- a text or a list of the shape s, in a block of its own
     pub record TypedPlaces (s : Shape) (Has : Tree → Type 0) (gives : List (List Part)) (result : Result Placed Fault) : Type 0 where
-      pub placed : TypedAttempt seen moves before after [] (value_words false (encoding_by before options) s (placed_words result) 0 Has) gives true ⊤ (HasLarge (encoding_by before options) s) (without result)
+      pub placed : TypedAttempt seen moves before after [] (value_words false (encoding_by before options) s (block_words result) 0 Has) gives true ⊤ (HasLarge (encoding_by before options) s) (without_value result)
       pub narrow : IfOk result (λ b. (b.pointer < 2 ^ 32) × (b.length < 2 ^ 32))
 
   module _ (before after : Parts D G) (s : Shape) (n : ℕ) where

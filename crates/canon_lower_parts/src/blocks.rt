@@ -2,7 +2,7 @@
 
 ghost use Rattle.std.specs.Prelude.{◌≡◌, ◌≤◌, ◌<◌, ◌+◌, ◌^◌, IfOk, OnErr, length, slice_index, ℕ};
 ghost use Rattle.canon_abi.specs.Abi.{HasLayout};
-ghost use Rattle.canon_lower_parts.specs.Places.{BlockAsked, IsPlacedPut, placed_words, without};
+ghost use Rattle.canon_lower_parts.specs.Places.{BlockAsked, IsPlacedPut, block_words, without_value};
 ghost use Rattle.canon_model.specs.Flat.{SameWords};
 ghost use Rattle.canon_model.specs.Shape.{Shape};
 
@@ -27,7 +27,7 @@ pub fn put_placed<D, G: Guest>(
     requires narrow { IfOk placed (λ b. (b.pointer < 2 ^ 32) × (b.length < 2 ^ 32)) }
     requires room { at + 8 ≤ length cx.old.core.now.memory }
     ensures put { IsPlacedPut cx.old.core.now cx.new.core.now at placed }
-    ensures done { result ≡ without placed }
+    ensures done { result ≡ without_value placed }
     ensures same_reference { cx.new.core.ghost_name ≡ cx.old.core.ghost_name }
     ensures same_options { cx.new.options ≡ cx.old.options }
 {
@@ -44,8 +44,8 @@ pub fn put_placed<D, G: Guest>(
 pub fn put_words(dst: &mut [ValRaw], placed: Result<Placed, Fault>) -> Result<(), Fault>
     requires narrow { IfOk placed (λ b. (b.pointer < 2 ^ 32) × (b.length < 2 ^ 32)) }
     requires room { 2 ≤ length dst.old }
-    ensures there { SameWords (placed_words placed) 0 dst.new 0 (length (placed_words placed)) }
-    ensures done { result ≡ without placed }
+    ensures there { SameWords (block_words placed) 0 dst.new 0 (length (block_words placed)) }
+    ensures done { result ≡ without_value placed }
     ensures behind { (p : ℕ) → 2 ≤ p → slice_index dst.new p ≡ slice_index dst.old p }
     ensures unplaced { OnErr placed (dst.new ≡ dst.old) }
     ensures count { length dst.new ≡ length dst.old }

@@ -6,7 +6,7 @@ use Rattle.canon_memory.specs.declared.error.GuestFault.{GuestFault}
 use Rattle.canon_memory.specs.declared.error.GuestFault.TheVariants as fault
 use Rattle.canon_memory.specs.declared.event.Event.{Event}
 use Rattle.canon_memory.specs.Counts.{Rose}
-use Rattle.canon_memory.specs.Journal.{Adds, answer_event, asked_trap}
+use Rattle.canon_memory.specs.Journal.{AddsEvents, answer_event, asked_trap}
 use Rattle.canon_memory.specs.Realloc.{IsTidy, ReallocLaw, new_block}
 
 -- Of an answer of `realloc`: whether it kept the law, and whether no byte outside its block changed.
@@ -46,7 +46,7 @@ pub record Goes (before after : Moment) (new_marks : List Mark) (new_events : Li
   pub traps_later : before.guest.traps ≤ after.guest.traps
   pub shortages_later : before.guest.shortages ≤ after.guest.shortages
   pub marks : after.guest.marks ≡ before.guest.marks ++ new_marks
-  pub events : Adds before.guest.journal after.guest.journal new_events
+  pub events : AddsEvents before.guest.journal after.guest.journal new_events
 
 -- each fault is answered only where its count rose
 abbrev pub HasCause : {T : Type 0} → Seen → Seen → Result T GuestFault → Type 0

@@ -9,9 +9,9 @@ use Rattle.canon_memory.specs.declared.guest.Step.{Step}
 use Rattle.canon_memory.specs.declared.guest.Step.TheVariants as step
 
 -- a journal that is told has these events more at its end
-abbrev pub Adds : Option (List Event) → Option (List Event) → List Event → Type 0
-Adds None after events = after ≡ None
-Adds (Some before) after events = after ≡ Some (before ++ events)
+abbrev pub AddsEvents : Option (List Event) → Option (List Event) → List Event → Type 0
+AddsEvents None after events = after ≡ None
+AddsEvents (Some before) after events = after ≡ Some (before ++ events)
 
 -- the event of what a guest did that was let go, with memory after it
 abbrev pub step_event : Step → List ℕ → Event

@@ -7,14 +7,14 @@ use Rattle.std.proofs.lemmas.Simd.{map-map}
 use Rattle.std.specs.declared.alloc.Global.{Global}
 use Rattle.canon_model.specs.Shape.{Name}
 use Rattle.canon_types.specs.Keeps.{cases_type, fields_type, names_of}
-use Rattle.canon_types.specs.Table.{Definition, IsDefined, Knows, KnowsPayload, RecordType, Table, VariantType}
+use Rattle.canon_types.specs.Table.{Definition, IsDefined, Knows, KnowsPayload, RecordType, TypeTable, VariantType}
 use Rattle.canon_types.specs.declared.types.InterfaceType.{InterfaceType}
 use Rattle.canon_types.specs.declared.types.InterfaceType.TheVariants as ty
 use Rattle.canon_types.specs.declared.types.RecordField.{RecordField}
 use Rattle.canon_named.specs.Named.{HasCases, HasFields}
 
 -- a type has one definition
-pub same_definition : (t : Table) (type : InterfaceType) (d e : Definition) → IsDefined t type d → IsDefined t type e → d ≡ e
+pub same_definition : (t : TypeTable) (type : InterfaceType) (d e : Definition) → IsDefined t type d → IsDefined t type e → d ≡ e
 same_definition t type d e x y = ap (λ o. option_map_or (λ (v : Definition). v) o d) (sym x.definition ∙ y.definition)
 
 -- ---- pairs of names and parts
@@ -64,7 +64,7 @@ record_fields : Definition → List (Name × InterfaceType)
 record_fields (RecordType fields) = fields
 record_fields _ = []
 
-module _ (t : Table) (i : ℕ) (fields : List RecordField) (defined : IsDefined t (ty.Record i) (fields_type fields)) where
+module _ (t : TypeTable) (i : ℕ) (fields : List RecordField) (defined : IsDefined t (ty.Record i) (fields_type fields)) where
   pub record_has : (names : List Name) → field_names fields ≡ names → HasFields names t (ty.Record i) (field_types fields)
   record_has names e = subst (λ (ns : List Name). HasFields ns t (ty.Record i) (field_types fields)) e (
     subst (λ (fs : List (Name × InterfaceType)). IsDefined t (ty.Record i) (RecordType fs)) (sym (zip-maps (λ (f : RecordField). string_bytes f.name) (λ (f : RecordField). f.ty) fields)) defined,
@@ -87,7 +87,7 @@ variant_cases (VariantType cases) = cases
 variant_cases _ = []
 
 -- what the table knows of the payloads that are there, it knows of all
-module _ (t : Table) where
+module _ (t : TypeTable) where
   known_tail : (x : InterfaceType) (xs : List InterfaceType) → All (Knows t) (x ∷ xs) → All (Knows t) xs
   known_tail x xs known k d l = known (suc k) d (omega (arith, l))
 
@@ -104,7 +104,7 @@ module _ (t : Table) where
   known_payloads ((name, None) ∷ cases) known = known_none _ (known_payloads cases known)
   known_payloads ((name, Some x) ∷ cases) known = known_some x _ (known 0 x (omega arith)) (known_payloads cases (known_tail x _ known))
 
-module _ (t : Table) (i : ℕ) (cases : List (String Global × Option InterfaceType)) (defined : IsDefined t (ty.Variant i) (cases_type cases)) where
+module _ (t : TypeTable) (i : ℕ) (cases : List (String Global × Option InterfaceType)) (defined : IsDefined t (ty.Variant i) (cases_type cases)) where
   pub variant_has : (names : List Name) → names_of (map (λ c. c.0) cases) ≡ names → HasCases names t (ty.Variant i) (map (λ c. c.1) cases)
   variant_has names e = subst (λ (ns : List Name). HasCases ns t (ty.Variant i) (map (λ c. c.1) cases)) (sym (map-map (λ (n : String Global). string_bytes n) (λ (c : String Global × Option InterfaceType). c.0) cases) ∙ e) (
     subst (λ (cs : List (Name × Option InterfaceType)). IsDefined t (ty.Variant i) (VariantType cs)) (sym (zip-maps (λ (c : String Global × Option InterfaceType). string_bytes c.0) (λ (c : String Global × Option InterfaceType). c.1) cases)) defined,
@@ -124,9 +124,9 @@ module _ (t : Table) (i : ℕ) (cases : List (String Global × Option InterfaceT
 
 -- ---- what the code finds, at the table that it asks
 
-module _ (t u : Table) (type : InterfaceType) (i : ℕ) (same : u ≡ t) where
+module _ (t u : TypeTable) (type : InterfaceType) (i : ℕ) (same : u ≡ t) where
   at_table : (d : Definition) (j : InterfaceType) → IsDefined u j d → IsDefined t j d
-  at_table d j = subst (λ (v : Table). IsDefined v j d) same
+  at_table d j = subst (λ (v : TypeTable). IsDefined v j d) same
 
   module _ (fields : List RecordField) (is : type ≡ ty.Record i) (defined : IsDefined u (ty.Record i) (fields_type fields)) where
     pub fields_found : (names : List Name) → field_names fields ≡ names → HasFields names t type (field_types fields)

@@ -4,7 +4,7 @@ use Rattle.std.specs.Borrow.{Bor}
 use Rattle.std.specs.List.{AllZip, zip}
 use Rattle.canon_model.specs.Shape.{Name}
 use Rattle.canon_types.specs.Instance.{Instance}
-use Rattle.canon_types.specs.Table.{EnumType, FlagsType, IsDefined, RecordType, Table, VariantType}
+use Rattle.canon_types.specs.Table.{EnumType, FlagsType, IsDefined, RecordType, TypeTable, VariantType}
 use Rattle.canon_types.specs.declared.types.InterfaceType.{InterfaceType}
 use Rattle.canon_types.specs.declared.types.InterfaceType.TheVariants as ty
 use Rattle.canon_named.specs.declared.error.TypecheckFailed.{TypecheckFailed}
@@ -12,21 +12,21 @@ use Rattle.canon_named.specs.declared.error.TypecheckFailed.{TypecheckFailed}
 -- ---- the types
 
 -- a record of the table whose fields have these names, in this order, and these types
-abbrev pub HasFields : List Name → Table → InterfaceType → List InterfaceType → Type 0
+abbrev pub HasFields : List Name → TypeTable → InterfaceType → List InterfaceType → Type 0
 HasFields names t (ty.Record i) types = IsDefined t (ty.Record i) (RecordType (zip names types)) × (length names ≡ length types)
 HasFields names t _ types = ⊥
 
 -- a variant of the table whose cases have these names, in this order, and these payloads
-abbrev pub HasCases : List Name → Table → InterfaceType → List (Option InterfaceType) → Type 0
+abbrev pub HasCases : List Name → TypeTable → InterfaceType → List (Option InterfaceType) → Type 0
 HasCases names t (ty.Variant i) payloads = IsDefined t (ty.Variant i) (VariantType (zip names payloads)) × (length names ≡ length payloads)
 HasCases names t _ payloads = ⊥
 
 -- an enum of the table with these names, in this order, and flags
-abbrev pub IsEnumOf : List Name → Table → InterfaceType → Type 0
+abbrev pub IsEnumOf : List Name → TypeTable → InterfaceType → Type 0
 IsEnumOf names t (ty.Enum i) = IsDefined t (ty.Enum i) (EnumType names)
 IsEnumOf names t _ = ⊥
 
-abbrev pub IsFlagsOf : List Name → Table → InterfaceType → Type 0
+abbrev pub IsFlagsOf : List Name → TypeTable → InterfaceType → Type 0
 IsFlagsOf names t (ty.Flags i) = IsDefined t (ty.Flags i) (FlagsType names)
 IsFlagsOf names t _ = ⊥
 

@@ -8,7 +8,7 @@ use Rattle.canon_lowering.specs.Copies.{case_members}
 use Rattle.canon_model.specs.Shape.{Cases, Name, Shape, VariantKind, bare, bare_cases, case_count, case_for, no_cases, of_cases, of_names, of_result, payload, result_of, variant}
 use Rattle.canon_types.specs.Depth.{variant_cases}
 use Rattle.canon_types.specs.Keeps.{cases_type}
-use Rattle.canon_types.specs.Table.{EnumType, IsDefined, Knows, KnowsPayload, OptionType, ResultType, Table, all_shapes, cases_in, payload_in, shape_of}
+use Rattle.canon_types.specs.Table.{EnumType, IsDefined, Knows, KnowsPayload, OptionType, ResultType, TypeTable, all_shapes, cases_in, payload_in, shape_of}
 use Rattle.canon_types.specs.declared.types.InterfaceType.{InterfaceType}
 use Rattle.canon_types.specs.declared.types.InterfaceType.TheVariants as ty
 use Rattle.canon_plan.specs.CasePlan.{IsCaseSlots, IsPayload, TellsCase, case_name_cost}
@@ -18,7 +18,7 @@ use Rattle.canon_plan.specs.declared.plan.Slots.{Slots}
 use Rattle.canon_plan.specs.declared.plan.Slots.TheVariants as slots
 use Rattle.canon_plan.proofs.Flats.{bare_members, two_cases, first_known, second_known}
 
-payload_known : (t : Table) (o : Option InterfaceType) (p : Slots) → KnowsPayload t o → IsPayload o p → AreKnown t p
+payload_known : (t : TypeTable) (o : Option InterfaceType) (p : Slots) → KnowsPayload t o → IsPayload o p → AreKnown t p
 payload_known t None p h e = subst (AreKnown t) (sym e) tt
 payload_known t (Some type) p h e = subst (AreKnown t) (sym e) h
 
@@ -28,17 +28,17 @@ abbrev Named : Type 0
 Named = Name × Option InterfaceType
 
 -- the case of number i of these is this one
-record IsAt (t : Table) (xs : List Named) (i : ℕ) (c : Named) : Type 0 where
+record IsAt (t : TypeTable) (xs : List Named) (i : ℕ) (c : Named) : Type 0 where
   there : i < case_count (cases_in (all_shapes t) xs)
   charge : case_name_cost of_cases (cases_in (all_shapes t) xs) i ≡ length c.0
   known : All (Knows t) (filter_map (λ d. d.1) xs) → KnowsPayload t c.1
   shapes : (p : Slots) → IsPayload c.1 p → shapes_of t p ≡ case_members (cases_in (all_shapes t) xs) i
 
-first_at : (t : Table) (x : Named) (xs : List Named) → IsAt t (x ∷ xs) 0 x
+first_at : (t : TypeTable) (x : Named) (xs : List Named) → IsAt t (x ∷ xs) 0 x
 first_at t (name, None) xs = record { there = omega arith; charge = refl; known = λ h. tt; shapes = λ p e. ap (shapes_of t) e }
 first_at t (name, Some type) xs = record { there = omega arith; charge = refl; known = λ h. All-head (Knows t) type (filter_map (λ d. d.1) xs) h; shapes = λ p e. ap (shapes_of t) e }
 
-later_at : (t : Table) (x : Named) (xs : List Named) (i : ℕ) (c : Named) → IsAt t xs i c → IsAt t (x ∷ xs) (suc i) c
+later_at : (t : TypeTable) (x : Named) (xs : List Named) (i : ℕ) (c : Named) → IsAt t xs i c → IsAt t (x ∷ xs) (suc i) c
 later_at t (name, None) xs i c h = record { there = omega (arith, h.there); charge = h.charge; known = h.known; shapes = h.shapes }
 later_at t (name, Some type) xs i c h = record { there = omega (arith, h.there); charge = h.charge; known = λ all. h.known (All-tail (Knows t) type (filter_map (λ d. d.1) xs) all); shapes = h.shapes }
 
@@ -50,7 +50,7 @@ past (x ∷ xs) (suc i) e = omega (arith, past xs i e)
 same_some : {X : Type 0} (x y : X) → Some x ≡ Some y → x ≡ y
 same_some x y e = cc
 
-case_at : (t : Table) (xs : List Named) (i : ℕ) (c : Named) → slice_get xs i ≡ Some c → IsAt t xs i c
+case_at : (t : TypeTable) (xs : List Named) (i : ℕ) (c : Named) → slice_get xs i ≡ Some c → IsAt t xs i c
 case_at t [] i c e = cc
 case_at t (x ∷ xs) zero c e = subst (λ (y : Named). IsAt t (x ∷ xs) 0 y) (same_some x c e) (first_at t x xs)
 case_at t (x ∷ xs) (suc i) c e = later_at t x xs i c (case_at t xs i c e)
@@ -60,7 +60,7 @@ variant_count known [] = refl
 variant_count known ((name, None) ∷ xs) = ap suc (variant_count known xs)
 variant_count known ((name, Some type) ∷ xs) = ap suc (variant_count known xs)
 
-module _ {Z : Type 0} (t : Table) (j : ℕ) (entries : List (String Z × Option InterfaceType)) (defined : IsDefined t (ty.Variant j) (cases_type entries)) where
+module _ {Z : Type 0} (t : TypeTable) (j : ℕ) (entries : List (String Z × Option InterfaceType)) (defined : IsDefined t (ty.Variant j) (cases_type entries)) where
   abbrev named : List Named
   named = map (λ c. (string_bytes c.0, c.1)) entries
 
@@ -96,7 +96,7 @@ enum_charge [] i name e = cc
 enum_charge (n ∷ names) zero name e = sym (ap length (same_some n name e))
 enum_charge (n ∷ names) (suc i) name e = enum_charge names i name e
 
-module _ {Z : Type 0} (t : Table) (j : ℕ) (keys : List (String Z)) (defined : IsDefined t (ty.Enum j) (EnumType (map (λ n. string_bytes n) keys))) where
+module _ {Z : Type 0} (t : TypeTable) (j : ℕ) (keys : List (String Z)) (defined : IsDefined t (ty.Enum j) (EnumType (map (λ n. string_bytes n) keys))) where
   pub count_names : case_count (variant_cases (shape_of t (ty.Enum j))) ≡ length keys
   count_names = ap (λ (s : Shape). case_count (variant_cases s)) defined.shape ∙ (enum_count (map (λ n. string_bytes n) keys) ∙ length-map keys (λ (n : String Z). string_bytes n))
 
@@ -123,23 +123,23 @@ free_name (bare name cs) (suc i) = free_name cs i
 free_name (payload name s cs) zero = refl
 free_name (payload name s cs) (suc i) = free_name cs i
 
-pub none_told : (t : Table) (j : ℕ) (some : InterfaceType) (tag : ℕ) (c : CaseSlots) → IsDefined t (ty.Option j) (OptionType some) → tag ≡ 0 → c.payload ≡ slots.Empty → c.name_length ≡ 0 → IsCaseSlots t (shape_of t (ty.Option j)) tag c
+pub none_told : (t : TypeTable) (j : ℕ) (some : InterfaceType) (tag : ℕ) (c : CaseSlots) → IsDefined t (ty.Option j) (OptionType some) → tag ≡ 0 → c.payload ≡ slots.Empty → c.name_length ≡ 0 → IsCaseSlots t (shape_of t (ty.Option j)) tag c
 none_told t j some tag c defined e p n =
     subst (λ (i : ℕ). IsCaseSlots t (shape_of t (ty.Option j)) i c) (sym e) (subst (λ (s : Shape). IsCaseSlots t s 0 c) (sym defined.shape)
     (record { there = omega arith; known = subst (AreKnown t) (sym p) tt; shapes = ap (shapes_of t) p; charge = n }))
 
-pub some_told : (t : Table) (j : ℕ) (some : InterfaceType) (tag : ℕ) (c : CaseSlots) → IsDefined t (ty.Option j) (OptionType some) → tag ≡ 1 → c.payload ≡ slots.Single some → c.name_length ≡ 0 → IsCaseSlots t (shape_of t (ty.Option j)) tag c
+pub some_told : (t : TypeTable) (j : ℕ) (some : InterfaceType) (tag : ℕ) (c : CaseSlots) → IsDefined t (ty.Option j) (OptionType some) → tag ≡ 1 → c.payload ≡ slots.Single some → c.name_length ≡ 0 → IsCaseSlots t (shape_of t (ty.Option j)) tag c
 some_told t j some tag c defined e p n =
     subst (λ (i : ℕ). IsCaseSlots t (shape_of t (ty.Option j)) i c) (sym e) (subst (λ (s : Shape). IsCaseSlots t s 1 c) (sym defined.shape)
     (record { there = omega arith; known = subst (AreKnown t) (sym p) (defined.known 0 some (omega arith)); shapes = ap (shapes_of t) p; charge = n }))
 
-pub option_past : (t : Table) (j : ℕ) (some : InterfaceType) (tag : ℕ) → IsDefined t (ty.Option j) (OptionType some) → 2 ≤ tag → case_count (variant_cases (shape_of t (ty.Option j))) ≤ tag
+pub option_past : (t : TypeTable) (j : ℕ) (some : InterfaceType) (tag : ℕ) → IsDefined t (ty.Option j) (OptionType some) → 2 ≤ tag → case_count (variant_cases (shape_of t (ty.Option j))) ≤ tag
 option_past t j some tag defined h = omega (arith, h, ap (λ (s : Shape). case_count (variant_cases s)) defined.shape)
 
 pub result_cases : (s : Shape) (ok error : Option Shape) → s ≡ result_of ok error → case_count (variant_cases s) ≡ 2
 result_cases s ok error e = ap (λ (x : Shape). case_count (variant_cases x)) e ∙ two_cases ok error
 
-first_payload : (t : Table) (o : Option InterfaceType) (cs : Cases) (p : Slots) → IsPayload o p → shapes_of t p ≡ case_members (case_for (payload_in (all_shapes t) o) cs) 0
+first_payload : (t : TypeTable) (o : Option InterfaceType) (cs : Cases) (p : Slots) → IsPayload o p → shapes_of t p ≡ case_members (case_for (payload_in (all_shapes t) o) cs) 0
 first_payload t None cs p e = ap (shapes_of t) e
 first_payload t (Some type) cs p e = ap (shapes_of t) e
 
@@ -147,7 +147,7 @@ second_payload : (o : Option Shape) (cs : Cases) → case_members cs 0 ≡ case_
 second_payload None cs = refl
 second_payload (Some s) cs = refl
 
-module _ (t : Table) (j : ℕ) (ok error : Option InterfaceType) (tag : ℕ) (c : CaseSlots) (defined : IsDefined t (ty.Result j) (ResultType ok error)) (free : c.name_length ≡ 0) where
+module _ (t : TypeTable) (j : ℕ) (ok error : Option InterfaceType) (tag : ℕ) (c : CaseSlots) (defined : IsDefined t (ty.Result j) (ResultType ok error)) (free : c.name_length ≡ 0) where
   abbrev both : Cases
   both = case_for (payload_in (all_shapes t) ok) (case_for (payload_in (all_shapes t) error) no_cases)
 

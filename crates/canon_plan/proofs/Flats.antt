@@ -10,7 +10,7 @@ use Rattle.canon_model.specs.Shape.{Name, Shape, bare_cases, case_for, no_cases,
 use Rattle.canon_types.specs.Depth.{deepest, deepest_case, depth}
 use Rattle.canon_types.specs.Keeps.{cases_type, field_members, fields_type}
 use Rattle.canon_types.specs.Laid.{unnamed_cases}
-use Rattle.canon_types.specs.Table.{Definition, EnumType, FixedListType, FlagsType, IsDefined, Knows, KnowsPayload, ListType, MapType, OptionType, RecordType, ResultType, Table, TupleType, VariantType, all_shapes, cases_in, defined_shape, is_enum, is_list, is_map, members_of, no_shape, parts, payload_in, shape_in, shape_of, shapes_after}
+use Rattle.canon_types.specs.Table.{Definition, EnumType, FixedListType, FlagsType, IsDefined, Knows, KnowsPayload, ListType, MapType, OptionType, RecordType, ResultType, TupleType, TypeTable, VariantType, all_shapes, cases_in, defined_shape, is_enum, is_list, is_map, members_of, no_shape, parts, payload_in, shape_in, shape_of, shapes_after}
 use Rattle.canon_types.specs.declared.types.InterfaceType.{InterfaceType}
 use Rattle.canon_types.specs.declared.types.InterfaceType.TheVariants as ty
 use Rattle.canon_types.specs.declared.types.RecordField.{RecordField}
@@ -43,7 +43,7 @@ shaped_at P test one known (x ∷ ds) (suc j) h =
 
 -- what holds of the shape of each such definition holds of one of the table
 shaped_of : (P : Shape → Type 0) (test : Definition → Bool) → ((known : List Shape) (d : Definition) → test d ≡ true → P (defined_shape known d))
-    → (t : Table) (i : ℕ) → option_map_or test (slice_get t.definitions i) false ≡ true → P (get_or (all_shapes t) i no_shape)
+    → (t : TypeTable) (i : ℕ) → option_map_or test (slice_get t.definitions i) false ≡ true → P (get_or (all_shapes t) i no_shape)
 unfolding all_shapes
 shaped_of P test one t i h = let same : 0 + i ≡ i = omega arith in subst (λ n. P (get_or (shapes_after [] t.definitions) n no_shape)) same (shaped_at P test one [] t.definitions i h)
 
@@ -94,7 +94,7 @@ enum_words known (FlagsType ns) h = cc
 enum_words known (FixedListType e n) h = cc
 
 -- any other than these
-pub near_words : (t : Table) (type : InterfaceType) → Knows t type → ((i : ℕ) → type ≡ ty.Record i → ⊥) → ((i : ℕ) → type ≡ ty.Tuple i → ⊥) → ((i : ℕ) → type ≡ ty.FixedLengthList i → ⊥)
+pub near_words : (t : TypeTable) (type : InterfaceType) → Knows t type → ((i : ℕ) → type ≡ ty.Record i → ⊥) → ((i : ℕ) → type ≡ ty.Tuple i → ⊥) → ((i : ℕ) → type ≡ ty.FixedLengthList i → ⊥)
     → ((i : ℕ) → type ≡ ty.Variant i → ⊥) → ((i : ℕ) → type ≡ ty.Option i → ⊥) → ((i : ℕ) → type ≡ ty.Result i → ⊥) → ((i : ℕ) → type ≡ ty.Flags i → ⊥) → flat (shape_of t type) ≤ 2
 unfolding flat
 near_words t ty.Bool known r p x v o e f = omega arith
@@ -137,12 +137,12 @@ unnamed_depth known [] = refl
 unnamed_depth known ((name, None) ∷ cs) = unnamed_depth known cs
 unnamed_depth known ((name, Some type) ∷ cs) = ap (λ n. max (depth (shape_in known type)) n) (unnamed_depth known cs)
 
-field_first : (t : Table) (fields : List RecordField) (i : ℕ) (d f : RecordField) → f ≡ get_or fields i d → i < length fields
+field_first : (t : TypeTable) (fields : List RecordField) (i : ℕ) (d f : RecordField) → f ≡ get_or fields i d → i < length fields
     → members_flat (field_members t (drop i fields)) ≡ flat (shape_of t f.ty) + members_flat (field_members t (drop (i + 1) fields))
 unfolding flat
 field_first t fields i d f e h = ap members_flat (field_at t fields i d f e h)
 
-member_first : (t : Table) (types : List InterfaceType) (i : ℕ) (d type : InterfaceType) → type ≡ get_or types i d → i < length types
+member_first : (t : TypeTable) (types : List InterfaceType) (i : ℕ) (d type : InterfaceType) → type ≡ get_or types i d → i < length types
     → members_flat (members_of t (drop i types)) ≡ flat (shape_of t type) + members_flat (members_of t (drop (i + 1) types))
 unfolding flat
 member_first t types i d type e h = ap members_flat (member_at t types i d type e h)
@@ -168,12 +168,12 @@ payload_depth known (Some x ∷ payloads) (suc i) d type h some = omega (arith, 
 -- ---- loops over parts
 
 -- the type is known and no deeper than `deep`, and its words are the first of those that are left
-pub record IsPart (t : Table) (type : InterfaceType) (deep left rest : ℕ) : Type 0 where
+pub record IsPart (t : TypeTable) (type : InterfaceType) (deep left rest : ℕ) : Type 0 where
   pub known : Knows t type
   pub shallow : depth (shape_of t type) ≤ deep
   pub first : left ≡ flat (shape_of t type) + rest
 
-pub field_part : (t : Table) (fields : List RecordField) (i : ℕ) (d f : RecordField) → f ≡ get_or fields i d → i < length fields → All (Knows t) (parts (fields_type fields))
+pub field_part : (t : TypeTable) (fields : List RecordField) (i : ℕ) (d f : RecordField) → f ≡ get_or fields i d → i < length fields → All (Knows t) (parts (fields_type fields))
     → IsPart t f.ty (deepest (field_members t fields)) (members_flat (field_members t (drop i fields))) (members_flat (field_members t (drop (i + 1) fields)))
 field_part t fields i d f e h known = record {
   known = subst (λ (x : RecordField). Knows t x.ty) (sym e) (field_known t fields i d h known);
@@ -181,7 +181,7 @@ field_part t fields i d f e h known = record {
   first = field_first t fields i d f e h;
 }
 
-pub member_part : (t : Table) (types : List InterfaceType) (i : ℕ) (d type : InterfaceType) → type ≡ get_or types i d → i < length types → All (Knows t) types
+pub member_part : (t : TypeTable) (types : List InterfaceType) (i : ℕ) (d type : InterfaceType) → type ≡ get_or types i d → i < length types → All (Knows t) types
     → IsPart t type (deepest (members_of t types)) (members_flat (members_of t (drop i types))) (members_flat (members_of t (drop (i + 1) types)))
 member_part t types i d type e h known = record {
   known = subst (λ (x : InterfaceType). Knows t x) (sym e) (known i d h);
@@ -189,11 +189,11 @@ member_part t types i d type e h known = record {
   first = member_first t types i d type e h;
 }
 
-pub no_fields : (t : Table) (fields : List RecordField) (i : ℕ) → i ≡ length fields → members_flat (field_members t (drop i fields)) ≡ 0
+pub no_fields : (t : TypeTable) (fields : List RecordField) (i : ℕ) → i ≡ length fields → members_flat (field_members t (drop i fields)) ≡ 0
 unfolding flat
 no_fields t fields i e = ap (λ (xs : List RecordField). members_flat (field_members t xs)) (drop_all fields i e)
 
-pub no_types : (t : Table) (types : List InterfaceType) (i : ℕ) → i ≡ length types → members_flat (members_of t (drop i types)) ≡ 0
+pub no_types : (t : TypeTable) (types : List InterfaceType) (i : ℕ) → i ≡ length types → members_flat (members_of t (drop i types)) ≡ 0
 unfolding flat
 no_types t types i e = ap (λ (xs : List InterfaceType). members_flat (members_of t xs)) (drop_all types i e)
 
@@ -202,23 +202,23 @@ unfolding flat
 no_payloads known payloads i e = ap (λ (xs : List (Option InterfaceType)). cases_flat (unnamed_cases known xs)) (drop_all payloads i e)
 
 -- the payloads of a definition are known
-pub cases_known : (t : Table) (cs : List (Name × Option InterfaceType)) → All (Knows t) (parts (VariantType cs)) → All (KnowsPayload t) (map (λ c. c.1) cs)
+pub cases_known : (t : TypeTable) (cs : List (Name × Option InterfaceType)) → All (Knows t) (parts (VariantType cs)) → All (KnowsPayload t) (map (λ c. c.1) cs)
 cases_known t [] h k d lt = absurd (omega (arith, lt))
 cases_known t ((name, None) ∷ cs) h zero d lt = tt
 cases_known t ((name, None) ∷ cs) h (suc k) d lt = cases_known t cs h k d (omega (arith, lt))
 cases_known t ((name, Some type) ∷ cs) h zero d lt = h 0 type (omega arith)
 cases_known t ((name, Some type) ∷ cs) h (suc k) d lt = cases_known t cs (All-tail (Knows t) type (parts (VariantType cs)) h) k d (omega (arith, lt))
 
-pub first_known : (t : Table) (ok error : Option InterfaceType) → All (Knows t) (parts (ResultType ok error)) → KnowsPayload t ok
+pub first_known : (t : TypeTable) (ok error : Option InterfaceType) → All (Knows t) (parts (ResultType ok error)) → KnowsPayload t ok
 first_known t None error h = tt
 first_known t (Some type) error h = h 0 type (omega arith)
 
-pub second_known : (t : Table) (ok error : Option InterfaceType) → All (Knows t) (parts (ResultType ok error)) → KnowsPayload t error
+pub second_known : (t : TypeTable) (ok error : Option InterfaceType) → All (Knows t) (parts (ResultType ok error)) → KnowsPayload t error
 second_known t ok None h = tt
 second_known t None (Some type) h = h 0 type (omega arith)
 second_known t (Some first) (Some type) h = h 1 type (omega arith)
 
-pub result_known : (t : Table) (ok error : Option InterfaceType) → All (Knows t) (parts (ResultType ok error)) → All (KnowsPayload t) (ok ∷ error ∷ [])
+pub result_known : (t : TypeTable) (ok error : Option InterfaceType) → All (Knows t) (parts (ResultType ok error)) → All (KnowsPayload t) (ok ∷ error ∷ [])
 result_known t ok error h zero d lt = first_known t ok error h
 result_known t ok error h (suc zero) d lt = second_known t ok error h
 result_known t ok error h (suc (suc k)) d lt = absurd (omega (arith, lt))
@@ -226,47 +226,47 @@ result_known t ok error h (suc (suc k)) d lt = absurd (omega (arith, lt))
 -- ---- what a look-up gives
 
 -- so many words, and the deepest part
-abbrev IsMade : Table → InterfaceType → ℕ → ℕ → Type 0
+abbrev IsMade : TypeTable → InterfaceType → ℕ → ℕ → Type 0
 IsMade t type words deep = (words ≡ flat (shape_of t type)) × (1 + deep ≡ depth (shape_of t type))
 
-pub record_made : (t : Table) (type : InterfaceType) (i : ℕ) (fields xs : List RecordField) → type ≡ ty.Record i → IsDefined t (ty.Record i) (fields_type fields) → xs ≡ fields
+pub record_made : (t : TypeTable) (type : InterfaceType) (i : ℕ) (fields xs : List RecordField) → type ≡ ty.Record i → IsDefined t (ty.Record i) (fields_type fields) → xs ≡ fields
     → IsMade t type (members_flat (field_members t xs)) (deepest (field_members t xs)) × All (Knows t) (parts (fields_type xs))
 unfolding flat
 record_made t type i fields xs is h same =
     subst (λ (ys : List RecordField). IsMade t type (members_flat (field_members t ys)) (deepest (field_members t ys)) × All (Knows t) (parts (fields_type ys))) (sym same)
     (subst (λ (x : InterfaceType). IsMade t x (members_flat (field_members t fields)) (deepest (field_members t fields))) (sym is) (sym (ap flat h.shape), sym (ap depth h.shape)), h.known)
 
-pub tuple_made : (t : Table) (type : InterfaceType) (i : ℕ) (types xs : List InterfaceType) → type ≡ ty.Tuple i → IsDefined t (ty.Tuple i) (TupleType types) → xs ≡ types
+pub tuple_made : (t : TypeTable) (type : InterfaceType) (i : ℕ) (types xs : List InterfaceType) → type ≡ ty.Tuple i → IsDefined t (ty.Tuple i) (TupleType types) → xs ≡ types
     → IsMade t type (members_flat (members_of t xs)) (deepest (members_of t xs)) × All (Knows t) xs
 unfolding flat
 tuple_made t type i types xs is h same =
     subst (λ (ys : List InterfaceType). IsMade t type (members_flat (members_of t ys)) (deepest (members_of t ys)) × All (Knows t) ys) (sym same)
     (subst (λ (x : InterfaceType). IsMade t x (members_flat (members_of t types)) (deepest (members_of t types))) (sym is) (sym (ap flat h.shape), sym (ap depth h.shape)), h.known)
 
-pub fixed_made : (t : Table) (type : InterfaceType) (i n : ℕ) (element : InterfaceType) → type ≡ ty.FixedLengthList i → IsDefined t (ty.FixedLengthList i) (FixedListType element n)
+pub fixed_made : (t : TypeTable) (type : InterfaceType) (i n : ℕ) (element : InterfaceType) → type ≡ ty.FixedLengthList i → IsDefined t (ty.FixedLengthList i) (FixedListType element n)
     → IsMade t type (n * flat (shape_of t element)) (depth (shape_of t element)) × Knows t element
 unfolding flat
 fixed_made t type i n element is h =
     (subst (λ (x : InterfaceType). IsMade t x (n * flat (shape_of t element)) (depth (shape_of t element))) (sym is) (sym (ap flat h.shape), sym (ap depth h.shape)), h.known 0 element (omega arith))
 
-pub option_made : (t : Table) (type : InterfaceType) (i : ℕ) (some : InterfaceType) → type ≡ ty.Option i → IsDefined t (ty.Option i) (OptionType some)
+pub option_made : (t : TypeTable) (type : InterfaceType) (i : ℕ) (some : InterfaceType) → type ≡ ty.Option i → IsDefined t (ty.Option i) (OptionType some)
     → IsMade t type (1 + flat (shape_of t some)) (depth (shape_of t some)) × Knows t some
 unfolding flat
 option_made t type i some is h =
     (subst (λ (x : InterfaceType). IsMade t x (1 + flat (shape_of t some)) (depth (shape_of t some))) (sym is) (omega (arith, ap flat h.shape), omega (arith, ap depth h.shape)), h.known 0 some (omega arith))
 
-pub flags_made : (t : Table) (type : InterfaceType) (i : ℕ) (names : List Name) → type ≡ ty.Flags i → IsDefined t (ty.Flags i) (FlagsType names) → flag_words (length names) ≡ flat (shape_of t type)
+pub flags_made : (t : TypeTable) (type : InterfaceType) (i : ℕ) (names : List Name) → type ≡ ty.Flags i → IsDefined t (ty.Flags i) (FlagsType names) → flag_words (length names) ≡ flat (shape_of t type)
 unfolding flat
 flags_made t type i names is h = subst (λ (x : InterfaceType). flag_words (length names) ≡ flat (shape_of t x)) (sym is) (sym (ap flat h.shape))
 
-abbrev IsMadeOf : Table → InterfaceType → List (Option InterfaceType) → Type 0
+abbrev IsMadeOf : TypeTable → InterfaceType → List (Option InterfaceType) → Type 0
 IsMadeOf t type ps = IsMade t type (1 + cases_flat (unnamed_cases (all_shapes t) ps)) (deepest_case (unnamed_cases (all_shapes t) ps)) × All (KnowsPayload t) ps
 
 payloads_of : (entries : List (String Global × Option InterfaceType)) → map (λ (c : Name × Option InterfaceType). c.1) (map (λ (c : String Global × Option InterfaceType). (string_bytes c.0, c.1)) entries) ≡ values_of entries
 payloads_of [] = refl
 payloads_of (c ∷ entries) = ap (λ ps. c.1 ∷ ps) (payloads_of entries)
 
-pub variant_made : (t : Table) (type : InterfaceType) (i : ℕ) (entries : List (String Global × Option InterfaceType)) (ps : List (Option InterfaceType)) → type ≡ ty.Variant i → IsDefined t (ty.Variant i) (cases_type entries) → ps ≡ values_of entries
+pub variant_made : (t : TypeTable) (type : InterfaceType) (i : ℕ) (entries : List (String Global × Option InterfaceType)) (ps : List (Option InterfaceType)) → type ≡ ty.Variant i → IsDefined t (ty.Variant i) (cases_type entries) → ps ≡ values_of entries
     → IsMadeOf t type ps
 unfolding flat
 variant_made t type i entries ps is h same =
@@ -283,7 +283,7 @@ result_unnamed known None (Some e) = refl
 result_unnamed known (Some o) None = refl
 result_unnamed known (Some o) (Some e) = refl
 
-pub result_made : (t : Table) (type : InterfaceType) (i : ℕ) (ok error : Option InterfaceType) → type ≡ ty.Result i → IsDefined t (ty.Result i) (ResultType ok error) → IsMadeOf t type (ok ∷ error ∷ [])
+pub result_made : (t : TypeTable) (type : InterfaceType) (i : ℕ) (ok error : Option InterfaceType) → type ≡ ty.Result i → IsDefined t (ty.Result i) (ResultType ok error) → IsMadeOf t type (ok ∷ error ∷ [])
 unfolding flat
 result_made t type i ok error is h = (
   subst (λ (x : InterfaceType). IsMade t x (1 + cases_flat (unnamed_cases (all_shapes t) (ok ∷ error ∷ []))) (deepest_case (unnamed_cases (all_shapes t) (ok ∷ error ∷ [])))) (sym is)

@@ -8,7 +8,7 @@ use Rattle.canon_types.specs.Depth.{deepest, depth}
 use Rattle.canon_types.specs.Keeps.{cases_type, enum_type}
 use Rattle.canon_types.specs.declared.types.TypeEnum.{TypeEnum}
 use Rattle.canon_types.specs.declared.types.InterfaceType.{InterfaceType}
-use Rattle.canon_types.specs.Table.{Definition, EnumType, FixedListType, FlagsType, IsDefined, Knows, ListType, MapType, OptionType, RecordType, ResultType, Table, TupleType, VariantType, all_shapes, cases_in, defined_shape, fields_in, members_in, members_of, parts, shape_in, shape_of}
+use Rattle.canon_types.specs.Table.{Definition, EnumType, FixedListType, FlagsType, IsDefined, Knows, ListType, MapType, OptionType, RecordType, ResultType, TupleType, TypeTable, VariantType, all_shapes, cases_in, defined_shape, fields_in, members_in, members_of, parts, shape_in, shape_of}
 use Rattle.canon_plan.specs.NoHandle.{have_no_handle, cases_have_no_handle, has_no_handle}
 
 no_handle-fields : (known : List Shape) (fs : List (Name × InterfaceType)) → have_no_handle (fields_in known fs) ≡ have_no_handle (members_in known (map (λ f. f.1) fs))
@@ -46,12 +46,12 @@ no_handle_defined known (FixedListType e n) = and_true _
 -- ---- what a look-up gives
 
 -- a type of a definition and the types it names, of which there are values where there are of the type
-pub record HasParts (t : Table) (type : InterfaceType) (types : List InterfaceType) : Type 0 where
+pub record HasParts (t : TypeTable) (type : InterfaceType) (types : List InterfaceType) : Type 0 where
   pub falls : deepest (members_of t types) < depth (shape_of t type)
   pub known : All (Knows t) types
   pub no_handle : have_no_handle (members_of t types) ≡ has_no_handle (shape_of t type)
 
-has_parts : (t : Table) (type : InterfaceType) (d : Definition) → IsDefined t type d → HasParts t type (parts d)
+has_parts : (t : TypeTable) (type : InterfaceType) (d : Definition) → IsDefined t type d → HasParts t type (parts d)
 has_parts t type d h = record {
   falls = omega (arith, ap depth h.shape, depth_defined (all_shapes t) d);
   known = h.known;
@@ -59,23 +59,23 @@ has_parts t type d h = record {
 }
 
 -- the payloads of a variant
-pub case_payloads : {Z : Type 0} (t : Table) (type : InterfaceType) (cases : List (String Z × Option InterfaceType)) (ps : List (Option InterfaceType)) → ps ≡ map (λ c. c.1) cases → IsDefined t type (cases_type cases)
+pub case_payloads : {Z : Type 0} (t : TypeTable) (type : InterfaceType) (cases : List (String Z × Option InterfaceType)) (ps : List (Option InterfaceType)) → ps ≡ map (λ c. c.1) cases → IsDefined t type (cases_type cases)
     → HasParts t type (filter_map (λ p. p) ps)
 case_payloads t type cases ps e h =
     let same : parts (cases_type cases) ≡ filter_map (λ p. p) ps = sym (case_parts cases) ∙ ap (λ (xs : List (Option InterfaceType)). filter_map (λ p. p) xs) (sym e) in
     subst (HasParts t type) same (has_parts t type (cases_type cases) h)
 
-pub result_payloads : (t : Table) (type : InterfaceType) (ok err : Option InterfaceType) → IsDefined t type (ResultType ok err) → HasParts t type (filter_map (λ p. p) (ok ∷ err ∷ []))
+pub result_payloads : (t : TypeTable) (type : InterfaceType) (ok err : Option InterfaceType) → IsDefined t type (ResultType ok err) → HasParts t type (filter_map (λ p. p) (ok ∷ err ∷ []))
 result_payloads t type ok err h = subst (HasParts t type) (sym (result_parts ok err)) (has_parts t type (ResultType ok err) h)
 
-pub option_payload : (t : Table) (type some : InterfaceType) → IsDefined t type (OptionType some) → (depth (shape_of t some) < depth (shape_of t type)) × Knows t some
+pub option_payload : (t : TypeTable) (type some : InterfaceType) → IsDefined t type (OptionType some) → (depth (shape_of t some) < depth (shape_of t type)) × Knows t some
 option_payload t type some h = let p = has_parts t type (OptionType some) h in (omega (arith, p.falls), p.known 0 some (omega arith))
 
-pub enum_no_handle : (t : Table) (type : InterfaceType) (e : TypeEnum) → IsDefined t type (enum_type e) → true ≡ has_no_handle (shape_of t type)
+pub enum_no_handle : (t : TypeTable) (type : InterfaceType) (e : TypeEnum) → IsDefined t type (enum_type e) → true ≡ has_no_handle (shape_of t type)
 enum_no_handle t type e h = (has_parts t type (enum_type e) h).no_handle
 
 -- a payload among others
-pub payload_here : (t : Table) (ps : List (Option InterfaceType)) (i : ℕ) (d : Option InterfaceType) (type : InterfaceType) → Some type ≡ get_or ps i d → i < length ps → All (Knows t) (filter_map (λ p. p) ps)
+pub payload_here : (t : TypeTable) (ps : List (Option InterfaceType)) (i : ℕ) (d : Option InterfaceType) (type : InterfaceType) → Some type ≡ get_or ps i d → i < length ps → All (Knows t) (filter_map (λ p. p) ps)
     → (depth (shape_of t type) ≤ deepest (members_of t (filter_map (λ p. p) ps))) × Knows t type
 payload_here t [] i d type e lt known = absurd (omega (arith, lt))
 payload_here t (None ∷ ps) zero d type e lt known = cc

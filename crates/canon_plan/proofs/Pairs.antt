@@ -4,7 +4,7 @@ use Rattle.canon_lowering.specs.Copies.{pairs_of}
 use Rattle.canon_model.specs.Shape.{Members, Shape, map_of, member, member_count}
 use Rattle.canon_types.specs.Depth.{element_shape}
 use Rattle.canon_types.specs.Keeps.{map_type}
-use Rattle.canon_types.specs.Table.{IsDefined, Knows, Table, shape_of}
+use Rattle.canon_types.specs.Table.{IsDefined, Knows, TypeTable, shape_of}
 use Rattle.canon_types.specs.declared.types.InterfaceType.TheVariants as ty
 use Rattle.canon_types.specs.declared.types.TypeMap.{TypeMap}
 use Rattle.canon_plan.specs.Element.{IsMap, first_of, row_of, second_of}
@@ -58,7 +58,7 @@ value_member n k s u odd h =
     let after : suc (suc (twice (k / 2))) ≡ k + 1 = omega (arith, odd-is k odd) in
     ap (λ i. members_from i (pairs_of n s u)) (odd-is k odd) ∙ (second_member n (k / 2) s u (half_below k n h) ∙ ap (λ i. member [] u (members_from i (pairs_of n s u))) after)
 
-module _ (t : Table) (i : ℕ) (m : TypeMap) (h : IsDefined t (ty.Map i) (map_type m)) where
+module _ (t : TypeTable) (i : ℕ) (m : TypeMap) (h : IsDefined t (ty.Map i) (map_type m)) where
   pub map_shape : shape_of t (ty.Map i) ≡ map_of (shape_of t m.key) (shape_of t m.value)
   map_shape = h.shape
 

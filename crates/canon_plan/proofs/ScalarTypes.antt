@@ -3,12 +3,12 @@ use Rattle.std.proofs.Common.{◌≡◌, ◌∙◌, Option, Some, ap, refl, sym,
 use Rattle.canon_model.specs.Shape.{Scalar, bool, char, f32, f64, s16, s32, s64, s8, scalar, u16, u32, u64, u8}
 use Rattle.canon_types.specs.declared.types.InterfaceType.{InterfaceType}
 use Rattle.canon_types.specs.declared.types.InterfaceType.TheVariants as ty
-use Rattle.canon_types.specs.Table.{Table, plain_shape, shape_of}
+use Rattle.canon_types.specs.Table.{TypeTable, plain_shape, shape_of}
 use Rattle.canon_plan.specs.NoHandle.{scalar_type, IsScalarType}
 use Rattle.canon_model.specs.Layout.{flat}
 
 -- a scalar type has the shape of its scalar, and its shape needs no table
-both_scalar : (type : InterfaceType) (k : Scalar) → scalar_type type ≡ Some k → (plain_shape type ≡ scalar k) × ((t : Table) → shape_of t type ≡ scalar k)
+both_scalar : (type : InterfaceType) (k : Scalar) → scalar_type type ≡ Some k → (plain_shape type ≡ scalar k) × ((t : TypeTable) → shape_of t type ≡ scalar k)
 both_scalar ty.Bool k e = let same : bool ≡ k = cc in (ap scalar same, λ t. ap scalar same)
 both_scalar ty.S8 k e = let same : s8 ≡ k = cc in (ap scalar same, λ t. ap scalar same)
 both_scalar ty.U8 k e = let same : u8 ≡ k = cc in (ap scalar same, λ t. ap scalar same)
@@ -35,7 +35,7 @@ both_scalar (ty.Result i) k e = cc
 both_scalar (ty.Flags i) k e = cc
 both_scalar (ty.FixedLengthList i) k e = cc
 
-pub scalar_shape : (t : Table) (type : InterfaceType) (k : Scalar) → scalar_type type ≡ Some k → shape_of t type ≡ scalar k
+pub scalar_shape : (t : TypeTable) (type : InterfaceType) (k : Scalar) → scalar_type type ≡ Some k → shape_of t type ≡ scalar k
 scalar_shape t type k e = (both_scalar type k e).1 t
 
 pub plain_scalar : (type : InterfaceType) (k : Scalar) → scalar_type type ≡ Some k → plain_shape type ≡ scalar k
@@ -72,9 +72,9 @@ scalar_left (ty.Own i) no_record no_tuple no_string no_list no_fixed no_map no_v
 scalar_left (ty.Borrow i) no_record no_tuple no_string no_list no_fixed no_map no_variant no_enum no_option no_result no_flags no_own no_borrow = absurd (no_borrow i refl)
 
 -- the shape of a scalar type, and its one word
-pub scalar_known : (t : Table) (type : InterfaceType) → IsScalarType type → plain_shape type ≡ shape_of t type
+pub scalar_known : (t : TypeTable) (type : InterfaceType) → IsScalarType type → plain_shape type ≡ shape_of t type
 scalar_known t type (k, e) = plain_scalar type k e ∙ sym (scalar_shape t type k e)
 
-pub scalar_flat : (t : Table) (type : InterfaceType) → IsScalarType type → flat (shape_of t type) ≡ 1
+pub scalar_flat : (t : TypeTable) (type : InterfaceType) → IsScalarType type → flat (shape_of t type) ≡ 1
 unfolding flat
 scalar_flat t type (k, e) = ap flat (scalar_shape t type k e)

@@ -3,12 +3,12 @@ use Rattle.std.proofs.Common.{◌≡◌, List, [], ◌∷◌, arith, refl, ℕ}
 use Rattle.canon_model.specs.Cost.{names_length}
 use Rattle.canon_model.specs.Shape.{Shape, list, of_items}
 use Rattle.canon_types.specs.Depth.{element_shape}
-use Rattle.canon_types.specs.Table.{Table, members_of}
+use Rattle.canon_types.specs.Table.{TypeTable, members_of}
 use Rattle.canon_types.specs.declared.types.InterfaceType.{InterfaceType}
 use Rattle.canon_types.specs.declared.types.InterfaceType.TheVariants as ty
 use Rattle.canon_plan.specs.Plan.{IsKind}
 
-pub no_length : (t : Table) (types : List InterfaceType) → names_length (members_of t types) ≡ 0
+pub no_length : (t : TypeTable) (types : List InterfaceType) → names_length (members_of t types) ≡ 0
 no_length t [] = refl
 no_length t (type ∷ types) = omega (arith, no_length t types)
 

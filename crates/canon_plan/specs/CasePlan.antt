@@ -4,7 +4,7 @@ use Rattle.canon_lowering.specs.Copies.{case_members}
 use Rattle.canon_model.specs.Cost.{name_cost}
 use Rattle.canon_model.specs.Shape.{Cases, Shape, VariantKind, bare, case_count, no_cases, payload, variant}
 use Rattle.canon_types.specs.Depth.{variant_cases}
-use Rattle.canon_types.specs.Table.{Table}
+use Rattle.canon_types.specs.Table.{TypeTable}
 use Rattle.canon_types.specs.declared.types.InterfaceType.{InterfaceType}
 use Rattle.canon_plan.specs.Plan.{AreKnown, shapes_of}
 use Rattle.canon_plan.specs.declared.case_plan.CaseSlots.{CaseSlots}
@@ -28,12 +28,12 @@ IsPayload None p = p ≡ slots.Empty
 IsPayload (Some type) p = p ≡ slots.Single type
 
 -- the case of this number, of a type of this shape
-pub record IsCaseSlots (t : Table) (s : Shape) (tag : ℕ) (c : CaseSlots) : Type 0 where
+pub record IsCaseSlots (t : TypeTable) (s : Shape) (tag : ℕ) (c : CaseSlots) : Type 0 where
   pub there : tag < case_count (variant_cases s)
   pub known : AreKnown t c.payload
   pub shapes : shapes_of t c.payload ≡ case_members (variant_cases s) tag
   pub charge : c.name_length ≡ name_charge s tag
 
-abbrev pub TellsCase : Table → Shape → ℕ → Option CaseSlots → Type 0
+abbrev pub TellsCase : TypeTable → Shape → ℕ → Option CaseSlots → Type 0
 TellsCase t s tag None = case_count (variant_cases s) ≤ tag
 TellsCase t s tag (Some c) = IsCaseSlots t s tag c

@@ -8,7 +8,7 @@ use Rattle.canon_model.specs.Reach.{At, Kind, ListFault, StoredFault, list_reach
 use Rattle.canon_model.specs.Shape.{Members, Shape, list, map_of, no_members, of_items, of_pairs}
 use Rattle.canon_model.specs.Text.{Encoding}
 use Rattle.canon_types.specs.Depth.{element_shape, product_members}
-use Rattle.canon_types.specs.Table.{Knows, Table, shape_of}
+use Rattle.canon_types.specs.Table.{Knows, TypeTable, shape_of}
 use Rattle.canon_types.specs.declared.types.InterfaceType.TheVariants as ty
 use Rattle.canon_plan.specs.declared.element.Element.{Element}
 use Rattle.canon_plan.specs.declared.element.Element.TheVariants as element
@@ -48,10 +48,10 @@ abbrev pub items_reach : Encoding → Memory → Shape → ℕ → ℕ → ℕ
 items_reach enc m s p n = list_reach enc m (λ b. element_reach enc m s b) (element_cost s) (element_shape s) p n
 
 -- the shape of a list of these
-abbrev pub list_shape : Table → Element → Shape
+abbrev pub list_shape : TypeTable → Element → Shape
 list_shape t (element.Item type) = list of_items (shape_of t type)
 list_shape t (element.Pair i) = shape_of t (ty.Map i)
 
-abbrev pub IsKnown : Table → Element → Type 0
+abbrev pub IsKnown : TypeTable → Element → Type 0
 IsKnown t (element.Item type) = Knows t type
 IsKnown t (element.Pair i) = Knows t (ty.Map i) × IsMap (shape_of t (ty.Map i))

@@ -5,7 +5,7 @@ use Rattle.canon_lowering.specs.Copies.{copies}
 use Rattle.canon_model.specs.Cost.{names_length}
 use Rattle.canon_model.specs.Shape.{Members, Name, Shape, VariantKind, borrow, enum_of, fixed, list, member, no_members, of_cases, of_fields, of_items, of_places, option_of, own, product, result_of, string, variant}
 use Rattle.canon_types.specs.Depth.{element_shape, product_members, variant_cases}
-use Rattle.canon_types.specs.Table.{HasTuple, Knows, Table, shape_of, tuple_members}
+use Rattle.canon_types.specs.Table.{HasTuple, Knows, TypeTable, shape_of, tuple_members}
 use Rattle.canon_types.specs.declared.types.InterfaceType.{InterfaceType}
 use Rattle.canon_types.specs.declared.types.InterfaceType.TheVariants as ty
 use Rattle.canon_plan.specs.NoHandle.{IsScalarType}
@@ -33,7 +33,7 @@ LiesAs _ these = ⊥
 
 -- ---- members, by the table
 
-abbrev pub shapes_of : Table → Slots → Members
+abbrev pub shapes_of : TypeTable → Slots → Members
 shapes_of t (slots.Fields i) = product_members (shape_of t (ty.Record i))
 shapes_of t (slots.Places i) = tuple_members t i
 shapes_of t (slots.Items type n) = copies n (shape_of t type)
@@ -41,7 +41,7 @@ shapes_of t slots.Empty = no_members
 shapes_of t (slots.Single type) = member [] (shape_of t type) no_members
 shapes_of t (slots.Pairs i n) = row_of (shape_of t (ty.Map i)) n
 
-abbrev pub AreKnown : Table → Slots → Type 0
+abbrev pub AreKnown : TypeTable → Slots → Type 0
 AreKnown t (slots.Fields i) = Knows t (ty.Record i)
 AreKnown t (slots.Places i) = HasTuple t i
 AreKnown t (slots.Items type n) = Knows t type
@@ -50,7 +50,7 @@ AreKnown t (slots.Single type) = Knows t type
 AreKnown t (slots.Pairs i n) = Knows t (ty.Map i) × IsMap (shape_of t (ty.Map i)) × (n < 2 ^ 32)
 
 -- the one of number k
-pub record IsSlot (t : Table) (ms : Members) (k : ℕ) (slot : Slot) : Type 0 where
+pub record IsSlot (t : TypeTable) (ms : Members) (k : ℕ) (slot : Slot) : Type 0 where
   pub known : Knows t slot.ty
   pub name : Name
   pub name_is : slot.name_length ≡ length name
@@ -96,7 +96,7 @@ shaped_handle false r = borrow r
 abbrev pub shape_of_handle : HandleType → Shape
 shape_of_handle h = shaped_handle h.owned h.resource
 
-abbrev pub Plans : Table → InterfaceType → Plan → Type 0
+abbrev pub Plans : TypeTable → InterfaceType → Plan → Type 0
 Plans t type plan.Scalar = IsScalarType type
 Plans t type (plan.Handle h) = type ≡ type_of_handle h
 Plans t type plan.Text = shape_of t type ≡ string

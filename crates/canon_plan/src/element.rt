@@ -3,7 +3,7 @@
 ghost use Rattle.std.specs.Prelude.{◌≡◌};
 ghost use Rattle.canon_abi.specs.Abi.{HasLayout};
 ghost use Rattle.canon_types.specs.Depth.{element_shape};
-ghost use Rattle.canon_types.specs.Table.{Table};
+ghost use Rattle.canon_types.specs.Table.{TypeTable};
 ghost use Rattle.canon_plan.specs.Element.{IsKnown, element_cost, list_shape};
 
 use canon_types::{CanonicalAbiInfo, ComponentTypes, InterfaceType, TypeMapIndex};
@@ -35,7 +35,7 @@ pub fn element_abi<'a>(types: &'a ComponentTypes, element: &Element) -> &'a Cano
 
 /// What lifting an element costs, beside its parts.
 pub fn element_cost(element: &Element) -> u64
-    ensures { (t : Table) → IsKnown t element.now → result ≡ element_cost (list_shape t element.now) }
+    ensures { (t : TypeTable) → IsKnown t element.now → result ≡ element_cost (list_shape t element.now) }
 {
     match element {
         Element::Item(_) => VAL_COST,

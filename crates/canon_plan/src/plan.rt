@@ -4,7 +4,7 @@ ghost use Rattle.std.specs.Prelude.{◌≡◌, ◌<◌, ◌^◌};
 ghost use Rattle.canon_lowering.specs.Copies.{copies};
 ghost use Rattle.canon_model.specs.Shape.{member_count};
 ghost use Rattle.canon_types.specs.Depth.{product_members};
-ghost use Rattle.canon_types.specs.Table.{HasTuple, Knows, Table, shape_of, tuple_members};
+ghost use Rattle.canon_types.specs.Table.{HasTuple, Knows, TypeTable, shape_of, tuple_members};
 ghost use Rattle.canon_plan.specs.Element.{IsKnown, list_shape, row_of};
 ghost use Rattle.canon_plan.specs.Plan.{AreKnown, IsSlot, Plans, shapes_of};
 
@@ -137,8 +137,8 @@ fn pair_slot(types: &ComponentTypes, i: TypeMapIndex, count: u64, k: u64) -> Slo
 /// So many elements of a list, as members.
 pub fn slots_of(element: &Element, count: u64) -> Slots
     requires few { count < 2 ^ 32 }
-    ensures known { (t : Table) → IsKnown t element.now → AreKnown t result }
-    ensures shapes { (t : Table) → shapes_of t result ≡ row_of (list_shape t element.now) count }
+    ensures known { (t : TypeTable) → IsKnown t element.now → AreKnown t result }
+    ensures shapes { (t : TypeTable) → shapes_of t result ≡ row_of (list_shape t element.now) count }
 {
     match element {
         Element::Item(ty) => Slots::Items(*ty, count),

@@ -6,7 +6,7 @@ use Rattle.std.proofs.lemmas.Option.{get_or_from_slice_get, slice_get_cases, sli
 use Rattle.canon_indices.specs.declared.options.CanonicalOptions.{CanonicalOptions}
 use Rattle.canon_indices.specs.declared.options.StringEncoding.{StringEncoding}
 use Rattle.canon_types.specs.Instance.{Instance}
-use Rattle.canon_types.specs.Table.{HasFunc, HasResource, Table}
+use Rattle.canon_types.specs.Table.{HasFunc, HasResource, TypeTable}
 use Rattle.canon_context.specs.Component.{IsComponent, IsHostImport, IsImport, IsInside}
 use Rattle.canon_context.specs.declared.component.Component.{Component}
 use Rattle.canon_context.specs.declared.component.Export.{Export}
@@ -26,7 +26,7 @@ exports_len : (i : ℕ) (posts : List Bool) → length (exports_from i posts) �
 exports_len i [] = refl
 exports_len i (p ∷ posts) = ap suc (exports_len (i + 1) posts)
 
-options_len : (t : Table) (encoding : StringEncoding) (i : ℕ) (posts : List Bool) → length (options_from t encoding i posts) ≡ length posts
+options_len : (t : TypeTable) (encoding : StringEncoding) (i : ℕ) (posts : List Bool) → length (options_from t encoding i posts) ≡ length posts
 options_len t encoding i [] = refl
 options_len t encoding i (p ∷ posts) = ap suc (options_len t encoding (i + 1) posts)
 
@@ -35,7 +35,7 @@ exports_at i [] k h = absurd (omega (arith, h))
 exports_at i (p ∷ posts) zero h = let e : i ≡ i + 0 = omega arith in ap (λ n. Some (export_for n)) e
 exports_at i (p ∷ posts) (suc k) h = let e : i + 1 + k ≡ i + suc k = omega arith in exports_at (i + 1) posts k (omega (arith, h)) ∙ ap (λ n. Some (export_for n)) e
 
-options_at : (t : Table) (encoding : StringEncoding) (i : ℕ) (posts : List Bool) (k : ℕ) (p : Bool) → slice_get posts k ≡ Some p → slice_get (options_from t encoding i posts) k ≡ Some (options_for t encoding (i + k) p)
+options_at : (t : TypeTable) (encoding : StringEncoding) (i : ℕ) (posts : List Bool) (k : ℕ) (p : Bool) → slice_get posts k ≡ Some p → slice_get (options_from t encoding i posts) k ≡ Some (options_for t encoding (i + k) p)
 options_at t encoding i [] k p h = absurd (omega (arith, slice_get_within [] k p h))
 options_at t encoding i (q ∷ posts) zero p h = let e : i ≡ i + 0 = omega arith in ap (λ o. Some (options_for t encoding i (unwrap_or o q))) h ∙ ap (λ n. Some (options_for t encoding n p)) e
 options_at t encoding i (q ∷ posts) (suc k) p h = let e : i + 1 + k ≡ i + suc k = omega arith in options_at t encoding (i + 1) posts k p h ∙ ap (λ n. Some (options_for t encoding n p)) e
@@ -45,7 +45,7 @@ module _ (i : ℕ) (posts : List Bool) (past : length posts ≤ i) where
   none_left : drop i posts ≡ []
   none_left = drop_of_length-le posts past
 
-  pub all_options : (t : Table) (encoding : StringEncoding) (os all : List CanonicalOptions) → os ++ options_from t encoding i (drop i posts) ≡ all → os ≡ all
+  pub all_options : (t : TypeTable) (encoding : StringEncoding) (os all : List CanonicalOptions) → os ++ options_from t encoding i (drop i posts) ≡ all → os ≡ all
   all_options t encoding os all h = sym (append-nil os) ∙ (ap (λ (ps : List Bool). os ++ options_from t encoding i ps) (sym none_left) ∙ h)
 
   pub all_exports : (es : List Export) → es ++ exports_from i (drop i posts) ≡ exports_from 0 posts → es ≡ exports_from 0 posts
@@ -57,7 +57,7 @@ found xs i h = ⊎_elim (λ at. (at.0, at.2)) (λ past. absurd (omega (arith, h,
 
 -- ---- the component
 
-module _ (t : Table) (encoding : StringEncoding) (posts : List Bool) (imports : List Import) (c : Component) (h : IsScripted t encoding posts imports c) where
+module _ (t : TypeTable) (encoding : StringEncoding) (posts : List Bool) (imports : List Import) (c : Component) (h : IsScripted t encoding posts imports c) where
   pub export_at : (i : ℕ) → i < length posts → slice_get c.exports.items i ≡ Some (export_for i)
   export_at i lt = let e : 0 + i ≡ i = omega arith in ap (λ es. slice_get es i) h.exports ∙ (exports_at 0 posts i lt ∙ ap (λ n. Some (export_for n)) e)
 
@@ -84,7 +84,7 @@ module _ (t : Table) (encoding : StringEncoding) (posts : List Bool) (imports : 
       let found : slice_get c.options.items under ≡ Some (host_options encoding) = ap (slice_get c.options.items) first ∙ ap (λ os. slice_get os 0) h.options in
       record {
         func = subst (λ u. HasFunc u type) (sym types) known;
-        sync = subst (λ (u : Table). IfSome (slice_get u.funcs type) (λ f. f.async_ ≡ false)) (sym types) sync;
+        sync = subst (λ (u : TypeTable). IfSome (slice_get u.funcs type) (λ f. f.async_ ≡ false)) (sym types) sync;
         options = slice_get_within c.options.items under (host_options encoding) found;
         sync_options = subst (λ o. IfSome o (λ (x : CanonicalOptions). x.async_ ≡ false)) (sym found) refl;
       }

@@ -20,7 +20,7 @@ use Rattle.canon_context.specs.Core.{Parts, guest_of, moment_of}
 use Rattle.canon_context.specs.declared.fault.Fault.TheVariants as fault
 use Rattle.canon_val.specs.declared.val.Val.{Val}
 use Rattle.canon_types.specs.Refusal.{first_error}
-use Rattle.canon_func.specs.Call.{Adding, IsCall, IsCallOf, LivesUntil, OnAnswered, dynamic, dynamic_results, refusal, refused_by, with_results}
+use Rattle.canon_func.specs.Call.{Adding, IsCall, IsCallOf, LivesUntil, OnAnswered, call_refusal, dynamic, dynamic_results, refused_by, with_results}
 use Rattle.canon_func.specs.Runs.{Leg}
 use Rattle.canon_func.specs.Passing.{Arguments, ReturnedValues}
 use Rattle.canon_func.specs.Typed.{done_by}
@@ -48,7 +48,7 @@ always_refused false true e = none-some error.AsyncLifted (sym e)
 always_refused false false e = none-some error.CannotEnterComponent (sym e)
 
 -- what isn't refused finds the store not trapped
-not_trapped : (callee : Callee) (params results : ℕ) (trapped : Bool) → refusal callee params results trapped ≡ None → trapped ≡ false
+not_trapped : (callee : Callee) (params results : ℕ) (trapped : Bool) → call_refusal callee params results trapped ≡ None → trapped ≡ false
 not_trapped callee params results false e = refl
 not_trapped callee params results true e = absurd (always_refused _ _ e)
 
@@ -325,7 +325,7 @@ module _ (call : ScriptCall) (list : List Any) (r : Record) (s before left final
 
   pub record_is : s.core.guest.events ≡ [] → before ≡ with_plan s (plan_of call s.core.guest.guest.plan.allocator) → f.export ≡ call.func → state_of final ≡ state_of left
       → literals_view params ≡ map (replaced (listed_resource list)) call.params → length slots.items ≡ call.slots
-      → refused_by called ≡ refusal (callee_of before f) (length params) (length slots.items) before.trapped → IfSome (refused_by called) (λ e. left ≡ before)
+      → refused_by called ≡ call_refusal (callee_of before f) (length params) (length slots.items) before.trapped → IfSome (refused_by called) (λ e. left ≡ before)
       → (IsNone (refused_by called) → EnteredWith (callee_of before f) params before left called results) → OnOk called (left.trapped ≡ before.trapped) → (IsNone (refused_by called) → OnErr called (left.trapped ≡ true))
       → r.head ≡ head.Call call.func → r.live ≡ left.core.ledger.handles.counter.live → r.events ≡ left.core.guest.events → answer_outcome r.answer ≡ called
       → length results ≡ slots.len → OnOk called (answer_values r.answer ≡ (with_items slots results).items) → IsOther called → IsEnd r.answer
@@ -337,17 +337,17 @@ module _ (call : ScriptCall) (list : List Any) (r : Record) (s before left final
       let many2 : length params ≡ length call.params = sym (length-map params literal_view) ∙ (ap length their ∙ length-map call.params (replaced (listed_resource list))) in
       let all = with_results called results in
       let done : refused_by (done_by all) ≡ refused_by called = ap refused_by (done_with called results) in
-      let why2 : refused_by (done_by all) ≡ refusal callee (length call.params) call.slots s.trapped =
-      done ∙ (why ∙ (ap (λ (c : Callee). refusal c (length params) (length slots.items) before.trapped) it ∙ (ap (λ n. refusal callee n (length slots.items) before.trapped) many2
-      ∙ (ap (λ n. refusal callee (length call.params) n before.trapped) count ∙ ap (λ (k : ScriptStore). refusal callee (length call.params) call.slots k.trapped) is)))) in
+      let why2 : refused_by (done_by all) ≡ call_refusal callee (length call.params) call.slots s.trapped =
+      done ∙ (why ∙ (ap (λ (c : Callee). call_refusal c (length params) (length slots.items) before.trapped) it ∙ (ap (λ n. call_refusal callee n (length slots.items) before.trapped) many2
+      ∙ (ap (λ n. call_refusal callee (length call.params) n before.trapped) count ∙ ap (λ (k : ScriptStore). call_refusal callee (length call.params) call.slots k.trapped) is)))) in
       let undone : (IsNone (refused_by (done_by all))) → IsNone (refused_by called) = λ none. subst IsNone done none in
-      let became : Became (dynamic callee params) (dynamic_results callee) Themselves callee (plan_of call) s left r (refusal callee (length call.params) call.slots s.trapped) =
+      let became : Became (dynamic callee params) (dynamic_results callee) Themselves callee (plan_of call) s left r (call_refusal callee (length call.params) call.slots s.trapped) =
       call_became (dynamic callee params) (dynamic_results callee) Themselves callee call.guest call.reallocs call.post_trap r s left all asked empty events
       (told_with called results r.answer out (kept_results called slots results (answer_values r.answer) many vals) ended) (other_with called results short) lines serves
-      (refusal callee (length call.params) call.slots s.trapped) (not_trapped callee (length call.params) call.slots s.trapped) before is why2
+      (call_refusal callee (length call.params) call.slots s.trapped) (not_trapped callee (length call.params) call.slots s.trapped) before is why2
       (subst (λ o. IfSome o (λ e. left ≡ before)) (sym done) same)
       (λ none. entered_with callee params before left called results (subst (λ (c : Callee). EnteredWith c params before left called results) it (entered (undone none))))
       (on_ok_with called results _ runs)
       (λ none. on_err_with called results _ (traps (undone none))) in
       subst (λ (k : State). CallsOnce callee (limits_of s) (answers_of s) call list (state_of s) k r) (sym end)
-      (record { head = hd; called = with_params callee (refusal callee (length call.params) call.slots s.trapped) their became; live = lv })
+      (record { head = hd; called = with_params callee (call_refusal callee (length call.params) call.slots s.trapped) their became; live = lv })

@@ -6,7 +6,7 @@ use Rattle.canon_types.specs.Instance.{Instance}
 use Rattle.canon_context.specs.declared.component.Component.{Component}
 use Rattle.canon_resources.specs.Held.{Any}
 use Rattle.canon_value_parts.specs.Resources.{all_resources}
-use Rattle.canon_func.specs.Call.{refusal}
+use Rattle.canon_func.specs.Call.{call_refusal}
 use Rattle.canon_func.specs.Asks.{Limits, allowed}
 use Rattle.canon_func.specs.Stores.{Callee}
 use Rattle.canon_script.specs.Imports.{HostAnswer, answers_view}
@@ -88,7 +88,7 @@ happened_same : (callees others : ℕ → Callee) (limits : Limits) (answers : L
     → Happened b callees limits answers i list s after r → Happened b others limits answers i list s after r
 happened_same callees others limits answers i list s after r true same h = h
 happened_same callees others limits answers (call_item c) list s after r false same h =
-    subst (λ (d : Callee). Called d limits answers c list s after r (refusal d (length c.params) c.slots s.trapped)) same h
+    subst (λ (d : Callee). Called d limits answers c list s after r (call_refusal d (length c.params) c.slots s.trapped)) same h
 happened_same callees others limits answers (typed_item c) list s after r false same h = subst (λ (d : Callee). WasTyped c.params d limits answers c s after r) same h
 happened_same callees others limits answers (new_item n) list s after r false same h = h
 happened_same callees others limits answers (drop_item d) list s after r false same h = h

@@ -25,7 +25,7 @@ use Rattle.canon_val.specs.declared.val.Val.{Val}
 use Rattle.canon_val.specs.declared.val.Val.TheVariants as val
 use Rattle.canon_host.specs.HostSide.{LoggedEntry, HostSide}
 use Rattle.canon_func.specs.Asks.{Limits, allowed}
-use Rattle.canon_func.specs.Call.{IsCallOf, dynamic, dynamic_results, entry_refusal, refusal}
+use Rattle.canon_func.specs.Call.{IsCallOf, call_refusal, dynamic, dynamic_results, entry_refusal}
 use Rattle.canon_func.specs.Drop.{IsCutOff, IsDropped, destructor_at, destructor_events, drop_refusal}
 use Rattle.canon_func.specs.Passing.{Arguments, ReturnedValues}
 use Rattle.canon_func.specs.Runs.{ByLegs, Leg}
@@ -363,7 +363,7 @@ skips (drop_item d) list before = before.trapped || not (nat_lt d.resource (leng
 
 abbrev pub WasPlayed : (ℕ → Callee) → Limits → List (List HostAnswer) → ScriptItem → List Any → State → State → Record → Type 0
 WasPlayed callees limits answers (call_item c) list before after r =
-    Called (callees c.func) limits answers c list before after r (refusal (callees c.func) (length c.params) c.slots before.trapped)
+    Called (callees c.func) limits answers c list before after r (call_refusal (callees c.func) (length c.params) c.slots before.trapped)
 WasPlayed callees limits answers (typed_item c) list before after r = WasTyped c.params (callees c.func) limits answers c before after r
 WasPlayed callees limits answers (new_item n) list before after r = WasMade n.borrow n before after r
 WasPlayed callees limits answers (drop_item d) list before after r = WasDropped (slice_get list d.resource) d.dtor_trap before after r

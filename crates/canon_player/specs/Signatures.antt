@@ -7,7 +7,7 @@ use Rattle.canon_leaves.specs.Parts.{Part}
 use Rattle.canon_types.specs.Instance.{Instance}
 use Rattle.canon_types.specs.declared.types.InterfaceType.{InterfaceType}
 use Rattle.canon_types.specs.declared.types.InterfaceType.TheVariants as ty
-use Rattle.canon_typed.specs.Charges.{cap}
+use Rattle.canon_model.specs.Memory.{cap}
 use Rattle.canon_typed.specs.Meaning.{FirstAnd, ListMeans, NoTrees, OptionMeans, ProductMeans, TextMeans}
 use Rattle.canon_typed.specs.Types.{IsListOf, IsOptionOf, IsResultOf, IsTupleOf}
 use Rattle.canon_lower_parts.specs.Gives.{item_shape, no_handles, option_gives, product_gives}

@@ -11,7 +11,7 @@ use Rattle.canon_context.specs.declared.fault.Fault.TheVariants as fault
 use Rattle.canon_val.specs.declared.val.Val.TheVariants as val
 use Rattle.canon_value_parts.specs.Resources.{all_resources}
 use Rattle.canon_func.specs.Asks.{Limits}
-use Rattle.canon_func.specs.Call.{refusal as call_refusal}
+use Rattle.canon_func.specs.Call.{call_refusal}
 use Rattle.canon_func.specs.Stores.{Callee}
 use Rattle.canon_func.specs.declared.error.Error.TheVariants as error
 use Rattle.canon_script.specs.Imports.{HostAnswer}

@@ -2,7 +2,7 @@
 use Rattle.std.specs.Prelude.{Bool, List, [], length, replicate, slice_get, false, ℕ, ◌+◌, ◌<◌, ◌∷◌, ◌≡◌}
 use Rattle.canon_memory.specs.Guest.{Recorded}
 use Rattle.canon_indices.specs.declared.options.StringEncoding.{StringEncoding}
-use Rattle.canon_types.specs.Table.{Table}
+use Rattle.canon_types.specs.Table.{TypeTable}
 use Rattle.canon_scripted.specs.Orders.{AreNarrow}
 use Rattle.canon_scripted.specs.declared.orders.Ordered.{Ordered}
 use Rattle.canon_scripted.specs.Scripted.{Doing, Plan}
@@ -33,7 +33,7 @@ exports_from i (has_post ∷ posts) = export_for i ∷ exports_from (i + 1) post
 
 -- One export for each of the first functions of the table, and the imports. The first options are those of the functions of the host, and
 -- after them stand those of each export.
-pub record IsScripted (t : Table) (encoding : StringEncoding) (posts : List Bool) (given : List Import) (component : Component) : Type 0 where
+pub record IsScripted (t : TypeTable) (encoding : StringEncoding) (posts : List Bool) (given : List Import) (component : Component) : Type 0 where
   pub types : component.types ≡ record { types = t; store = 0 }
   pub options : component.options.items ≡ script_options t encoding posts
   pub exports : component.exports.items ≡ exports_from 0 posts

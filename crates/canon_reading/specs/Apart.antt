@@ -13,7 +13,7 @@ use Rattle.canon_reading.specs.MapsOfTrees.{map_reading, pair_reading}
 use Rattle.canon_reading.specs.Reading.{Reading, Setting}
 use Rattle.canon_reading.specs.Readings.{EachReads, RestReading, boxed_reading, first_reading, fixed_reading, item_spot, list_reading, none_reading, nothing_reading}
 use Rattle.canon_reading.specs.Readings.{option_reading, payload_reading, product_reading, read_as, result_reading, tree_reading, CaseReads, CasesFault, EachFault, TreeReads, fixed_element}
-use Rattle.canon_reading.specs.Spots.{Faulty, Represents, behind, Rest, Spot, flat_in, pointer_in, stored, length_in, first_spot, others, members_in}
+use Rattle.canon_reading.specs.Spots.{Faulty, Represents, behind, Rest, Spot, flat_in, pointer_in, stored, length_in, first_spot, others, spot_members}
 
 abbrev pub AreApart : {A : Type 0} → Reading A → Type 0
 AreApart {A} R = (w : Setting) (at : Spot) (s : Shape) (before after : LedgerState) (v : A) (k : Kind) (x : At) → R.reads w at s before v after → R.faults w at s k x → ⊥
@@ -144,7 +144,7 @@ pub more_apart : {A B C : Type 0} {first : C → A} {others_of : C → B} {R : R
 more_apart {A} {B} {C} {first} {others_of} {R} {S} law more = record { apart = more_by first others_of R S law more }
 
 product_by : {A B : Type 0} (f : B → A) (S : RestReading A) → RestIsApart S → AreApart (product_reading f S)
-product_by f S law w at s before after v k x (room, h) g = law.apart w (members_in at) (product_members s) before after (f v) k x h g
+product_by f S law w at s before after v k x (room, h) g = law.apart w (spot_members at) (product_members s) before after (f v) k x h g
 
 pub product_apart : {A B : Type 0} (f : B → A) {S : RestReading A} → RestIsApart S → IsApart (product_reading f S)
 product_apart f {S} law = record { apart = product_by f S law }

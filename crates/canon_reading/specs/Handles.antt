@@ -21,7 +21,8 @@ use Rattle.canon_typed.specs.Charges.{free}
 use Rattle.canon_typed.specs.Meaning.{IsHandle}
 use Rattle.canon_typed.specs.Types.{IsHandleType}
 use Rattle.canon_reading.specs.OfTrees.{IsFaulted, IsOfTrees, IsPriced, AreSteps}
-use Rattle.canon_reading.specs.Reading.{AreTaken, Reading, Setting, stop_of}
+use Rattle.canon_reading.specs.Reading.{AreTaken, Reading, Setting}
+use Rattle.canon_context.specs.Faults.{stop_of}
 use Rattle.canon_reading.specs.Spots.{HasRoom, Represents, Spot, flat_in, handle_in, stored}
 use Rattle.canon_reading.specs.Apart.{IsApart}
 

@@ -22,7 +22,8 @@ use Rattle.canon_typed.specs.Types.{IsHandleOf, handle_type}
 use Rattle.canon_reading.specs.Apart.{IsApart}
 use Rattle.canon_reading.specs.Handles.{IsRefusal, borrow_represents, leaf_at, own_represents}
 use Rattle.canon_reading.specs.OfTrees.{AreSteps, IsFaulted, IsOfTrees, IsPriced}
-use Rattle.canon_reading.specs.Reading.{AreTaken, Reading, Setting, stop_of}
+use Rattle.canon_reading.specs.Reading.{AreTaken, Reading, Setting}
+use Rattle.canon_context.specs.Faults.{stop_of}
 use Rattle.canon_reading.specs.Spots.{HasRoom, Represents, Spot, flat_in, handle_in, stored}
 use Rattle.canon_reading.specs.Ways.{rep_parts}
 use Rattle.std.proofs.lemmas.Option.{none-some}

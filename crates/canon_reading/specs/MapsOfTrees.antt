@@ -18,7 +18,7 @@ use Rattle.canon_reading.specs.OfTrees.{IsFaulted, IsFaultedAt, IsOfTrees, IsOfT
 use Rattle.canon_reading.specs.Reading.{AreTaken, Reading, Setting}
 use Rattle.canon_reading.specs.Readings.{EachFault, EachReads, ListReads, RestReading, each_reach, each_steps, first_reading, list_reading, none_reading, product_reading}
 use Rattle.canon_reading.specs.RowsOfTrees.{list_faulty, list_lifts, list_price, list_walked}
-use Rattle.canon_reading.specs.Spots.{Faulty, Represents, Spot, flat_in, stored, leaves_in, members_in, first_spot, others, Rest}
+use Rattle.canon_reading.specs.Spots.{Faulty, Represents, Spot, flat_in, stored, leaves_in, spot_members, first_spot, others, Rest}
 use Rattle.canon_reading.specs.Taken.{end_taken, list_taken, more_taken, product_taken}
 use Rattle.canon_model.specs.Leaves.{flat_leaves, reach_leaves}
 use Rattle.canon_model.specs.Memory.{Memory}
@@ -50,7 +50,7 @@ pair_taken R S law law2 = product_taken itself (first_reading of_key itself R (v
     (more_taken of_key itself R (value_reading S) law (more_taken of_value of_none S none_reading law2 end_taken))
 
 -- the handles of a pair are those of both
-pair_leaves : (m : Memory) (s u : Shape) (at : Spot) → leaves_in m (first_spot m s (members_in at)) s ++ (leaves_in m (first_spot m u (others m s (members_in at))) u ++ []) ≡ leaves_in m at (tuple (s ∷ u ∷ []))
+pair_leaves : (m : Memory) (s u : Shape) (at : Spot) → leaves_in m (first_spot m s (spot_members at)) s ++ (leaves_in m (first_spot m u (others m s (spot_members at))) u ++ []) ≡ leaves_in m at (tuple (s ∷ u ∷ []))
 unfolding reach_leaves flat_leaves
 pair_leaves m s u (stored a) = refl
 pair_leaves m s u (flat_in ws i) = refl
@@ -76,7 +76,7 @@ module _ {K V : Type 0} {R : Reading K} {S : Reading V} {w : Setting} {s u : Sha
     pair_walked : (at : Spot) → AreSteps w at (tuple (s ∷ u ∷ [])) ((pair_reading R S).steps w at (tuple (s ∷ u ∷ [])))
     pair_walked at =
         let m : Memory = w.memory in
-        let p : Rest = members_in at in
+        let p : Rest = spot_members at in
         let second = lifted_then w.types (leaves_in m (first_spot m u (others m s p)) u) [] (S.steps w (first_spot m u (others m s p)) u) [] (law2.steps (first_spot m u (others m s p))) tt in
         subst (λ ls. AreLiftedBy w.types ls ((pair_reading R S).steps w at (tuple (s ∷ u ∷ [])))) (pair_leaves m s u at)
         (lifted_then w.types (leaves_in m (first_spot m s p) s) (leaves_in m (first_spot m u (others m s p)) u ++ [])

@@ -185,20 +185,20 @@ module _ (m : Memory) (enc : Encoding) (e : ℕ) where
   fault_behind (flat_in ws j) (Some s) cs k x f = f
 
 -- the end of a variant's words
-abbrev end_of : Spot → Cases → ℕ
-end_of (stored a) cs = 0
-end_of (flat_in ws i) cs = i + 1 + cases_flat cs
+abbrev variant_end : Spot → Cases → ℕ
+variant_end (stored a) cs = 0
+variant_end (flat_in ws i) cs = i + 1 + cases_flat cs
 
 module _ (m : Memory) (enc : Encoding) (k : VariantKind) (cs : Cases) where
-  variant_represents : (at : Spot) (d : ℕ) (t : Tree) → HasRoom m at (variant k cs) → tag_in m at cs ≡ d → CaseIn m enc (end_of at cs) (payload_spot m at cs) cs d d t → Represents m enc at (variant k cs) t
+  variant_represents : (at : Spot) (d : ℕ) (t : Tree) → HasRoom m at (variant k cs) → tag_in m at cs ≡ d → CaseIn m enc (variant_end at cs) (payload_spot m at cs) cs d d t → Represents m enc at (variant k cs) t
   variant_represents (stored a) d t room is h = (room, subst (λ i. CaseStored (Inside m) false enc m cs i i (a + payload_offset m.wide cs) t) (sym is) h)
   variant_represents (flat_in ws i) d t room is h = (subst (λ j. CaseFlat (Inside m) false enc m ws cs j j (i + 1) (i + 1 + cases_flat cs) t) (sym is) h, λ g. untrue g)
 
-  represented_case : (at : Spot) (t : Tree) → Represents m enc at (variant k cs) t → CaseIn m enc (end_of at cs) (payload_spot m at cs) cs (tag_in m at cs) (tag_in m at cs) t
+  represented_case : (at : Spot) (t : Tree) → Represents m enc at (variant k cs) t → CaseIn m enc (variant_end at cs) (payload_spot m at cs) cs (tag_in m at cs) (tag_in m at cs) t
   represented_case (stored a) t h = h.1
   represented_case (flat_in ws i) t h = h.0
 
-  fault_of_case : (at : Spot) (d : ℕ) (l : Kind) (x : At) → tag_in m at cs ≡ d → CaseFaulty m enc (end_of at cs) (payload_spot m at cs) cs d l x → Faulty m enc at (variant k cs) l x
+  fault_of_case : (at : Spot) (d : ℕ) (l : Kind) (x : At) → tag_in m at cs ≡ d → CaseFaulty m enc (variant_end at cs) (payload_spot m at cs) cs d l x → Faulty m enc at (variant k cs) l x
   fault_of_case (stored a) d l x is f = inr (subst (λ i. CaseFault enc m cs i (a + payload_offset m.wide cs) l x) (sym is) f)
   fault_of_case (flat_in ws i) d l x is f = inr (subst (λ j. CaseFlatFault enc m ws cs j (i + 1) l x) (sym is) f)
 
@@ -255,14 +255,14 @@ option_lifts : {A : Type 0} (R : Reading A) (Lifts : A → Tree → Type 0) (w :
 option_lifts R Lifts w at u before after law None (room, is, same) =
     let m = w.memory in
     let cs : Cases = bare [] (payload [] u no_cases) in
-    (case 0, variant_represents m w.encoding of_option cs at 0 (case 0) room is (bare_in m w.encoding (end_of at cs) (payload_spot m at cs) [] (payload [] u no_cases) 0), refl)
+    (case 0, variant_represents m w.encoding of_option cs at 0 (case 0) room is (bare_in m w.encoding (variant_end at cs) (payload_spot m at cs) [] (payload [] u no_cases) 0), refl)
 option_lifts R Lifts w at u before after law (Some x) (room, is, h) =
     let m = w.memory in
     let cs : Cases = bare [] (payload [] u no_cases) in
     let (t, rep, lifts) = law (payload_spot m at cs) x h in (
       case_of 1 t,
       variant_represents m w.encoding of_option cs at 1 (case_of 1 t) room is
-          (behind_first m w.encoding (end_of at cs) (payload_spot m at cs) None (payload [] u no_cases) 1 (case_of 1 t) (payload_there m w.encoding (end_of at cs) (payload_spot m at cs) [] u no_cases 1 t rep)),
+          (behind_first m w.encoding (variant_end at cs) (payload_spot m at cs) None (payload [] u no_cases) 1 (case_of 1 t) (payload_there m w.encoding (variant_end at cs) (payload_spot m at cs) [] u no_cases 1 t rep)),
       (t, refl, lifts),
     )
 
@@ -285,7 +285,7 @@ option_faulty R w at u k x law (inr (inr (is, f))) =
     let cs : Cases = bare [] (payload [] u no_cases) in
     let p : Spot = payload_spot m at cs in
     fault_of_case m w.encoding of_option cs at 1 k x is
-    (fault_behind m w.encoding (end_of at cs) p None (payload [] u no_cases) k x (fault_here m w.encoding (end_of at cs) p [] u no_cases k x (law p f)))
+    (fault_behind m w.encoding (variant_end at cs) p None (payload [] u no_cases) k x (fault_here m w.encoding (variant_end at cs) p [] u no_cases k x (law p f)))
 
 -- a number past 1
 past_one : {X : Type 0} (n : ℕ) (x y z : X) → cond (suc (suc n) == 0) x (cond (suc (suc n) == 1) y z) ≡ z
@@ -319,7 +319,7 @@ module _ {A : Type 0} {Fit : Instance → InterfaceType → Type 0} {R : Reading
         let u : Shape = shape_of w.types.types some in
         let cs : Cases = bare [] (payload [] u no_cases) in
         subst (λ (s : Shape). cases_reach (nothing_reading {A = Unit {0}}) R w at s ≡ option_cost price t) (sym d.shape)
-        (option_price R price w (payload_spot w.memory at cs) u (end_of at cs) _ (tag_in w.memory at cs) t (λ y. law.reach w _ some y f)
+        (option_price R price w (payload_spot w.memory at cs) u (variant_end at cs) _ (tag_in w.memory at cs) t (λ y. law.reach w _ some y f)
         (represented_case w.memory w.encoding of_option cs at t (subst (λ (s : Shape). Represents w.memory w.encoding at s t) d.shape rep)))
     option_reached w at _ t f rep = absurd f
 
@@ -441,12 +441,12 @@ module _ {A B : Type 0} (unit unit2 : Bool) {Fit Fit2 : Instance → InterfaceTy
     result_faulty w ok error f g at k x (inr (inl (is, h))) =
         let cs : Cases = both w ok error in
         let p : Spot = payload_spot w.memory at cs in
-        fault_of_case w.memory w.encoding of_result cs at 0 k x is (payload_faulty law w (bad w ok error) (end_of at cs) p unit ok k x f h)
+        fault_of_case w.memory w.encoding of_result cs at 0 k x is (payload_faulty law w (bad w ok error) (variant_end at cs) p unit ok k x f h)
     result_faulty w ok error f g at k x (inr (inr (is, h))) =
         let cs : Cases = both w ok error in
         let p : Spot = payload_spot w.memory at cs in
-        fault_of_case w.memory w.encoding of_result cs at 1 k x is (fault_behind w.memory w.encoding (end_of at cs) p (good w ok error) (bad w ok error) k x
-        (payload_faulty law2 w no_cases (end_of at cs) p unit2 error k x g (subst (λ (s : Shape). (payload_reading unit2 S).faults w p s k x) (second_shape (good w ok error) (bad w ok error)) h)))
+        fault_of_case w.memory w.encoding of_result cs at 1 k x is (fault_behind w.memory w.encoding (variant_end at cs) p (good w ok error) (bad w ok error) k x
+        (payload_faulty law2 w no_cases (variant_end at cs) p unit2 error k x g (subst (λ (s : Shape). (payload_reading unit2 S).faults w p s k x) (second_shape (good w ok error) (bad w ok error)) h)))
 
     result_faults : (w : Setting) (at : Spot) (type : InterfaceType) (k : Kind) (x : At) → IsResultOf unit Fit unit2 Fit2 w.types type
         → (result_reading unit R unit2 S).faults w at (shape_of w.types.types type) k x → Faulty w.memory w.encoding at (shape_of w.types.types type) k x
@@ -471,7 +471,7 @@ module _ {A B : Type 0} (unit unit2 : Bool) {Fit Fit2 : Instance → InterfaceTy
     result_reached w at (ty.Result i) t (ok, error, d, f, g) rep =
         let cs : Cases = both w ok error in
         subst (λ (s : Shape). (result_reading unit R unit2 S).reach w at s ≡ result_cost price price2 t) (sym d.shape)
-        (result_price w ok error f g (payload_spot w.memory at cs) (end_of at cs) (tag_in w.memory at cs) t
+        (result_price w ok error f g (payload_spot w.memory at cs) (variant_end at cs) (tag_in w.memory at cs) t
         (represented_case w.memory w.encoding of_result cs at t (subst (λ (s : Shape). Represents w.memory w.encoding at s t) d.shape rep)))
     result_reached w at _ t f rep = absurd f
 
@@ -485,14 +485,14 @@ module _ {A B : Type 0} (unit unit2 : Bool) {Fit Fit2 : Instance → InterfaceTy
     result_lifts w ok error f g at before after (Ok x) (room, is, h) =
         let cs : Cases = both w ok error in
         let p : Spot = payload_spot w.memory at cs in
-        let (t, there, lifts) = payload_lifts law w (bad w ok error) (end_of at cs) 0 p unit ok before after x f h in
+        let (t, there, lifts) = payload_lifts law w (bad w ok error) (variant_end at cs) 0 p unit ok before after x f h in
         (t, variant_represents w.memory w.encoding of_result cs at 0 t room is there, lifts)
     result_lifts w ok error f g at before after (Err y) (room, is, h) =
         let cs : Cases = both w ok error in
         let p : Spot = payload_spot w.memory at cs in
-        let (t, there, lifts) = payload_lifts law2 w no_cases (end_of at cs) 1 p unit2 error before after y g
+        let (t, there, lifts) = payload_lifts law2 w no_cases (variant_end at cs) 1 p unit2 error before after y g
         (subst (λ (s : Shape). (payload_reading unit2 S).reads w p s before y after) (second_shape (good w ok error) (bad w ok error)) h) in
-        (t, variant_represents w.memory w.encoding of_result cs at 1 t room is (behind_first w.memory w.encoding (end_of at cs) p (good w ok error) (bad w ok error) 1 t there), lifts)
+        (t, variant_represents w.memory w.encoding of_result cs at 1 t room is (behind_first w.memory w.encoding (variant_end at cs) p (good w ok error) (bad w ok error) 1 t there), lifts)
 
     result_reads : (w : Setting) (at : Spot) (type : InterfaceType) (before after : LedgerState) (v : Result A B) → IsResultOf unit Fit unit2 Fit2 w.types type
         → (result_reading unit R unit2 S).reads w at (shape_of w.types.types type) before v after

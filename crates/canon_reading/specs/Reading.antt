@@ -1,14 +1,13 @@
 -- What lifting reads as a value of a Rust type. It goes by the parts of the type and needs no tree, so that a text or a list that
 -- stays in memory is read alike.
-use Rattle.std.specs.Prelude.{◌≡◌, ◌+◌, ◌<◌, ◌≤◌, Bool, Err, List, None, Ok, Option, Result, true, ℕ}
+use Rattle.std.specs.Prelude.{◌≡◌, ◌+◌, ◌<◌, ◌≤◌, Bool, Err, List, Ok, Result, true, ℕ}
 use Rattle.canon_context.specs.Core.{Parts, encoding_by}
 use Rattle.canon_context.specs.Told.{Exactly, LiftBlames, ToldAt}
 use Rattle.canon_context.specs.declared.fault.At.{At as Place}
 use Rattle.canon_context.specs.declared.fault.Fault.{Fault}
 use Rattle.canon_context.specs.declared.fault.Fault.TheVariants as fault
-use Rattle.canon_leaves.specs.Parts.{LeavesStop, LeavesTake, Part, refusal_of}
+use Rattle.canon_leaves.specs.Parts.{LeavesStop, LeavesTake, Part}
 use Rattle.canon_ledger.specs.Ledger.{LedgerState}
-use Rattle.canon_ledger.specs.declared.fault.ResourceFault.{ResourceFault}
 use Rattle.canon_lowering.specs.Storing.{narrow}
 use Rattle.canon_model.specs.Memory.{Memory}
 use Rattle.canon_model.specs.Reach as reach
@@ -17,6 +16,7 @@ use Rattle.canon_model.specs.Shape.{Shape}
 use Rattle.canon_model.specs.Text.{Encoding}
 use Rattle.canon_types.specs.Instance.{Instance}
 use Rattle.canon_reading.specs.Spots.{Spot, flat_in, stored}
+use Rattle.canon_context.specs.Faults.{stop_of}
 
 -- what is lifted from: types in their store, memory, how texts are spelled there, the number of the options, and the store
 pub record Setting : Type 0 where
@@ -46,11 +46,6 @@ pub record Reading (A : Type 0) : Type 1 where
 abbrev pub NamedBy : Spot → (Kind → reach.At → Type 0) → Kind → Place → Type 0
 NamedBy (stored a) F = Exactly F
 NamedBy (flat_in ws i) F = ToldAt F
-
--- the refusal that stopped a lifting, if it was the ledger's; out of memory is none
-abbrev pub stop_of : Fault → Option ResourceFault
-stop_of (fault.Resource e) = refusal_of e
-stop_of _ = None
 
 module _ {A : Type 0} (R : Reading A) (w : Setting) (at : Spot) (s : Shape) (before : LedgerState) (fuel : ℕ) where
   -- why a value was not lifted: a fault of a reached place, fuel below the charges of all of them, a refusal of the ledger, or out of

@@ -11,7 +11,7 @@ use Rattle.canon_model.specs.Layout.{payload_shape}
 use Rattle.canon_model.specs.Tree.{Tree}
 use Rattle.canon_types.specs.Depth.{element_shape, product_members, variant_cases}
 use Rattle.canon_reading.specs.Reading.{Reading, Setting}
-use Rattle.canon_reading.specs.Spots.{Faulty, HasRoom, Represents, Rest, Spot, at_of, behind, first_spot, flat_in, length_in, members_in, others, payload_spot, pointer_in, stored, tag_in}
+use Rattle.canon_reading.specs.Spots.{Faulty, HasRoom, Represents, Rest, Spot, at_of, behind, first_spot, flat_in, length_in, others, payload_spot, pointer_in, spot_members, stored, tag_in}
 
 -- ---- a value of what is represented
 
@@ -254,9 +254,9 @@ module _ {A B C : Type 0} (first : C → A) (others_of : C → B) (R : Reading A
 
 abbrev pub product_reading : {A B : Type 0} → (B → A) → RestReading A → Reading B
 product_reading f S = record {
-  reads = λ w at s before v after. HasRoom w.memory at s × S.reads w (members_in at) (product_members s) before (f v) after;
-  faults = λ w at s. S.faults w (members_in at) (product_members s);
-  reach = λ w at s. S.reach w (members_in at) (product_members s);
-  steps = λ w at s. S.steps w (members_in at) (product_members s);
+  reads = λ w at s before v after. HasRoom w.memory at s × S.reads w (spot_members at) (product_members s) before (f v) after;
+  faults = λ w at s. S.faults w (spot_members at) (product_members s);
+  reach = λ w at s. S.reach w (spot_members at) (product_members s);
+  steps = λ w at s. S.steps w (spot_members at) (product_members s);
   allocates = S.allocates;
 }

@@ -20,7 +20,7 @@ use Rattle.canon_typed.specs.Types.{AreOf, IsFixedOf, IsListOf, IsTupleOf}
 use Rattle.canon_reading.specs.OfTrees.{IsFaulted, IsFaultedAt, IsOfTrees, IsOfTreesAt, IsPriced, IsPricedAt, faulted_at, priced_at, told_at, untrue, AreSteps}
 use Rattle.canon_reading.specs.Reading.{Reading, Setting}
 use Rattle.canon_reading.specs.Readings.{EachFault, EachReads, ListReads, RestReading, each_reach, first_reading, fixed_reading, list_reading, none_reading, product_reading, each_steps}
-use Rattle.canon_reading.specs.Spots.{Faulty, HasRoom, Represents, Rest, Spot, behind, first_spot, flat_from, flat_in, length_in, members_in, others, pointer_in, stored, stored_from, leaves_in}
+use Rattle.canon_reading.specs.Spots.{Faulty, HasRoom, Represents, Rest, Spot, behind, first_spot, flat_from, flat_in, length_in, spot_members, others, pointer_in, stored, stored_from, leaves_in}
 use Rattle.canon_model.specs.Leaves.{Leaf, flat_leaves, list_at, members_flat_leaves, members_reach_leaves, reach_leaves}
 use Rattle.canon_leaves.specs.Parts.{Part}
 use Rattle.canon_reading.specs.Ways.{AreLiftedBy, lifted_if, lifted_then}
@@ -357,19 +357,19 @@ module _ {A B C : Type 0} {first : C → A} {others_of : C → B} {Fit : Instanc
   more_told law more = record { reads = more_reads first others_of law more; steps = more_steps first others_of law more }
 
 module _ (m : Memory) (enc : Encoding) (ms : Members) where
-  product_represents : (at : Spot) (ts : Trees) → HasRoom m at (product of_places ms) → MembersIn m enc (members_in at) ms ts → Represents m enc at (product of_places ms) (parts ts)
+  product_represents : (at : Spot) (ts : Trees) → HasRoom m at (product of_places ms) → MembersIn m enc (spot_members at) ms ts → Represents m enc at (product of_places ms) (parts ts)
   product_represents (stored a) ts room h = (room, (ts, refl, h))
   product_represents (flat_in ws i) ts room h = (ts, refl, h)
 
-  represented_product : (at : Spot) (t : Tree) → Represents m enc at (product of_places ms) t → (ts : Trees) × (t ≡ parts ts) × MembersIn m enc (members_in at) ms ts
+  represented_product : (at : Spot) (t : Tree) → Represents m enc at (product of_places ms) t → (ts : Trees) × (t ≡ parts ts) × MembersIn m enc (spot_members at) ms ts
   represented_product (stored a) t h = h.1
   represented_product (flat_in ws i) t h = h
 
-  product_faulty : (at : Spot) (k : Kind) (x : At) → MembersFaulty m enc (members_in at) ms k x → Faulty m enc at (product of_places ms) k x
+  product_faulty : (at : Spot) (k : Kind) (x : At) → MembersFaulty m enc (spot_members at) ms k x → Faulty m enc at (product of_places ms) k x
   product_faulty (stored a) k x h = h
   product_faulty (flat_in ws i) k x h = h
 
-product_leaves : (m : Memory) (ms : Members) (at : Spot) → members_leaves_in m (members_in at) ms ≡ leaves_in m at (product of_places ms)
+product_leaves : (m : Memory) (ms : Members) (at : Spot) → members_leaves_in m (spot_members at) ms ≡ leaves_in m at (product of_places ms)
 unfolding reach_leaves flat_leaves
 product_leaves m ms (stored a) = refl
 product_leaves m ms (flat_in ws i) = refl
@@ -380,7 +380,7 @@ module _ {A B : Type 0} (f : B → A) {all : List (Instance → InterfaceType �
         → (product_reading f S).faults w at (shape_of w.types.types type) k x → Faulty w.memory w.encoding at (shape_of w.types.types type) k x
     tuple_faults w at (ty.Tuple i) k x (types, d, fits) h =
         subst (λ (z : Shape). Faulty w.memory w.encoding at z k x) (sym d.shape)
-        (product_faulty w.memory w.encoding (members_of w.types.types types) at k x (law.faults w (members_in at) types k x fits (subst (λ (z : Shape). (product_reading f S).faults w at z k x) d.shape h)))
+        (product_faulty w.memory w.encoding (members_of w.types.types types) at k x (law.faults w (spot_members at) types k x fits (subst (λ (z : Shape). (product_reading f S).faults w at z k x) d.shape h)))
     tuple_faults w at _ k x fits h = absurd fits
 
     pub tuple_faulted : IsFaulted (IsTupleOf all) (product_reading f S)
@@ -392,7 +392,7 @@ module _ {A B : Type 0} (f : B → A) {all : List (Instance → InterfaceType �
     tuple_reached w at (ty.Tuple i) t (types, d, fits) rep =
         let (ts, is, reps) = represented_product w.memory w.encoding (members_of w.types.types types) at t (subst (λ (z : Shape). Represents w.memory w.encoding at z t) d.shape rep) in
         subst (λ (z : Shape). (product_reading f S).reach w at z ≡ product_cost prices t) (sym d.shape)
-        (law.reach w (members_in at) types ts fits reps ∙ ap (λ (u : Tree). product_cost prices u) (sym is))
+        (law.reach w (spot_members at) types ts fits reps ∙ ap (λ (u : Tree). product_cost prices u) (sym is))
     tuple_reached w at _ t fits rep = absurd fits
 
     pub tuple_priced : IsPriced (IsTupleOf all) (product_reading f S) (product_cost prices)
@@ -403,7 +403,7 @@ module _ {A B : Type 0} (f : B → A) {all : List (Instance → InterfaceType �
         → (t : Tree) × Represents w.memory w.encoding at (shape_of w.types.types type) t × ProductMeans (Have (f v)) t
     tuple_reads w at (ty.Tuple i) before after v (types, d, fits) h =
         let (room, each) = subst (λ (z : Shape). (product_reading f S).reads w at z before v after) d.shape h in
-        let (ts, reps, have) = law.reads w (members_in at) types before after (f v) fits each in
+        let (ts, reps, have) = law.reads w (spot_members at) types before after (f v) fits each in
         subst (λ (z : Shape). (t : Tree) × Represents w.memory w.encoding at z t × ProductMeans (Have (f v)) t) (sym d.shape)
         (parts ts, product_represents w.memory w.encoding (members_of w.types.types types) at ts room reps, (ts, refl, have))
     tuple_reads w at _ before after v fits h = absurd fits
@@ -411,7 +411,7 @@ module _ {A B : Type 0} (f : B → A) {all : List (Instance → InterfaceType �
     tuple_steps : (w : Setting) (at : Spot) (type : InterfaceType) → IsTupleOf all w.types type → AreSteps w at (shape_of w.types.types type) ((product_reading f S).steps w at (shape_of w.types.types type))
     tuple_steps w at (ty.Tuple i) (types, d, fits) =
         subst (λ (z : Shape). AreSteps w at z ((product_reading f S).steps w at z)) (sym d.shape)
-        (subst (λ ls. AreLiftedBy w.types ls (S.steps w (members_in at) (members_of w.types.types types))) (product_leaves w.memory (members_of w.types.types types) at) (law.steps w (members_in at) types fits))
+        (subst (λ ls. AreLiftedBy w.types ls (S.steps w (spot_members at) (members_of w.types.types types))) (product_leaves w.memory (members_of w.types.types types) at) (law.steps w (spot_members at) types fits))
     tuple_steps w at _ fits = absurd fits
 
     pub tuple_told : IsOfTrees (IsTupleOf all) (product_reading f S) (λ v. ProductMeans (Have (f v)))

@@ -14,7 +14,7 @@ use Rattle.canon_typed.specs.Types.{AreOf, IsFixedOf, IsListOf, IsMapOf, IsOptio
 use Rattle.canon_reading.specs.MapsOfTrees.{map_reading, pair_reading}
 use Rattle.canon_reading.specs.Reading.{Reading, Setting}
 use Rattle.canon_reading.specs.Readings.{RestReading, boxed_reading, each_steps, first_reading, fixed_reading, list_reading, none_reading, option_reading, payload_reading, product_reading, read_as, result_reading}
-use Rattle.canon_reading.specs.Spots.{Rest, Spot, behind, first_spot, length_in, members_in, others, payload_spot, pointer_in, stored}
+use Rattle.canon_reading.specs.Spots.{Rest, Spot, behind, first_spot, length_in, others, payload_spot, pointer_in, spot_members, stored}
 
 -- what a handle does leaves the open scopes as they are
 abbrev pub KeepsScopes : List Part → Type 0
@@ -168,7 +168,7 @@ more_kept {first = first} {others_of = others_of} {Fit = Fit} {R = R} {rest = re
 tuple_keeps : {A B : Type 0} (f : B → A) (all : List (Instance → InterfaceType → Type 0)) (S : RestReading A) → AreKept all S
     → (w : Setting) (at : Spot) (type : InterfaceType) → IsTupleOf all w.types type → has_borrow (shape_of w.types.types type) ≡ false → AllKeep ((product_reading f S).steps w at (shape_of w.types.types type))
 tuple_keeps f all S law w at (ty.Tuple x) (types, d, fs) none =
-    subst (λ (z : Shape). AllKeep ((product_reading f S).steps w at z)) (sym d.shape) (law.kept w (members_in at) types fs (sym (ap has_borrow d.shape) ∙ none))
+    subst (λ (z : Shape). AllKeep ((product_reading f S).steps w at z)) (sym d.shape) (law.kept w (spot_members at) types fs (sym (ap has_borrow d.shape) ∙ none))
 tuple_keeps f all S law w at _ g none = absurd g
 
 pub tuple_kept : {A B : Type 0} (f : B → A) {all : List (Instance → InterfaceType → Type 0)} {S : RestReading A} → AreKept all S → IsKept (IsTupleOf all) (product_reading f S)
@@ -178,7 +178,7 @@ tuple_kept f {all = all} {S = S} law = record { kept = tuple_keeps f all S law }
 
 pair_kept : {K V : Type 0} (R : Reading K) (S : Reading V) (w : Setting) (s u : Shape) → ((at : Spot) → AllKeep (R.steps w at s)) → ((at : Spot) → AllKeep (S.steps w at u)) → (at : Spot)
     → AllKeep ((pair_reading R S).steps w at (tuple (s ∷ u ∷ [])))
-pair_kept R S w s u law law2 at = all_then _ _ (law (first_spot w.memory s (members_in at))) (all_then _ _ (law2 (first_spot w.memory u (others w.memory s (members_in at)))) none_kept)
+pair_kept R S w s u law law2 at = all_then _ _ (law (first_spot w.memory s (spot_members at))) (all_then _ _ (law2 (first_spot w.memory u (others w.memory s (spot_members at)))) none_kept)
 
 map_keeps : {K V : Type 0} (bytes : ℕ) (Key : Instance → InterfaceType → Type 0) (R : Reading K) (Value : Instance → InterfaceType → Type 0) (S : Reading V) → IsKept Key R → IsKept Value S
     → (w : Setting) (at : Spot) (type : InterfaceType) → IsMapOf Key Value w.types type → has_borrow (shape_of w.types.types type) ≡ false → AllKeep ((list_reading bytes (pair_reading R S)).steps w at (shape_of w.types.types type))

@@ -78,9 +78,9 @@ pub data Rest : Type 0 where
   stored_from : ℕ → ℕ → Rest
   flat_from : List ℕ → ℕ → Rest
 
-abbrev pub members_in : Spot → Rest
-members_in (stored a) = stored_from a 0
-members_in (flat_in ws i) = flat_from ws i
+abbrev pub spot_members : Spot → Rest
+spot_members (stored a) = stored_from a 0
+spot_members (flat_in ws i) = flat_from ws i
 
 module _ (m : Memory) (s : Shape) where
   -- where the first of them stands, of the shape, and those behind it

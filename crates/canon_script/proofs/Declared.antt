@@ -5,7 +5,7 @@ use Rattle.std.specs.List.{All}
 use Rattle.serde_json.specs.Data.{Items}
 use Rattle.canon_json.proofs.Found.{by_map, onward_keeps}
 use Rattle.canon_json.specs.Json.{onward}
-use Rattle.canon_types.specs.Refusal.{empty_table}
+use Rattle.canon_types.specs.Refusal.{empty_type_table}
 use Rattle.canon_layout.specs.Asked.{add_resource, funcs_over, types_over}
 use Rattle.canon_layout.proofs.Known.{funcs_stand, resources_begun, types_begun}
 use Rattle.canon_script.specs.Imports.{HaveAnswers, ImportStands, add_import, imported, imports_over}
@@ -21,7 +21,7 @@ pub record AreDeclared (d : Declared) : Type 0 where
 
 pub declared_sound : (resources types funcs imports : Items) (d : Declared) → declared_of resources types funcs imports ≡ Some d → AreDeclared d
 declared_sound resources types funcs imports d e =
-    option_and_then_some _ (onward add_resource empty_table resources) d e (λ t s1 e1.
+    option_and_then_some _ (onward add_resource empty_type_table resources) d e (λ t s1 e1.
     option_and_then_some (declared_with funcs imports) (types_over t types) d e1 (λ l s2 e2.
     option_and_then_some (declared_over imports l.types) (funcs_over funcs l) d e2 (λ fs s3 e3.
     by_map (declared fs.posts) (imports_over l.types fs.table imports) d e3 (λ m s4 is.

@@ -17,7 +17,7 @@ use Rattle.canon_json.specs.Json.{each, each_of, has_len, u32_of}
 use Rattle.canon_layout.proofs.Known.{accepted_is}
 use Rattle.canon_layout.specs.Entries.{reference_of}
 use Rattle.canon_types.specs.Refusal.{func_refusal, with_func}
-use Rattle.canon_types.specs.Table.{HasResource, Table, TupleType, tuple_types}
+use Rattle.canon_types.specs.Table.{HasResource, TupleType, TypeTable, tuple_types}
 use Rattle.canon_types.specs.declared.types.InterfaceType.{InterfaceType}
 use Rattle.canon_types.specs.declared.types.TypeFunc.{TypeFunc}
 use Rattle.canon_script.specs.Imports.{HasAnswers, HaveAnswers, HostAnswer, HostParts, ImportStands, Imported, IsAnswer, add_import, answer_after, host_answer_of, builtin_by, builtin_import_of, host_of, host_with, if_many, known_resource, func_result_count, with_builtin, with_host, with_import}
@@ -52,26 +52,26 @@ pub below : (count n m : ℕ) → if_below count n ≡ Some m → m < count
 below count n m e = by_test (nat_lt n count) (Some n) m e (λ lt is. subst (λ (k : ℕ). k < count) (same_Some n m is) (ltb-true n count lt))
 
 -- a function type that isn't async, with these results
-pub record IsHost (t : Table) (type : ℕ) (results : List InterfaceType) : Type 0 where
+pub record IsHost (t : TypeTable) (type : ℕ) (results : List InterfaceType) : Type 0 where
   pub func : TypeFunc
   pub found : slice_get t.funcs type ≡ Some func
   pub sync : func.async_ ≡ false
   pub tuple : slice_get t.definitions func.results ≡ Some (TupleType results)
 
 -- an import stands over a table, and has its answers
-abbrev pub IsTaken : Table → Import → List HostAnswer → Type 0
+abbrev pub IsTaken : TypeTable → Import → List HostAnswer → Type 0
 IsTaken t (import.Host type options) answers = (results : List InterfaceType) × IsHost t type results × (options ≡ 0) × AllByRecursion (IsAnswer (Some (length results))) answers
 IsTaken t (import.ResourceNew r) answers = HasResource t r × (answers ≡ [])
 IsTaken t (import.ResourceRep r) answers = HasResource t r × (answers ≡ [])
 IsTaken t (import.ResourceDrop r) answers = HasResource t r × (answers ≡ [])
 
-abbrev pub AreTaken : Table → List Import → List (List HostAnswer) → Type 0
+abbrev pub AreTaken : TypeTable → List Import → List (List HostAnswer) → Type 0
 AreTaken t [] [] = Unit {0}
 AreTaken t [] (a ∷ gs) = ⊥
 AreTaken t (i ∷ is) [] = ⊥
 AreTaken t (i ∷ is) (a ∷ gs) = IsTaken t i a × AreTaken t is gs
 
-taken_more : (t : Table) (is : List Import) (gs : List (List HostAnswer)) (i : Import) (a : List HostAnswer) → AreTaken t is gs → IsTaken t i a → AreTaken t (is ++ i ∷ []) (gs ++ a ∷ [])
+taken_more : (t : TypeTable) (is : List Import) (gs : List (List HostAnswer)) (i : Import) (a : List HostAnswer) → AreTaken t is gs → IsTaken t i a → AreTaken t (is ++ i ∷ []) (gs ++ a ∷ [])
 taken_more t [] [] i a h x = (x, tt)
 taken_more t [] (b ∷ gs) i a h x = absurd h
 taken_more t (j ∷ is) [] i a h x = absurd h
@@ -79,33 +79,33 @@ taken_more t (j ∷ is) (b ∷ gs) i a h x = (h.0, taken_more t is gs i a h.1 x)
 
 -- ---- what it comes to
 
-results_are : (t : Table) (type : ℕ) (results : List InterfaceType) → IsHost t type results → func_result_count t type ≡ Some (length results)
+results_are : (t : TypeTable) (type : ℕ) (results : List InterfaceType) → IsHost t type results → func_result_count t type ≡ Some (length results)
 results_are t type results h =
     ap (option_map (λ f. length (option_map_or tuple_types (slice_get t.definitions f.results) []))) h.found ∙ ap (λ d. Some (length (option_map_or tuple_types d []))) h.tuple
 
-stands : (t : Table) (i : Import) (a : List HostAnswer) → IsTaken t i a → ImportStands t i
+stands : (t : TypeTable) (i : Import) (a : List HostAnswer) → IsTaken t i a → ImportStands t i
 stands t (import.Host type options) a h =
     (slice_get_within t.funcs type h.1.func h.1.found, subst (λ o. IfSome o (λ (f : TypeFunc). f.async_ ≡ false)) (sym h.1.found) h.1.sync, h.2)
 stands t (import.ResourceNew r) a h = h.0
 stands t (import.ResourceRep r) a h = h.0
 stands t (import.ResourceDrop r) a h = h.0
 
-answered : (t : Table) (i : Import) (a : List HostAnswer) → IsTaken t i a → HasAnswers t i a
+answered : (t : TypeTable) (i : Import) (a : List HostAnswer) → IsTaken t i a → HasAnswers t i a
 answered t (import.Host type options) a h =
     All-from_recursion (IsAnswer (func_result_count t type)) a (subst (λ o. AllByRecursion (IsAnswer o) a) (sym (results_are t type h.0 h.1)) h.3)
 answered t (import.ResourceNew r) a h = h.1
 answered t (import.ResourceRep r) a h = h.1
 answered t (import.ResourceDrop r) a h = h.1
 
-stand : (t : Table) (is : List Import) (gs : List (List HostAnswer)) → AreTaken t is gs → AllByRecursion (ImportStands t) is
+stand : (t : TypeTable) (is : List Import) (gs : List (List HostAnswer)) → AreTaken t is gs → AllByRecursion (ImportStands t) is
 stand t [] gs h = tt
 stand t (i ∷ is) [] h = absurd h
 stand t (i ∷ is) (a ∷ gs) h = (stands t i a h.0, stand t is gs h.1)
 
-pub all_stand : (t : Table) (is : List Import) (gs : List (List HostAnswer)) → AreTaken t is gs → All (ImportStands t) is
+pub all_stand : (t : TypeTable) (is : List Import) (gs : List (List HostAnswer)) → AreTaken t is gs → All (ImportStands t) is
 all_stand t is gs h = All-from_recursion (ImportStands t) is (stand t is gs h)
 
-pub all_answered : (t : Table) (is : List Import) (gs : List (List HostAnswer)) → AreTaken t is gs → HaveAnswers t is gs
+pub all_answered : (t : TypeTable) (is : List Import) (gs : List (List HostAnswer)) → AreTaken t is gs → HaveAnswers t is gs
 all_answered t [] [] h = tt
 all_answered t [] (a ∷ gs) h = h
 all_answered t (i ∷ is) [] h = h
@@ -113,8 +113,8 @@ all_answered t (i ∷ is) (a ∷ gs) h = (answered t i a h.0, all_answered t is 
 
 -- ---- one function type more
 
-module _ (t : Table) (params results : List InterfaceType) where
-  abbrev grown : Table
+module _ (t : TypeTable) (params results : List InterfaceType) where
+  abbrev grown : TypeTable
   grown = with_func t params results false
 
   host_stays : (type : ℕ) (rs : List InterfaceType) → IsHost t type rs → IsHost grown type rs
@@ -170,7 +170,7 @@ host_sound types d h e =
     option_and_then_some (each (host_answer_of (length results))) (as_array x) answers e4 (λ ds s5 e5.
     subst HasParts is (each_all (IsAnswer (Some (length results))) (host_answer_of (length results)) (answer_sound (length results)) ds answers e5))))))
 
-builtin_over : (t : Table) (r : ℕ) (word : List ℕ) (i : Import) → r < length t.resources → builtin_by r word ≡ Some i → IsTaken t i []
+builtin_over : (t : TypeTable) (r : ℕ) (word : List ℕ) (i : Import) → r < length t.resources → builtin_by r word ≡ Some i → IsTaken t i []
 builtin_over t r word i known e = by_word (pointwise nat_eq word (codes "new")) (pointwise nat_eq word (codes "rep")) (pointwise nat_eq word (codes "drop")) e
   where
     by_word : (new rep drop : Bool) → (if new then Some (import.ResourceNew r) else (if rep then Some (import.ResourceRep r) else (if drop then Some (import.ResourceDrop r) else None))) ≡ Some i → IsTaken t i []
@@ -179,7 +179,7 @@ builtin_over t r word i known e = by_word (pointwise nat_eq word (codes "new")) 
     by_word false false true e = subst (λ x. IsTaken t x []) (same_Some (import.ResourceDrop r) i e) (known, refl)
     by_word false false false e = absurd (cc)
 
-builtin_sound : (t : Table) (d : Data) (i : Import) → builtin_import_of t d ≡ Some i → IsTaken t i []
+builtin_sound : (t : TypeTable) (d : Data) (i : Import) → builtin_import_of t d ≡ Some i → IsTaken t i []
 builtin_sound t d i e =
     by_test (has_len 2 (as_object d)) _ i e (λ two e1.
     option_and_then_some (λ r. option_and_then (builtin_by r) (option_and_then as_str (get (codes "builtin") d))) (option_and_then (known_resource t) (option_and_then u32_of (get (codes "resource") d))) i e1 (λ r s1 e2.
@@ -217,14 +217,14 @@ import_keeps count types m n d are e = by_cases (has_len 3 (as_object d)) e
 
 -- ---- of one import
 
-pub has_answers : (t : Table) (is : List Import) (gs : List (List HostAnswer)) (n : ℕ) (i : Import) (g : List HostAnswer) → HaveAnswers t is gs → slice_get is n ≡ Some i → slice_get gs n ≡ Some g → HasAnswers t i g
+pub has_answers : (t : TypeTable) (is : List Import) (gs : List (List HostAnswer)) (n : ℕ) (i : Import) (g : List HostAnswer) → HaveAnswers t is gs → slice_get is n ≡ Some i → slice_get gs n ≡ Some g → HasAnswers t i g
 has_answers t [] gs n i g h e d = absurd (cc)
 has_answers t (j ∷ is) [] n i g h e d = absurd h
 has_answers t (j ∷ is) (k ∷ gs) zero i g h e d = subst (λ x. HasAnswers t x g) (same_Some j i e) (subst (λ x. HasAnswers t j x) (same_Some k g d) h.0)
 has_answers t (j ∷ is) (k ∷ gs) (suc n) i g h e d = has_answers t is gs n i g h.1 e d
 
 -- what a function of the host answers, where it doesn't refuse, is as many values as its type has results
-pub answer_fits : (t : Table) (is : List Import) (gs : List (List HostAnswer)) (n k type options : ℕ) (xs : List Literal) → HaveAnswers t is gs → slice_get is n ≡ Some (import.Host type options) → answer_after gs n k ≡ Some xs
+pub answer_fits : (t : TypeTable) (is : List Import) (gs : List (List HostAnswer)) (n k type options : ℕ) (xs : List Literal) → HaveAnswers t is gs → slice_get is n ≡ Some (import.Host type options) → answer_after gs n k ≡ Some xs
     → func_result_count t type ≡ Some (length xs)
 answer_fits t is gs n k type options xs h e d =
     option_and_then_some (λ a. a) (option_and_then (λ given. slice_get given k) (slice_get gs n)) xs d (λ a s1 e1.

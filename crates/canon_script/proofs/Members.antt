@@ -13,7 +13,7 @@ use Rattle.canon_model.specs.Shape.{Name}
 use Rattle.canon_val.specs.declared.val.Val.{Val}
 use Rattle.canon_literals.specs.Literals.{Literal, enum, fields, fields_of, fixed, flags, list, literal_view, literals_of, literals_view, pairs, literal_pairs, text, tuple}
 use Rattle.canon_script.specs.Typed.{each_literal}
-use Rattle.canon_script.specs.Values.{field_of, fields_in, kind_and_form, pairs_in, value_kind_named, only_char, scalar_by, value_by, value_of, values_of}
+use Rattle.canon_script.specs.Values.{field_of, named_literals, kind_and_form, pairs_in, value_kind_named, only_char, scalar_by, value_by, value_of, values_of}
 use Rattle.canon_script.specs.declared.kinds.ValueKind.{ValueKind}
 use Rattle.canon_script.specs.declared.kinds.ValueKind.TheVariants as kind
 
@@ -237,10 +237,10 @@ field_is (object ms) n f name v e s is = absurd (cc)
 
 pub field_step : (done new : List (Name × Literal)) (us : List Value) (k : ℕ) (x : Value) (n f : Data) (name : Name) (v : Literal) → k < length us → x ≡ get_or us k x
     → Some (n, f) ≡ two (view x) → Some name ≡ as_str n → value_of f ≡ Some v → new ≡ done ++ (name, v) ∷ []
-    → option_map (λ fs. done ++ fs) (fields_in (items_view (drop k us))) ≡ fields_in (items_view us)
-    → option_map (λ fs. new ++ fs) (fields_in (items_view (drop (k + 1) us))) ≡ fields_in (items_view us)
+    → option_map (λ fs. done ++ fs) (named_literals (items_view (drop k us))) ≡ named_literals (items_view us)
+    → option_map (λ fs. new ++ fs) (named_literals (items_view (drop (k + 1) us))) ≡ named_literals (items_view us)
 field_step done new us k x n f name v lt at pair named is grown inv =
-    array_step fields_in field_of us k x done new (name, v) (λ d ds. refl) lt at (field_is (view x) n f name v pair named is) grown inv
+    array_step named_literals field_of us k x done new (name, v) (λ d ds. refl) lt at (field_is (view x) n f name v pair named is) grown inv
 
 -- the value of a field is none, so the field isn't one
 no_field : (d n f : Data) (name : Name) → Some (n, f) ≡ two d → Some name ≡ as_str n → value_of f ≡ None → field_of d ≡ None
@@ -258,25 +258,25 @@ no_field (array (item a (item b no_items))) n f name e s is =
 no_field (array (item a (item b (item c ds)))) n f name e s is = absurd (cc)
 no_field (object ms) n f name e s is = refl
 
-record_by : (d : Data) (ds : Items) (o : Option (List (Name × Literal))) → Some ds ≡ as_array d → fields_in ds ≡ o → value_by d kind.Record ≡ option_map (λ fs. fields (fields_of fs)) o
+record_by : (d : Data) (ds : Items) (o : Option (List (Name × Literal))) → Some ds ≡ as_array d → named_literals ds ≡ o → value_by d kind.Record ≡ option_map (λ fs. fields (fields_of fs)) o
 record_by null ds o e is = absurd (cc)
 record_by (boolean b) ds o e is = absurd (cc)
 record_by (number n) ds o e is = absurd (cc)
 record_by (string s) ds o e is = absurd (cc)
-record_by (array es) ds o e is = ap (option_map (λ fs. fields (fields_of fs))) (ap fields_in (sym (items_are ds es e)) ∙ is)
+record_by (array es) ds o e is = ap (option_map (λ fs. fields (fields_of fs))) (ap named_literals (sym (items_are ds es e)) ∙ is)
 record_by (object ms) ds o e is = absurd (cc)
 
 pub record_refused : (e : ScriptError) (d : Data) (vs us : List Value) (k : ℕ) (x : Value) (n f : Data) (name : Name) (done : List (Name × Literal)) → Some (items_view vs) ≡ as_array d → us ≡ vs → k < length us → x ≡ get_or us k x
-    → Some (n, f) ≡ two (view x) → Some name ≡ as_str n → option_map (λ fs. done ++ fs) (fields_in (items_view (drop k us))) ≡ fields_in (items_view us)
+    → Some (n, f) ≡ two (view x) → Some name ≡ as_str n → option_map (λ fs. done ++ fs) (named_literals (items_view (drop k us))) ≡ named_literals (items_view us)
     → Gives {X = Val} literal_view (Err e) (value_of f) → Gives {X = Val} literal_view (Err e) (value_by d kind.Record)
 record_refused refused.BadScript d vs us k x n f name done is same lt at pair named inv h =
-    record_by d (items_view vs) None is (ap (λ ws. fields_in (items_view ws)) (sym same) ∙ no_list fields_in field_of us k x done (λ d ds. refl) lt at (no_field (view x) n f name pair named h) inv)
+    record_by d (items_view vs) None is (ap (λ ws. named_literals (items_view ws)) (sym same) ∙ no_list named_literals field_of us k x done (λ d ds. refl) lt at (no_field (view x) n f name pair named h) inv)
 record_refused refused.OutOfMemory d vs us k x n f name done is same lt at pair named inv h = tt
 
 pub record_end : (d : Data) (vs us : List Value) (k : ℕ) (done : List (Name × Literal)) → Some (items_view vs) ≡ as_array d → us ≡ vs → length us ≤ k
-    → option_map (λ fs. done ++ fs) (fields_in (items_view (drop k us))) ≡ fields_in (items_view us) → value_by d kind.Record ≡ Some (fields (fields_of done))
+    → option_map (λ fs. done ++ fs) (named_literals (items_view (drop k us))) ≡ named_literals (items_view us) → value_by d kind.Record ≡ Some (fields (fields_of done))
 record_end d vs us k done e same past inv =
-    record_by d (items_view vs) (Some done) e (ap (λ ws. fields_in (items_view ws)) (sym same) ∙ row_end (λ ws. fields_in (items_view ws)) us k done refl past inv)
+    record_by d (items_view vs) (Some done) e (ap (λ ws. named_literals (items_view ws)) (sym same) ∙ row_end (λ ws. named_literals (items_view ws)) us k done refl past inv)
 
 -- ---- scalars
 

@@ -11,7 +11,7 @@ use Rattle.serde_json.specs.Find.{as_array, as_bool, as_object, get}
 use Rattle.canon_json.specs.Json.{Gives, each, each_of, has_len, u32_of, word_of}
 use Rattle.canon_json.specs.declared.error.ScriptError.{ScriptError}
 use Rattle.canon_json.proofs.Found.{by_map, by_test, each_all}
-use Rattle.canon_types.specs.Table.{Table}
+use Rattle.canon_types.specs.Table.{TypeTable}
 use Rattle.canon_script.specs.Actions.{action_of, ordered_of}
 use Rattle.canon_scripted.specs.declared.orders.Ordered.{Ordered}
 use Rattle.canon_scripted.specs.declared.orders.Ordered.TheVariants as order
@@ -60,7 +60,7 @@ called count d func results c known e =
     by_map (λ reallocs. call_with func params guest slots reallocs post) (reallocs_of (get (codes "reallocs") d)) c e4 (λ reallocs s5 is.
     subst (λ (x : ScriptCall). ItemStands count (call_item x)) is (known, reallocs_narrow (get (codes "reallocs") d) reallocs s5))))))
 
-call_stands : (t : Table) (count : ℕ) (d : Data) (c : ScriptCall) → call_item_of t count d ≡ Some c → ItemStands count (call_item c)
+call_stands : (t : TypeTable) (count : ℕ) (d : Data) (c : ScriptCall) → call_item_of t count d ≡ Some c → ItemStands count (call_item c)
 call_stands t count d c e =
     by_test (has_len (3 + optional_call_members d) (as_object d)) _ c e (λ counted e1.
     option_and_then_some (λ func. option_and_then (call_of_func d func) (func_result_count t func)) (option_and_then (if_below count) (option_and_then u32_of (get (codes "call") d))) c e1 (λ func s1 e2.
@@ -81,21 +81,21 @@ typed_stands count d c e =
     option_and_then_some (typed_of_func d) (option_and_then (if_below count) (option_and_then u32_of (get (codes "call") d))) c e1 (λ func s1 e2.
     option_and_then_some (if_below count) (option_and_then u32_of (get (codes "call") d)) func s1 (λ n s2 e3. typed_called count d func c (below count n func e3) e2)))
 
-called_stands : (t : Table) (count : ℕ) (d : Data) (i : ScriptItem) → called_item_of t count d ≡ Some i → ItemStands count i
+called_stands : (t : TypeTable) (count : ℕ) (d : Data) (i : ScriptItem) → called_item_of t count d ≡ Some i → ItemStands count i
 called_stands t count d i e = by_cases (is_some (get (codes "typed") d)) e
   where
     by_cases : (b : Bool) → (if b then option_map typed_item (typed_item_of count d) else option_map call_item (call_item_of t count d)) ≡ Some i → ItemStands count i
     by_cases true e = by_map typed_item (typed_item_of count d) i e (λ c s is. subst (ItemStands count) is (typed_stands count d c s))
     by_cases false e = by_map call_item (call_item_of t count d) i e (λ c s is. subst (ItemStands count) is (call_stands t count d c s))
 
-other_stands : (t : Table) (count : ℕ) (d : Data) (i : ScriptItem) → other_item_of t d ≡ Some i → ItemStands count i
+other_stands : (t : TypeTable) (count : ℕ) (d : Data) (i : ScriptItem) → other_item_of t d ≡ Some i → ItemStands count i
 other_stands t count d i e = by_cases (is_some (get (codes "new") d)) e
   where
     by_cases : (b : Bool) → (if b then option_map new_item (new_item_of t d) else option_map drop_item (drop_item_of d)) ≡ Some i → ItemStands count i
     by_cases true e = by_map new_item (new_item_of t d) i e (λ n s is. subst (ItemStands count) is tt)
     by_cases false e = by_map drop_item (drop_item_of d) i e (λ n s is. subst (ItemStands count) is tt)
 
-item_stands : (t : Table) (count : ℕ) (d : Data) (i : ScriptItem) → item_of t count d ≡ Some i → ItemStands count i
+item_stands : (t : TypeTable) (count : ℕ) (d : Data) (i : ScriptItem) → item_of t count d ≡ Some i → ItemStands count i
 item_stands t count d i e = by_cases (is_some (get (codes "call") d)) e
   where
     by_cases : (b : Bool) → (if b then called_item_of t count d else other_item_of t d) ≡ Some i → ItemStands count i

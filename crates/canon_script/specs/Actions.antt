@@ -5,7 +5,7 @@ use Rattle.serde_json.specs.Data.{Data, null, boolean, number, string, array, ob
 use Rattle.serde_json.specs.Find.{as_bool, as_object, get}
 use Rattle.canon_json.specs.Hex.{bytes_of}
 use Rattle.canon_json.specs.Json.{each_of, has_len, only_member, u32_of, word_of}
-use Rattle.canon_layout.specs.Entries.{pair_of}
+use Rattle.canon_layout.specs.Entries.{array_of_two}
 use Rattle.canon_scripted.specs.declared.actions.Action.{Action}
 use Rattle.canon_scripted.specs.declared.actions.Action.TheVariants as action
 use Rattle.canon_scripted.specs.declared.orders.Ordered.{Ordered}
@@ -24,7 +24,7 @@ trap_of None = None
 -- an action of one member, by its name
 abbrev pub action_by : List ℕ → Data → Option Action
 action_by name d =
-    if pointwise nat_eq name (codes "write") then option_map (λ p. action.Write p.0 p.1) (pair_of word_of bytes_of d)
+    if pointwise nat_eq name (codes "write") then option_map (λ p. action.Write p.0 p.1) (array_of_two word_of bytes_of d)
     else (if pointwise nat_eq name (codes "grow") then option_map action.Grow (word_of d)
     else (if pointwise nat_eq name (codes "return") then option_map action.Return (words_of d)
     else (if pointwise nat_eq name (codes "trap") then trap_of (as_bool d)

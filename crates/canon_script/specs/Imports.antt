@@ -10,7 +10,7 @@ use Rattle.canon_json.specs.Json.{each, each_of, has_len, onward, u32_of}
 use Rattle.canon_layout.specs.Asked.{unless}
 use Rattle.canon_layout.specs.Entries.{reference_of}
 use Rattle.canon_types.specs.Refusal.{func_refusal, with_func}
-use Rattle.canon_types.specs.Table.{HasFunc, HasResource, Table, types_of}
+use Rattle.canon_types.specs.Table.{HasFunc, HasResource, TypeTable, types_of}
 use Rattle.canon_types.specs.declared.types.InterfaceType.{InterfaceType}
 use Rattle.canon_val.specs.declared.val.Val.{Val}
 use Rattle.canon_literals.specs.Literals.{Literal, literals_view}
@@ -82,11 +82,11 @@ builtin_by r word =
     else (if pointwise nat_eq word (codes "drop") then Some (import.ResourceDrop r) else None))
 
 -- the number of one of the table's resource types
-abbrev pub known_resource : Table → ℕ → Option ℕ
+abbrev pub known_resource : TypeTable → ℕ → Option ℕ
 known_resource t r = if_below (length t.resources) r
 
 -- an object of these two members
-abbrev pub builtin_import_of : Table → Data → Option Import
+abbrev pub builtin_import_of : TypeTable → Data → Option Import
 builtin_import_of t d =
     if has_len 2 (as_object d)
     then option_and_then (λ r. option_and_then (builtin_by r) (option_and_then as_str (get (codes "builtin") d)))
@@ -97,18 +97,18 @@ builtin_import_of t d =
 
 -- a table, what the guest may ask for over it, and the answers of each
 pub record Imported : Type 0 where
-  pub table : Table
+  pub table : TypeTable
   pub imports : List Import
   pub answers : List (List HostAnswer)
 
-abbrev pub imported : Table → List Import → List (List HostAnswer) → Imported
+abbrev pub imported : TypeTable → List Import → List (List HostAnswer) → Imported
 imported t imports answers = record { table = t; imports = imports; answers = answers }
 
-abbrev pub imported_view : Table → Imports → Imported
+abbrev pub imported_view : TypeTable → Imports → Imported
 imported_view t m = imported t m.imports.items (answers_view m.answers.items)
 
 -- one import more, over this table
-abbrev pub with_import : Imported → Table → Import → List HostAnswer → Imported
+abbrev pub with_import : Imported → TypeTable → Import → List HostAnswer → Imported
 with_import m t i answers = imported t (m.imports ++ i ∷ []) (m.answers ++ answers ∷ [])
 
 -- A function of the host adds its function type to the table. All of them have the same options, the first of the component.
@@ -125,17 +125,17 @@ add_import types m d =
     else option_map (with_builtin m) (builtin_import_of m.table d)
 
 -- the imports of an array, over these types
-abbrev pub imports_over : List InterfaceType → Table → Items → Option Imported
+abbrev pub imports_over : List InterfaceType → TypeTable → Items → Option Imported
 imports_over types t items = onward (add_import types) (imported t [] []) items
 
 -- ---- what is known of them
 
 -- the number of a function's results, if there is such a function
-abbrev pub func_result_count : Table → ℕ → Option ℕ
+abbrev pub func_result_count : TypeTable → ℕ → Option ℕ
 func_result_count t func = option_map (λ f. length (types_of t f.results)) (slice_get t.funcs func)
 
 -- It is a function of a type of the table that isn't async, under the first options; or a call on the handles of one of its resource types.
-abbrev pub ImportStands : Table → Import → Type 0
+abbrev pub ImportStands : TypeTable → Import → Type 0
 ImportStands t (import.Host type options) = HasFunc t type × IfSome (slice_get t.funcs type) (λ f. f.async_ ≡ false) × (options ≡ 0)
 ImportStands t (import.ResourceNew r) = HasResource t r
 ImportStands t (import.ResourceRep r) = HasResource t r
@@ -147,14 +147,14 @@ IsAnswer results None = Unit {0}
 IsAnswer results (Some xs) = results ≡ Some (length xs)
 
 -- a call on handles has no answers
-abbrev pub HasAnswers : Table → Import → List HostAnswer → Type 0
+abbrev pub HasAnswers : TypeTable → Import → List HostAnswer → Type 0
 HasAnswers t (import.Host type options) answers = All (IsAnswer (func_result_count t type)) answers
 HasAnswers t (import.ResourceNew r) answers = answers ≡ []
 HasAnswers t (import.ResourceRep r) answers = answers ≡ []
 HasAnswers t (import.ResourceDrop r) answers = answers ≡ []
 
 -- each import has its answers
-abbrev pub HaveAnswers : Table → List Import → List (List HostAnswer) → Type 0
+abbrev pub HaveAnswers : TypeTable → List Import → List (List HostAnswer) → Type 0
 HaveAnswers t [] [] = Unit {0}
 HaveAnswers t [] (a ∷ gs) = ⊥
 HaveAnswers t (i ∷ is) [] = ⊥

@@ -8,7 +8,7 @@ use Rattle.canon_context.specs.declared.component.Import.{Import}
 use Rattle.canon_json.specs.Json.{each, each_of, has_len, items_of, there, u32_of, word_of}
 use Rattle.canon_indices.specs.declared.options.StringEncoding.{StringEncoding}
 use Rattle.canon_indices.specs.declared.options.StringEncoding.TheVariants as encoding
-use Rattle.canon_types.specs.Table.{Table}
+use Rattle.canon_types.specs.Table.{TypeTable}
 use Rattle.canon_types.specs.declared.types.ResourceKind.{ResourceKind}
 use Rattle.canon_types.specs.declared.types.ResourceKind.TheVariants as resource
 use Rattle.canon_scripted.specs.declared.actions.Action.{Action}
@@ -73,7 +73,7 @@ call_of_func d func results =
     (slots_of results (get (codes "slots") d))
 
 -- an object that calls one of the first functions of the table, of which there are so many
-abbrev pub call_item_of : Table → ℕ → Data → Option ScriptCall
+abbrev pub call_item_of : TypeTable → ℕ → Data → Option ScriptCall
 call_item_of t count d =
     if has_len (3 + optional_call_members d) (as_object d)
     then option_and_then (λ func. option_and_then (call_of_func d func) (func_result_count t func))
@@ -115,14 +115,14 @@ dynamic_id (resource.HostDynamic id) = Some id
 dynamic_id _ = None
 
 -- the same, if the resource of this number is such a one
-abbrev pub dynamic_type : Table → ℕ → Option ℕ
+abbrev pub dynamic_type : TypeTable → ℕ → Option ℕ
 dynamic_type t r = option_and_then (λ x. dynamic_id x.kind) (slice_get t.resources r)
 
 abbrev pub new_with : ℕ → ℕ → Bool → NewItem
 new_with ty rep borrow = record { ty = ty; rep = rep; borrow = borrow }
 
 -- a new resource of one of the host's types, which a number gives
-abbrev pub new_item_of : Table → Data → Option NewItem
+abbrev pub new_item_of : TypeTable → Data → Option NewItem
 new_item_of t d =
     if has_len (2 + there (get (codes "borrow") d)) (as_object d)
     then option_and_then (λ ty. option_and_then (λ rep. option_map (new_with ty rep)
@@ -149,15 +149,15 @@ pub data ScriptItem : Type 0 where
   new_item : NewItem → ScriptItem
   drop_item : DropItem → ScriptItem
 
-abbrev pub other_item_of : Table → Data → Option ScriptItem
+abbrev pub other_item_of : TypeTable → Data → Option ScriptItem
 other_item_of t d = if is_some (get (codes "new") d) then option_map new_item (new_item_of t d) else option_map drop_item (drop_item_of d)
 
 -- a call, with Rust values where it has the member `typed`
-abbrev pub called_item_of : Table → ℕ → Data → Option ScriptItem
+abbrev pub called_item_of : TypeTable → ℕ → Data → Option ScriptItem
 called_item_of t count d = if is_some (get (codes "typed") d) then option_map typed_item (typed_item_of count d) else option_map call_item (call_item_of t count d)
 
 -- an item: one member names its kind
-abbrev pub item_of : Table → ℕ → Data → Option ScriptItem
+abbrev pub item_of : TypeTable → ℕ → Data → Option ScriptItem
 item_of t count d = if is_some (get (codes "call") d) then called_item_of t count d else other_item_of t d
 
 -- what the guest does in an item
@@ -211,7 +211,7 @@ pub record Play : Type 0 where
   -- how texts are spelled in memory
   pub encoding : StringEncoding
   -- its functions, and after them those of the host
-  pub types : Table
+  pub types : TypeTable
   -- for each of its functions whether it has a post-return function
   pub posts : List Bool
   -- what the guest may ask for, by its number

@@ -2,9 +2,9 @@
 use Rattle.std.specs.Prelude.{Bool, List, Option, option_and_then, option_map}
 use Rattle.serde_json.specs.Data.{Items}
 use Rattle.canon_context.specs.declared.component.Import.{Import}
-use Rattle.canon_types.specs.Refusal.{empty_table}
+use Rattle.canon_types.specs.Refusal.{empty_type_table}
 use Rattle.canon_json.specs.Json.{onward}
-use Rattle.canon_types.specs.Table.{Table}
+use Rattle.canon_types.specs.Table.{TypeTable}
 use Rattle.canon_types.specs.declared.types.InterfaceType.{InterfaceType}
 use Rattle.canon_layout.specs.Asked.{Funcs, Listed, add_resource, funcs_over, types_over}
 use Rattle.canon_script.specs.Imports.{HostAnswer, Imported, answers_view, imports_over}
@@ -13,7 +13,7 @@ use Rattle.canon_script.specs.declared.types.Declarations.{Declarations}
 -- The table, for each function whether it has a post-return function, what the guest may ask for by its number, and the answers of each of
 -- these. The function types of the functions stand first in the table, and after them those of the host's functions.
 pub record Declared : Type 0 where
-  pub table : Table
+  pub table : TypeTable
   pub posts : List Bool
   pub imports : List Import
   pub answers : List (List HostAnswer)
@@ -35,4 +35,4 @@ declared_with funcs imports l = option_and_then (declared_over imports l.types) 
 -- resources come first, then types, then functions, then imports
 abbrev pub declared_of : Items → Items → Items → Items → Option Declared
 declared_of resources types funcs imports =
-    option_and_then (λ t. option_and_then (declared_with funcs imports) (types_over t types)) (onward add_resource empty_table resources)
+    option_and_then (λ t. option_and_then (declared_with funcs imports) (types_over t types)) (onward add_resource empty_type_table resources)

@@ -116,7 +116,7 @@ abbrev mutual
   value_by (string s) kind.String = Some (text s)
   value_by (array ds) kind.List = option_map (λ xs. list (literals_of xs)) (values_of ds)
   value_by (array ds) kind.Map = option_map (λ ps. pairs (literal_pairs ps)) (pairs_in ds)
-  value_by (array ds) kind.Record = option_map (λ fs. fields (fields_of fs)) (fields_in ds)
+  value_by (array ds) kind.Record = option_map (λ fs. fields (fields_of fs)) (named_literals ds)
   value_by (array ds) kind.Tuple = option_map (λ xs. tuple (literals_of xs)) (values_of ds)
   value_by (array ds) kind.Variant = option_map (λ c. variant c.0 c.1) (case_in ds)
   value_by (string s) kind.Enum = Some (enum s)
@@ -131,9 +131,9 @@ abbrev mutual
   values_of no_items = Some []
   values_of (item d ds) = option_and_then (λ x. option_map (λ xs. x ∷ xs) (values_of ds)) (value_of d)
 
-  pub fields_in : Items → Option (List (Name × Literal))
-  fields_in no_items = Some []
-  fields_in (item d ds) = option_and_then (λ f. option_map (λ fs. f ∷ fs) (fields_in ds)) (field_of d)
+  pub named_literals : Items → Option (List (Name × Literal))
+  named_literals no_items = Some []
+  named_literals (item d ds) = option_and_then (λ f. option_map (λ fs. f ∷ fs) (named_literals ds)) (field_of d)
 
   -- an array of a name and a value
   pub field_of : Data → Option (Name × Literal)

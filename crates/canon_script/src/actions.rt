@@ -5,7 +5,7 @@ ghost use Rattle.serde_json.specs.Find.{as_bool};
 ghost use Rattle.serde_json.specs.View.{view};
 ghost use Rattle.canon_json.specs.Hex as hex_spec;
 ghost use Rattle.canon_json.specs.Json.{Gives, each_of, word_of};
-ghost use Rattle.canon_layout.specs.Entries.{pair_of};
+ghost use Rattle.canon_layout.specs.Entries.{array_of_two};
 ghost use Rattle.canon_memory.specs.declared.val_raw.ValRaw.{ValRaw};
 ghost use Rattle.canon_scripted.specs.declared.actions.Action.{Action};
 ghost use Rattle.canon_scripted.specs.declared.orders.Ordered.{Ordered};
@@ -73,7 +73,7 @@ fn action_by(alloc: Global, name: &str, form: &Value) -> Result<Action, ScriptEr
 
 /// A write: an address and hex.
 fn write_of(alloc: Global, v: &Value) -> Result<Action, ScriptError>
-    ensures { Gives (λ a. a) result (option_map (λ p. Action.Write p.0 p.1) (pair_of word_of hex_spec.bytes_of (view v.now))) }
+    ensures { Gives (λ a. a) result (option_map (λ p. Action.Write p.0 p.1) (array_of_two word_of hex_spec.bytes_of (view v.now))) }
 {
     let Some((address, hex)) = two(v) else {
         return Err(ScriptError::BadScript);

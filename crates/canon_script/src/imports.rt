@@ -8,7 +8,7 @@ ghost use Rattle.canon_json.specs.declared.error.ScriptError.TheVariants as refu
 ghost use Rattle.canon_layout.specs.Asked.{unless};
 ghost use Rattle.canon_layout.specs.Entries.{reference_of};
 ghost use Rattle.canon_types.specs.Refusal.{func_refusal, with_func};
-ghost use Rattle.canon_types.specs.Table.{Table};
+ghost use Rattle.canon_types.specs.Table.{TypeTable};
 ghost use Rattle.canon_types.specs.declared.types.InterfaceType.{InterfaceType};
 ghost use Rattle.canon_script.specs.Imports as spec;
 ghost use Rattle.canon_script.specs.Values.{plain_value_of};
@@ -102,7 +102,7 @@ fn add_type(
     params: Vec<InterfaceType>,
     results: Vec<InterfaceType>,
 ) -> Result<TypeFuncIndex, ScriptError>
-    ensures { Gives {Y = ℕ × Table} (λ ty. (ty, builder.new)) result (unless (func_refusal builder.old params.items results.items) (length builder.old.funcs, with_func builder.old params.items results.items false)) }
+    ensures { Gives {Y = ℕ × TypeTable} (λ ty. (ty, builder.new)) result (unless (func_refusal builder.old params.items results.items) (length builder.old.funcs, with_func builder.old params.items results.items false)) }
 {
     match builder.add_func(params, results, false) {
         Ok(ty) => Ok(ty),

@@ -4,7 +4,7 @@ use Rattle.std.proofs.lemmas.List.{append-nil, drop_at, get_or_at, length-append
 use Rattle.std.specs.Char.{encode_utf8}
 use Rattle.std.specs.Str.{encode_utf8_all}
 use Rattle.canon_model.proofs.Passes.{can_spell-append, encode_utf8_all-append, pass_goes_on, units-append}
-use Rattle.canon_model.specs.Pass.{IsPass, Stops}
+use Rattle.canon_model.specs.Pass.{EndsPass, IsPass}
 use Rattle.canon_model.specs.Text.{Form, can_spell, units}
 use Rattle.canon_text.specs.Answers.{PassFails, Passed}
 use Rattle.canon_text.specs.declared.error.TextError.{TextError}
@@ -27,7 +27,7 @@ one_fault = record {
 }
 
 -- a pass that stopped, and a text that could be read further
-goes_past : (form : Form) (first : Bool) (room c : ℕ) (more rest fault : List ℕ) → can_spell form (c ∷ more) ≡ true → rest ≡ units form (c ∷ more) ++ fault → Stops form first room rest → (room < length (encode_utf8 c)) ⊎ (IsTrue first × (127 < c))
+goes_past : (form : Form) (first : Bool) (room c : ℕ) (more rest fault : List ℕ) → can_spell form (c ∷ more) ≡ true → rest ≡ units form (c ∷ more) ++ fault → EndsPass form first room rest → (room < length (encode_utf8 c)) ⊎ (IsTrue first × (127 < c))
 goes_past form first room c more rest fault can e h =
     let same = first_same form c h.next (units form more ++ fault) h.more (first_can form c more can).0 h.can (sym (first_units form c more fault) ∙ sym e ∙ h.is) in
     subst (λ k. (room < length (encode_utf8 k)) ⊎ (IsTrue first × (127 < k))) (sym same.0) h.cause

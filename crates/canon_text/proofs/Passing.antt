@@ -5,7 +5,7 @@ use Rattle.std.proofs.lemmas.List.Elements.{All-nil, All-push}
 use Rattle.std.proofs.lemmas.Bool.{cond-true, false≢true}
 use Rattle.std.specs.Char.{encode_utf8}
 use Rattle.std.specs.Str.{encode_utf8_all}
-use Rattle.canon_model.specs.Pass.{Stops}
+use Rattle.canon_model.specs.Pass.{EndsPass}
 use Rattle.canon_model.specs.Text.{Form, in_latin1, units}
 use Rattle.canon_text.specs.Answers.{PassFails, Passed}
 use Rattle.canon_text.specs.declared.error.TextError.{TextError}
@@ -45,7 +45,7 @@ midway-more form first source old now new read read2 written written2 c h b goes
       };
     }
 
-passed : (form : Form) (first : Bool) (source old now : List ℕ) (read written : ℕ) (h : Midway form first source old now read written) → (drop read source ≡ []) ⊎ Stops form first (length old - written) (drop read source) → Passed form first source old now read written
+passed : (form : Form) (first : Bool) (source old now : List ℕ) (read written : ℕ) (h : Midway form first source old now read written) → (drop read source ≡ []) ⊎ EndsPass form first (length old - written) (drop read source) → Passed form first source old now read written
 passed form first source old now read written h stops = record {
   scalars = h.scalars;
   rest = drop read source;
@@ -54,7 +54,7 @@ passed form first source old now read written h stops = record {
     reads = h.so_far.front.is;
     fits = let k : written ≡ length (encode_utf8_all h.scalars) = h.so_far.count in let f : written ≤ length old = h.so_far.fits in omega arith;
     plain = h.so_far.plain;
-    stops = subst (λ n. (drop read source ≡ []) ⊎ Stops form first (length old - n) (drop read source)) h.so_far.count stops;
+    stops = subst (λ n. (drop read source ≡ []) ⊎ EndsPass form first (length old - n) (drop read source)) h.so_far.count stops;
   };
   reads = h.so_far.front.place;
   count = h.so_far.count;

@@ -8,15 +8,15 @@ use Rattle.canon_model.specs.Layout.{align, flat, scalar_size, size}
 use Rattle.canon_model.specs.Shape.{Cases, Members, ProductKind, of_places, product, Scalar, Shape, VariantKind, bare, case_for, no_cases, of_option, of_result, payload, scalar, string, variant}
 use Rattle.canon_types.specs.Depth.{variant_cases}
 use Rattle.canon_types.specs.Instance.{Instance}
-use Rattle.canon_types.specs.Table.{IsDefined, KnowsPayload, ResultType, Table, all_shapes, members_of, payload_in, shape_of}
+use Rattle.canon_types.specs.Table.{IsDefined, KnowsPayload, ResultType, TypeTable, all_shapes, members_of, payload_in, shape_of}
 use Rattle.canon_types.specs.declared.resource.ResourceType.{ResourceType}
 use Rattle.canon_types.specs.declared.types.InterfaceType.{InterfaceType}
 use Rattle.canon_types.specs.declared.types.InterfaceType.TheVariants as ty
-use Rattle.canon_typed.specs.Numbers.{IsVariant, TellsInfo, TellsPayload}
+use Rattle.canon_typed.specs.Numbers.{IsShapeOfCases, TellsInfo, TellsPayload}
 use Rattle.canon_typed.specs.Types.{AreOf, IsTupleOf, IsHandleOf, IsHandleType, IsListOf, IsMapOf, IsOptionOf, IsPayloadOf, IsResultOf}
 
 -- a type without parts
-pub plain_abi : (known : InterfaceType) (abi : CanonicalAbiInfo) → ((t : Table) → HasLayout abi (shape_of t known)) → (i : Instance) (type : InterfaceType) → type ≡ known → HasLayout abi (shape_of i.types type)
+pub plain_abi : (known : InterfaceType) (abi : CanonicalAbiInfo) → ((t : TypeTable) → HasLayout abi (shape_of t known)) → (i : Instance) (type : InterfaceType) → type ≡ known → HasLayout abi (shape_of i.types type)
 plain_abi known abi has i type e = subst (λ (x : InterfaceType). HasLayout abi (shape_of i.types x)) (sym e) (has i.types)
 
 pub scalar_abi : (k : Scalar) (abi : CanonicalAbiInfo) → abi.size32 ≡ scalar_size k → abi.align32 ≡ scalar_size k → abi.flat ≡ Some 1 → HasLayout abi (scalar k)
@@ -54,7 +54,7 @@ is_handle checked i _ (kind, d, none, e) = absurd (cc)
 
 -- the numbers of a type of these cases, and its discriminant's
 abbrev pub LiesAsCases : CanonicalAbiInfo → VariantInfo → Shape → Type 0
-LiesAsCases abi info s = HasLayout abi s × IsVariant s × HasInfo info (variant_cases s)
+LiesAsCases abi info s = HasLayout abi s × IsShapeOfCases s × HasInfo info (variant_cases s)
 
 cases_lie : (abi : CanonicalAbiInfo) (info : VariantInfo) (k : VariantKind) (cs : Cases) → HasLayout abi (variant k cs) × HasInfo info cs → LiesAsCases abi info (variant k cs)
 cases_lie abi info k cs h = (h.0, tt, h.1)
@@ -116,11 +116,11 @@ tuple_abi all abis told are lay i _ f = absurd f
 
 -- ---- what a table knows
 
-pub ok_known : (t : Table) (type : InterfaceType) (ok error : Option InterfaceType) → IsDefined t type (ResultType ok error) → KnowsPayload t ok
+pub ok_known : (t : TypeTable) (type : InterfaceType) (ok error : Option InterfaceType) → IsDefined t type (ResultType ok error) → KnowsPayload t ok
 ok_known t type None error d = tt
 ok_known t type (Some part) error d = d.known 0 part (omega arith)
 
-pub error_known : (t : Table) (type : InterfaceType) (ok error : Option InterfaceType) → IsDefined t type (ResultType ok error) → KnowsPayload t error
+pub error_known : (t : TypeTable) (type : InterfaceType) (ok error : Option InterfaceType) → IsDefined t type (ResultType ok error) → KnowsPayload t error
 error_known t type ok None d = tt
 error_known t type None (Some part) d = d.known 0 part (omega arith)
 error_known t type (Some first) (Some part) d = d.known 1 part (omega arith)

@@ -1,11 +1,7 @@
 -- What lifting a typed value charges of the fuel: the spelled bytes of a text, and for each item of a list or a map the bytes
 -- that it takes in the host.
-use Rattle.std.specs.Prelude.{List, [], min, suc, zero, ◌*◌, ◌+◌, ◌-◌, ◌^◌, ◌∷◌, ℕ}
+use Rattle.std.specs.Prelude.{List, [], suc, zero, ◌*◌, ◌+◌, ◌∷◌, ℕ}
 use Rattle.canon_model.specs.Tree.{Tree, Trees, case_of, no_trees, sum_of, tree, tree_count, trees_of}
-
--- cut at the greatest number of 64 bits
-abbrev pub cap : ℕ → ℕ
-cap n = min n (2 ^ 64 - 1)
 
 -- scalars and handles
 abbrev pub free : Tree → ℕ

@@ -14,13 +14,13 @@ pub record TellsFlat (told : Option ℕ) (s : Shape) : Type 0 where
   pub none : 2 ^ 32 ≤ size false s → told ≡ None
 
 -- a type of cases
-abbrev pub IsVariant : Shape → Type 0
-IsVariant (variant k cs) = ⊤
-IsVariant _ = ⊥
+abbrev pub IsShapeOfCases : Shape → Type 0
+IsShapeOfCases (variant k cs) = ⊤
+IsShapeOfCases _ = ⊥
 
 -- the discriminant and the payload's place of a type of cases, unless the size passes 2^32 - 1
 abbrev pub TellsInfo : Option VariantInfo → Shape → Type 0
-TellsInfo told s = MatchOption told (2 ^ 32 ≤ size false s) (λ info. (size false s < 2 ^ 32) × IsVariant s × HasInfo info (variant_cases s))
+TellsInfo told s = MatchOption told (2 ^ 32 ≤ size false s) (λ info. (size false s < 2 ^ 32) × IsShapeOfCases s × HasInfo info (variant_cases s))
 
 -- the numbers of a case's payload, if it has one, unless the payload's size passes 2^32 - 1
 abbrev pub TellsPayload : Option (Option CanonicalAbiInfo) → Option Shape → Type 0

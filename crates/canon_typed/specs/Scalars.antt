@@ -13,7 +13,7 @@ abbrev pub IsOfScalar : Scalar → (Instance → InterfaceType → Type 0) → T
 IsOfScalar k Fit = (i : Instance) (type : InterfaceType) → Fit i type → shape_of i.types type ≡ scalar k
 
 -- Of a scalar's Rust type: each value has one tree, which is lifted to it and to no other, for nothing.
-pub record IsScalarType {A : Type 0} (k : Scalar) (Fit : Instance → InterfaceType → Type 0) (is_unit : Bool) (Means Walks : A → Tree → Type 0) (is_told : Bool) (Lifts : A → Tree → Type 0) (cost : Tree → ℕ) : Type 0 where
+pub record IsScalarRustType {A : Type 0} (k : Scalar) (Fit : Instance → InterfaceType → Type 0) (is_unit : Bool) (Means Walks : A → Tree → Type 0) (is_told : Bool) (Lifts : A → Tree → Type 0) (cost : Tree → ℕ) : Type 0 where
   pub shape : IsOfScalar k Fit
   pub no_unit : is_unit ≡ false
   pub walkable : (v : A) → (t : Tree) × Walks v t
@@ -28,12 +28,12 @@ pub scalar_of : (type : InterfaceType) (k : Scalar) → ((i : Instance) → shap
 scalar_of type k same i t e = ap (shape_of i.types) e ∙ same i
 
 -- no two values have the same tree
-abbrev pub AreApart : {A : Type 0} → (A → Tree) → Type 0
-AreApart {A} tree_of = (v w : A) → tree_of v ≡ tree_of w → v ≡ w
+abbrev pub HaveDistinctTrees : {A : Type 0} → (A → Tree) → Type 0
+HaveDistinctTrees {A} tree_of = (v w : A) → tree_of v ≡ tree_of w → v ≡ w
 
-pub scalar_type : {A : Type 0} (type : InterfaceType) (k : Scalar) (tree_of : A → Tree) → AreApart tree_of → ((i : Instance) → shape_of i.types type ≡ scalar k)
-    → IsScalarType k (λ i t. t ≡ type) false (λ v t. t ≡ tree_of v) (λ v t. t ≡ tree_of v) true (λ v t. t ≡ tree_of v) free
-scalar_type type k tree_of apart same = record {
+pub scalar_rust_type : {A : Type 0} (type : InterfaceType) (k : Scalar) (tree_of : A → Tree) → HaveDistinctTrees tree_of → ((i : Instance) → shape_of i.types type ≡ scalar k)
+    → IsScalarRustType k (λ i t. t ≡ type) false (λ v t. t ≡ tree_of v) (λ v t. t ≡ tree_of v) true (λ v t. t ≡ tree_of v) free
+scalar_rust_type type k tree_of apart same = record {
   shape = scalar_of type k same;
   no_unit = refl;
   walkable = λ v. (tree_of v, refl);
@@ -44,14 +44,14 @@ scalar_type type k tree_of apart same = record {
   uncharged = refl;
 }
 
-pub numbers_apart : AreApart number
+pub numbers_apart : HaveDistinctTrees number
 numbers_apart m n e = cc
 
-pub naturals_apart : AreApart (λ n. number (pos n))
+pub naturals_apart : HaveDistinctTrees (λ n. number (pos n))
 naturals_apart m n e = cc
 
-pub truths_apart : AreApart truth
+pub truths_apart : HaveDistinctTrees truth
 truths_apart b c e = cc
 
-pub code_points_apart : AreApart code_point
+pub code_points_apart : HaveDistinctTrees code_point
 code_points_apart c d e = cc

@@ -7,9 +7,9 @@ ghost use Rattle.canon_model.specs.Tree.{Tree};
 ghost use Rattle.canon_types.specs.Instance.{Instance};
 ghost use Rattle.canon_types.specs.Table.{Knows, shape_of};
 ghost use Rattle.canon_types.specs.declared.types.InterfaceType.{InterfaceType};
-ghost use Rattle.canon_typed.specs.Charges.{cap};
+ghost use Rattle.canon_model.specs.Memory.{cap};
 ghost use Rattle.canon_typed.specs.Numbers.{TellsFlat, TellsInfo};
-ghost use Rattle.canon_typed.specs.Scalars.{IsScalarType};
+ghost use Rattle.canon_typed.specs.Scalars.{IsScalarRustType};
 ghost use Rattle.canon_typed.specs.Typed.{IsTyped};
 
 use crate::TypecheckFailed;
@@ -96,5 +96,5 @@ pub trait ScalarType: ComponentType {
     ghost kind: { Scalar };
 
     // each value has one tree, which is lifted to it and to no other, for nothing
-    ghost is_scalar: { IsScalarType kind Self.fits Self.is_unit Self.means Self.walks Self.is_told Self.lifts Self.cost };
+    ghost is_scalar: { IsScalarRustType kind Self.fits Self.is_unit Self.means Self.walks Self.is_told Self.lifts Self.cost };
 }

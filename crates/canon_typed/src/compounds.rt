@@ -4,7 +4,8 @@ ghost use Rattle.std.specs.Prelude.{◌+◌, ◌&&◌, OnErr, OnOk, Option, fals
 ghost use Rattle.canon_types.specs.Instance.{Instance};
 ghost use Rattle.canon_types.specs.Table.{KnowsPayload, all_shapes, payload_in};
 ghost use Rattle.canon_types.specs.declared.types.InterfaceType.{InterfaceType};
-ghost use Rattle.canon_typed.specs.Charges.{cap, list_cost, option_cost, result_cost};
+ghost use Rattle.canon_typed.specs.Charges.{list_cost, option_cost, result_cost};
+ghost use Rattle.canon_model.specs.Memory.{cap};
 ghost use Rattle.canon_typed.specs.Meaning.{ListMeans, OptionMeans, ResultMeans};
 ghost use Rattle.canon_typed.specs.Numbers.{TellsPayload};
 ghost use Rattle.canon_typed.specs.Typed.{list_typed, option_typed, result_typed};

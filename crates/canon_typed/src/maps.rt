@@ -1,7 +1,8 @@
 //! Maps of Rust as component types.
 
 ghost use Rattle.std.specs.Prelude.{◌+◌, ◌&&◌, ◌∷◌, [], false};
-ghost use Rattle.canon_typed.specs.Charges.{cap, list_cost, product_cost};
+ghost use Rattle.canon_typed.specs.Charges.{list_cost, product_cost};
+ghost use Rattle.canon_model.specs.Memory.{cap};
 ghost use Rattle.canon_typed.specs.Maps.{MapLifts, MapMeans, MapWalks, map_typed, map_walked};
 ghost use Rattle.canon_typed.specs.Types.{IsMapOf};
 

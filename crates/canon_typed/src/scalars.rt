@@ -6,7 +6,7 @@ ghost use Rattle.canon_model.specs.Shape as shape;
 ghost use Rattle.canon_model.specs.Tree.{code_point, number, truth};
 ghost use Rattle.canon_types.specs.declared.types.InterfaceType.TheVariants as ty;
 ghost use Rattle.canon_typed.specs.Charges.{free};
-ghost use Rattle.canon_typed.specs.Scalars.{code_points_apart, naturals_apart, numbers_apart, scalar_type, truths_apart};
+ghost use Rattle.canon_typed.specs.Scalars.{code_points_apart, naturals_apart, numbers_apart, scalar_rust_type, truths_apart};
 ghost use Rattle.canon_typed.specs.Typed.{scalar_typed};
 
 use crate::{ComponentType, ScalarType, TypecheckFailed};
@@ -68,7 +68,7 @@ impl ComponentType for i8 {
 impl ScalarType for i8 {
     ghost kind = { shape.s8 };
 
-    ghost is_scalar = { scalar_type ty.S8 shape.s8 number numbers_apart (λ i. refl) };
+    ghost is_scalar = { scalar_rust_type ty.S8 shape.s8 number numbers_apart (λ i. refl) };
 }
 
 impl ComponentType for u8 {
@@ -119,7 +119,7 @@ impl ComponentType for u8 {
 impl ScalarType for u8 {
     ghost kind = { shape.u8 };
 
-    ghost is_scalar = { scalar_type ty.U8 shape.u8 _ naturals_apart (λ i. refl) };
+    ghost is_scalar = { scalar_rust_type ty.U8 shape.u8 _ naturals_apart (λ i. refl) };
 }
 
 impl ComponentType for i16 {
@@ -170,7 +170,7 @@ impl ComponentType for i16 {
 impl ScalarType for i16 {
     ghost kind = { shape.s16 };
 
-    ghost is_scalar = { scalar_type ty.S16 shape.s16 number numbers_apart (λ i. refl) };
+    ghost is_scalar = { scalar_rust_type ty.S16 shape.s16 number numbers_apart (λ i. refl) };
 }
 
 impl ComponentType for u16 {
@@ -221,7 +221,7 @@ impl ComponentType for u16 {
 impl ScalarType for u16 {
     ghost kind = { shape.u16 };
 
-    ghost is_scalar = { scalar_type ty.U16 shape.u16 _ naturals_apart (λ i. refl) };
+    ghost is_scalar = { scalar_rust_type ty.U16 shape.u16 _ naturals_apart (λ i. refl) };
 }
 
 impl ComponentType for i32 {
@@ -272,7 +272,7 @@ impl ComponentType for i32 {
 impl ScalarType for i32 {
     ghost kind = { shape.s32 };
 
-    ghost is_scalar = { scalar_type ty.S32 shape.s32 number numbers_apart (λ i. refl) };
+    ghost is_scalar = { scalar_rust_type ty.S32 shape.s32 number numbers_apart (λ i. refl) };
 }
 
 impl ComponentType for u32 {
@@ -323,7 +323,7 @@ impl ComponentType for u32 {
 impl ScalarType for u32 {
     ghost kind = { shape.u32 };
 
-    ghost is_scalar = { scalar_type ty.U32 shape.u32 _ naturals_apart (λ i. refl) };
+    ghost is_scalar = { scalar_rust_type ty.U32 shape.u32 _ naturals_apart (λ i. refl) };
 }
 
 impl ComponentType for i64 {
@@ -374,7 +374,7 @@ impl ComponentType for i64 {
 impl ScalarType for i64 {
     ghost kind = { shape.s64 };
 
-    ghost is_scalar = { scalar_type ty.S64 shape.s64 number numbers_apart (λ i. refl) };
+    ghost is_scalar = { scalar_rust_type ty.S64 shape.s64 number numbers_apart (λ i. refl) };
 }
 
 impl ComponentType for u64 {
@@ -425,7 +425,7 @@ impl ComponentType for u64 {
 impl ScalarType for u64 {
     ghost kind = { shape.u64 };
 
-    ghost is_scalar = { scalar_type ty.U64 shape.u64 _ naturals_apart (λ i. refl) };
+    ghost is_scalar = { scalar_rust_type ty.U64 shape.u64 _ naturals_apart (λ i. refl) };
 }
 
 impl ComponentType for bool {
@@ -476,7 +476,7 @@ impl ComponentType for bool {
 impl ScalarType for bool {
     ghost kind = { shape.bool };
 
-    ghost is_scalar = { scalar_type ty.Bool shape.bool truth truths_apart (λ i. refl) };
+    ghost is_scalar = { scalar_rust_type ty.Bool shape.bool truth truths_apart (λ i. refl) };
 }
 
 impl ComponentType for char {
@@ -527,7 +527,7 @@ impl ComponentType for char {
 impl ScalarType for char {
     ghost kind = { shape.char };
 
-    ghost is_scalar = { scalar_type ty.Char shape.char code_point code_points_apart (λ i. refl) };
+    ghost is_scalar = { scalar_rust_type ty.Char shape.char code_point code_points_apart (λ i. refl) };
 }
 
 impl ComponentType for Float32Bits {
@@ -578,7 +578,7 @@ impl ComponentType for Float32Bits {
 impl ScalarType for Float32Bits {
     ghost kind = { shape.f32 };
 
-    ghost is_scalar = { scalar_type ty.Float32 shape.f32 (λ n. number (pos n.0)) (λ v w e. ap (λ n. record { 0 = n }) (naturals_apart v.0 w.0 e)) (λ i. refl) };
+    ghost is_scalar = { scalar_rust_type ty.Float32 shape.f32 (λ n. number (pos n.0)) (λ v w e. ap (λ n. record { 0 = n }) (naturals_apart v.0 w.0 e)) (λ i. refl) };
 }
 
 impl ComponentType for Float64Bits {
@@ -629,5 +629,5 @@ impl ComponentType for Float64Bits {
 impl ScalarType for Float64Bits {
     ghost kind = { shape.f64 };
 
-    ghost is_scalar = { scalar_type ty.Float64 shape.f64 (λ n. number (pos n.0)) (λ v w e. ap (λ n. record { 0 = n }) (naturals_apart v.0 w.0 e)) (λ i. refl) };
+    ghost is_scalar = { scalar_rust_type ty.Float64 shape.f64 (λ n. number (pos n.0)) (λ v w e. ap (λ n. record { 0 = n }) (naturals_apart v.0 w.0 e)) (λ i. refl) };
 }

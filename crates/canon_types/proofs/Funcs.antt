@@ -12,7 +12,7 @@ use Rattle.canon_types.specs.declared.table.ComponentTypes.TheInside.{Inside}
 use Rattle.canon_types.specs.Keeps.{EntriesFit, IsEntry, IsFunc, definition_of, table}
 use Rattle.canon_types.specs.Depth.{has_borrow}
 use Rattle.canon_types.specs.Refusal.{with_definition, with_func_of}
-use Rattle.canon_types.specs.Table.{Definition, IsOver, Knows, Table, all_shapes, defined_shape, is_tuple, parts, shape_of}
+use Rattle.canon_types.specs.Table.{Definition, IsOver, Knows, TypeTable, all_shapes, defined_shape, is_tuple, parts, shape_of}
 use Rattle.canon_types.proofs.Adding.{has_new, new_shape}
 use Rattle.canon_types.proofs.Growth.{all_funcs_more, defined_shape-with, definitions_of, has_more, shape_more}
 
@@ -28,20 +28,20 @@ func_table : (c : Inside) (items : List Entry) (p r : Entry) (funcs : List TypeF
 func_table c items p r funcs f same added at after =
     let ds : definitions_of items ≡ (table c).definitions ++ definition_of p.item ∷ [] ++ definition_of r.item ∷ [] = ap definitions_of same ∙ simp map-append in
     let fs = added ∙ ap (λ (x : TypeFunc). c.funcs.items ++ x ∷ []) (func_at f (length (table c).definitions) at after) in
-    ap (λ (xs : List Definition). let t : Table = record { definitions = xs; funcs = funcs; resources = c.resources.items } in t) ds
-    ∙ ap (λ (xs : List TypeFunc). let t : Table = record { definitions = (table c).definitions ++ definition_of p.item ∷ [] ++ definition_of r.item ∷ []; funcs = xs; resources = c.resources.items } in t) fs
+    ap (λ (xs : List Definition). let t : TypeTable = record { definitions = xs; funcs = funcs; resources = c.resources.items } in t) ds
+    ∙ ap (λ (xs : List TypeFunc). let t : TypeTable = record { definitions = (table c).definitions ++ definition_of p.item ∷ [] ++ definition_of r.item ∷ []; funcs = xs; resources = c.resources.items } in t) fs
 
-pub func_table_along : (c : Inside) (t : Table) (items : List Entry) (p r : Entry) (funcs : List TypeFunc) (f : TypeFunc) → table c ≡ t →
+pub func_table_along : (c : Inside) (t : TypeTable) (items : List Entry) (p r : Entry) (funcs : List TypeFunc) (f : TypeFunc) → table c ≡ t →
     items ≡ c.entries.items ++ p ∷ [] ++ r ∷ [] → funcs ≡ c.funcs.items ++ f ∷ [] → f.params ≡ length t.definitions →
     f.results ≡ length t.definitions + 1 → record { definitions = definitions_of items; funcs = funcs; resources = c.resources.items } ≡ with_func_of
     t (definition_of p.item) (definition_of r.item) f.async_
 func_table_along c t items p r funcs f view same added =
-    let P : Table → Type 0 = λ x. f.params ≡ length x.definitions → f.results ≡ length x.definitions + 1 → record { definitions = definitions_of items; funcs = funcs; resources = c.resources.items } ≡ with_func_of x (definition_of p.item) (definition_of r.item) f.async_ in
+    let P : TypeTable → Type 0 = λ x. f.params ≡ length x.definitions → f.results ≡ length x.definitions + 1 → record { definitions = definitions_of items; funcs = funcs; resources = c.resources.items } ≡ with_func_of x (definition_of p.item) (definition_of r.item) f.async_ in
     subst P view (func_table c items p r funcs f same added)
 
 -- ---- the functions
 
-over_new : (t new : Table) (p r : Definition) (f : TypeFunc) → new.definitions ≡ t.definitions ++ p ∷ [] ++ r ∷ [] → f.params ≡ length t.definitions → f.results ≡ length t.definitions + 1 → is_tuple p ≡ true → is_tuple r ≡ true → IsOver new f
+over_new : (t new : TypeTable) (p r : Definition) (f : TypeFunc) → new.definitions ≡ t.definitions ++ p ∷ [] ++ r ∷ [] → f.params ≡ length t.definitions → f.results ≡ length t.definitions + 1 → is_tuple p ≡ true → is_tuple r ≡ true → IsOver new f
 over_new t new p r f grown at after hp hr =
     let one = with_definition t p in
     let two = with_definition one r in
@@ -52,7 +52,7 @@ over_new t new p r f grown at after hp hr =
     }
 
 -- no borrowed handle occurs in the second tuple, so none in the function's results
-plain_new : (t new : Table) (p r : Definition) (f : TypeFunc) → new.definitions ≡ t.definitions ++ p ∷ [] ++ r ∷ [] → f.results ≡ length t.definitions + 1 → is_tuple r ≡ true → All (Knows t) (parts r) → has_borrow (defined_shape (all_shapes t) r) ≡ false
+plain_new : (t new : TypeTable) (p r : Definition) (f : TypeFunc) → new.definitions ≡ t.definitions ++ p ∷ [] ++ r ∷ [] → f.results ≡ length t.definitions + 1 → is_tuple r ≡ true → All (Knows t) (parts r) → has_borrow (defined_shape (all_shapes t) r) ≡ false
     → has_borrow (shape_of new (ty.Tuple f.results)) ≡ false
 plain_new t new p r f grown after hr known plain =
     let one = with_definition t p in
@@ -62,15 +62,15 @@ plain_new t new p r f grown after hr known plain =
     shape_more (with_definition one r) new [] type (grown ∙ sym (append-nil (t.definitions ++ p ∷ [] ++ r ∷ []))) (has_new is_tuple one r f.results second hr) in
     ap has_borrow (same ∙ new_shape one r type (ap Some second) ∙ defined_shape-with t p r known) ∙ plain
 
-pub funcs-func : (c : Inside) (t : Table) (items : List Entry) (p r : Entry) (funcs : List TypeFunc) (f : TypeFunc) → table c ≡ t → items ≡ c.entries.items ++ p ∷ [] ++ r ∷ [] → funcs ≡ c.funcs.items ++ f ∷ [] → f.params ≡ length t.definitions → f.results ≡ length t.definitions + 1
+pub funcs-func : (c : Inside) (t : TypeTable) (items : List Entry) (p r : Entry) (funcs : List TypeFunc) (f : TypeFunc) → table c ≡ t → items ≡ c.entries.items ++ p ∷ [] ++ r ∷ [] → funcs ≡ c.funcs.items ++ f ∷ [] → f.params ≡ length t.definitions → f.results ≡ length t.definitions + 1
     → is_tuple (definition_of p.item) ≡ true → is_tuple (definition_of r.item) ≡ true → IsEntry t (defined_shape (all_shapes t) (definition_of r.item)) r → r.has_borrow ≡ false
     → All (IsFunc (table c)) c.funcs.items → All (IsFunc (record { definitions = definitions_of items; funcs = funcs; resources = c.resources.items })) funcs
 funcs-func c t items p r funcs f view same added at after hp hr entry plain h =
-    let new : Table = record { definitions = definitions_of items; funcs = funcs; resources = c.resources.items } in
+    let new : TypeTable = record { definitions = definitions_of items; funcs = funcs; resources = c.resources.items } in
     let grown : new.definitions ≡ (table c).definitions ++ definition_of p.item ∷ [] ++ definition_of r.item ∷ [] = ap definitions_of same ∙ simp map-append in
     let grown2 : new.definitions ≡ (table c).definitions ++ (definition_of p.item ∷ definition_of r.item ∷ []) = grown ∙ append_assoc (table c).definitions (definition_of p.item ∷ []) (definition_of r.item ∷ []) in
-    let n : length t.definitions ≡ length (table c).definitions = ap (λ (x : Table). length x.definitions) (sym view) in
-    let IsEntryIn : Table → Type 0 = λ x. IsEntry x (defined_shape (all_shapes x) (definition_of r.item)) r in
+    let n : length t.definitions ≡ length (table c).definitions = ap (λ (x : TypeTable). length x.definitions) (sym view) in
+    let IsEntryIn : TypeTable → Type 0 = λ x. IsEntry x (defined_shape (all_shapes x) (definition_of r.item)) r in
     let here : IsEntryIn (table c) = subst IsEntryIn (sym view) entry in
     let last : IsFunc new f = record {
       over = over_new (table c) new (definition_of p.item) (definition_of r.item) f grown (at ∙ n) (after ∙ ap (λ (k : ℕ). k + 1) n) hp hr;
@@ -88,7 +88,7 @@ funcs-same c items gs rs same h =
 resource_more : (r m n : ℕ) → m ≤ n → nat_lt r m ≡ true → nat_lt r n ≡ true
 resource_more r m n h e = grind (arith, nat_tests)
 
-knows-resources : (t : Table) (rs : List TypeResourceTable) (type : InterfaceType) → length t.resources ≤ length rs → Knows t type → Knows (record t { resources = rs }) type
+knows-resources : (t : TypeTable) (rs : List TypeResourceTable) (type : InterfaceType) → length t.resources ≤ length rs → Knows t type → Knows (record t { resources = rs }) type
 knows-resources t rs (ty.Own r) more h = resource_more r (length t.resources) (length rs) more h
 knows-resources t rs (ty.Borrow r) more h = resource_more r (length t.resources) (length rs) more h
 knows-resources t rs (ty.List i) more h = h

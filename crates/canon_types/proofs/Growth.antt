@@ -15,7 +15,7 @@ use Rattle.canon_types.specs.declared.table.ComponentTypes.TheInside.{Inside}
 use Rattle.canon_types.specs.Keeps.{definition_of, table, IsEntry, IsFunc, EntriesFit}
 use Rattle.canon_types.specs.Depth.{has_borrow}
 use Rattle.canon_types.specs.Refusal.{with_definition}
-use Rattle.canon_types.specs.Table.{Definition, EnumType, FixedListType, FlagsType, IsOver, Knows, ListType, MapType, OptionType, RecordType, ResultType, Table, TupleType, VariantType, all_shapes, cases_in, defined_shape, fields_in, has, is_enum, is_fixed_list, is_flags, is_list, is_map, is_option, is_record, is_result, is_tuple, is_variant, members_in, named_case, no_shape, parts, place, shape_in, shape_of, shapes_after}
+use Rattle.canon_types.specs.Table.{Definition, EnumType, FixedListType, FlagsType, IsOver, Knows, ListType, MapType, OptionType, RecordType, ResultType, TupleType, TypeTable, VariantType, all_shapes, cases_in, defined_shape, fields_in, has, is_enum, is_fixed_list, is_flags, is_list, is_map, is_option, is_record, is_result, is_tuple, is_variant, members_in, named_case, no_shape, parts, place, shape_in, shape_of, shapes_after}
 use Rattle.canon_types.specs.declared.types.TypeResourceTable.{TypeResourceTable}
 
 -- ---- shapes in the order of addition
@@ -30,11 +30,11 @@ unfolding shapes_after
 length-shapes_after known [] = omega arith
 length-shapes_after known (x ∷ xs) = omega (arith, length-shapes_after (known ++ defined_shape known x ∷ []) xs, length-append known (defined_shape known x ∷ []))
 
-pub all_shapes-with : (t : Table) (d : Definition) → all_shapes (with_definition t d) ≡ all_shapes t ++ defined_shape (all_shapes t) d ∷ []
+pub all_shapes-with : (t : TypeTable) (d : Definition) → all_shapes (with_definition t d) ≡ all_shapes t ++ defined_shape (all_shapes t) d ∷ []
 unfolding all_shapes
 all_shapes-with t d = shapes_after-push [] t.definitions d
 
-pub length-all_shapes : (t : Table) → length (all_shapes t) ≡ length t.definitions
+pub length-all_shapes : (t : TypeTable) → length (all_shapes t) ≡ length t.definitions
 unfolding all_shapes
 length-all_shapes t = omega (arith, length-shapes_after [] t.definitions)
 
@@ -94,10 +94,10 @@ defined_shape-append known more (FixedListType e n) within = ap (fixed n) (shape
 
 -- ---- what a table knows
 
-has_within : (test : Definition → Bool) (t : Table) (i : ℕ) → has test t i ≡ true → i < length t.definitions
+has_within : (test : Definition → Bool) (t : TypeTable) (i : ℕ) → has test t i ≡ true → i < length t.definitions
 has_within test t i h = grind (arith, slice_get_cases t.definitions i)
 
-pub known_within : (t : Table) (type : InterfaceType) → Knows t type → IsWithin (length t.definitions) type
+pub known_within : (t : TypeTable) (type : InterfaceType) → Knows t type → IsWithin (length t.definitions) type
 known_within t (ty.List i) h = has_within is_list t i h
 known_within t (ty.Map i) h = has_within is_map t i h
 known_within t (ty.Record i) h = has_within is_record t i h
@@ -115,14 +115,14 @@ slice_get-append [] more i d h = cc
 slice_get-append (x ∷ xs) more zero d h = h
 slice_get-append (x ∷ xs) more (suc i) d h = slice_get-append xs more i d h
 
-has_by : (test : Definition → Bool) (t : Table) (d : Definition) (i : ℕ) (o : Option Definition) → slice_get t.definitions i ≡ o → has test t i ≡ true → has test (with_definition t d) i ≡ true
+has_by : (test : Definition → Bool) (t : TypeTable) (d : Definition) (i : ℕ) (o : Option Definition) → slice_get t.definitions i ≡ o → has test t i ≡ true → has test (with_definition t d) i ≡ true
 has_by test t d i None e h = grind arith
 has_by test t d i (Some x) e h = grind (arith, slice_get-append t.definitions (d ∷ []) i x e)
 
-has-with : (test : Definition → Bool) (t : Table) (d : Definition) (i : ℕ) → has test t i ≡ true → has test (with_definition t d) i ≡ true
+has-with : (test : Definition → Bool) (t : TypeTable) (d : Definition) (i : ℕ) → has test t i ≡ true → has test (with_definition t d) i ≡ true
 has-with test t d i h = has_by test t d i (slice_get t.definitions i) refl h
 
-pub knows-with : (t : Table) (d : Definition) (type : InterfaceType) → Knows t type → Knows (with_definition t d) type
+pub knows-with : (t : TypeTable) (d : Definition) (type : InterfaceType) → Knows t type → Knows (with_definition t d) type
 knows-with t d (ty.List i) h = has-with is_list t d i h
 knows-with t d (ty.Map i) h = has-with is_map t d i h
 knows-with t d (ty.Record i) h = has-with is_record t d i h
@@ -137,26 +137,26 @@ knows-with t d (ty.Own r) h = h
 knows-with t d (ty.Borrow r) h = h
 knows-with t d _ h = refl
 
-all_within : (t : Table) (types : List InterfaceType) → All (Knows t) types → All (IsWithin (length (all_shapes t))) types
+all_within : (t : TypeTable) (types : List InterfaceType) → All (Knows t) types → All (IsWithin (length (all_shapes t))) types
 all_within t types h =
     let P : ℕ → Type 0 = λ n. All (IsWithin n) types in
     subst P (sym (length-all_shapes t)) (λ k x lt. known_within t _ (h k x lt))
 
 -- the shape of a known type stays
-pub shape_of-with : (t : Table) (d : Definition) (type : InterfaceType) → Knows t type → shape_of (with_definition t d) type ≡ shape_of t type
+pub shape_of-with : (t : TypeTable) (d : Definition) (type : InterfaceType) → Knows t type → shape_of (with_definition t d) type ≡ shape_of t type
 shape_of-with t d type h =
     ap (λ (known : List Shape). shape_in known type) (all_shapes-with t d)
     ∙ shape_in-append (all_shapes t) (defined_shape (all_shapes t) d ∷ []) type (subst (λ (n : ℕ). IsWithin n type) (sym (length-all_shapes t)) (known_within t type h))
 
 -- and so does the shape of a definition over known types
-pub defined_shape-with : (t : Table) (d x : Definition) → All (Knows t) (parts x) → defined_shape (all_shapes (with_definition t d)) x ≡ defined_shape (all_shapes t) x
+pub defined_shape-with : (t : TypeTable) (d x : Definition) → All (Knows t) (parts x) → defined_shape (all_shapes (with_definition t d)) x ≡ defined_shape (all_shapes t) x
 defined_shape-with t d x h =
     ap (λ (known : List Shape). defined_shape known x) (all_shapes-with t d)
     ∙ defined_shape-append (all_shapes t) (defined_shape (all_shapes t) d ∷ []) x (all_within t (parts x) h)
 
 -- ---- the entries
 
-entry-with : (t : Table) (d : Definition) (s : Shape) (e : Entry) → IsEntry t s e → IsEntry (with_definition t d) s e
+entry-with : (t : TypeTable) (d : Definition) (s : Shape) (e : Entry) → IsEntry t s e → IsEntry (with_definition t d) s e
 entry-with t d s e h = record {
   known = λ k x lt. knows-with t d _ (h.known k x lt);
   shape = h.shape ∙ sym (defined_shape-with t d (definition_of e.item) h.known);
@@ -166,12 +166,12 @@ entry-with t d s e h = record {
   layout = h.layout;
 }
 
-entry_along : (t : Table) (s s' : Shape) (e e' : Entry) → s' ≡ s → e' ≡ e → IsEntry t s e → IsEntry t s' e'
+entry_along : (t : TypeTable) (s s' : Shape) (e e' : Entry) → s' ≡ s → e' ≡ e → IsEntry t s e → IsEntry t s' e'
 entry_along t s s' e e' same_shape same_entry h =
     subst (λ (x : Entry). IsEntry t s' x) (sym same_entry) (subst (λ (x : Shape). IsEntry t x e) (sym same_shape) h)
 
 -- one entry more, of known parts
-pub entries_fit-push : (t : Table) (entries : List Entry) (e : Entry) → t.definitions ≡ map (λ x. definition_of x.item) entries → EntriesFit t entries → IsEntry t (defined_shape (all_shapes t) (definition_of e.item)) e → EntriesFit (with_definition t (definition_of e.item)) (entries ++ e ∷ [])
+pub entries_fit-push : (t : TypeTable) (entries : List Entry) (e : Entry) → t.definitions ≡ map (λ x. definition_of x.item) entries → EntriesFit t entries → IsEntry t (defined_shape (all_shapes t) (definition_of e.item)) e → EntriesFit (with_definition t (definition_of e.item)) (entries ++ e ∷ [])
 entries_fit-push t entries e defs fit new i x lt = go (cases_lt i (length entries))
   where
     d : Definition
@@ -197,16 +197,16 @@ abbrev pub definitions_of : List Entry → List Definition
 definitions_of = map (λ x. definition_of x.item)
 
 -- the same, of the fields of a `ComponentTypes`
-pub kept-push : (c : Inside) (t : Table) (items : List Entry) (e : Entry) → table c ≡ t → items ≡ c.entries.items ++ e ∷ [] →
+pub kept-push : (c : Inside) (t : TypeTable) (items : List Entry) (e : Entry) → table c ≡ t → items ≡ c.entries.items ++ e ∷ [] →
     EntriesFit (table c) c.entries.items → IsEntry t (defined_shape (all_shapes t) (definition_of e.item)) e →
     EntriesFit (record { definitions = definitions_of items; funcs = c.funcs.items; resources = c.resources.items }) items
 kept-push c t items e view same fit new =
-    let IsNew : Table → Type 0 = λ x. IsEntry x (defined_shape (all_shapes x) (definition_of e.item)) e in
-    let Fit : Table → Type 0 = λ x. EntriesFit x (c.entries.items ++ e ∷ []) in
+    let IsNew : TypeTable → Type 0 = λ x. IsEntry x (defined_shape (all_shapes x) (definition_of e.item)) e in
+    let Fit : TypeTable → Type 0 = λ x. EntriesFit x (c.entries.items ++ e ∷ []) in
     let pushed : EntriesFit (with_definition (table c) (definition_of e.item)) (c.entries.items ++ e ∷ []) =
     entries_fit-push (table c) c.entries.items e refl fit (subst IsNew (sym view) new) in
     let grown : with_definition (table c) (definition_of e.item) ≡ record { definitions = definitions_of (c.entries.items ++ e ∷ []); funcs = c.funcs.items; resources = c.resources.items } =
-    ap (λ (ds : List Definition). let r : Table = record { definitions = ds; funcs = c.funcs.items; resources = c.resources.items } in r) (sym (map-append (λ (x : Entry). definition_of x.item) c.entries.items (e ∷ []))) in
+    ap (λ (ds : List Definition). let r : TypeTable = record { definitions = ds; funcs = c.funcs.items; resources = c.resources.items } in r) (sym (map-append (λ (x : Entry). definition_of x.item) c.entries.items (e ∷ []))) in
     subst (λ (xs : List Entry). EntriesFit (record { definitions = definitions_of xs; funcs = c.funcs.items; resources = c.resources.items }) xs) (sym same) (subst Fit grown pushed)
 
 -- entries do not depend on the functions
@@ -222,7 +222,7 @@ entries_fit-funcs ds fs gs n entries fit = λ i e lt. record {
 }
 
 -- two entries more, over the same table
-pub entries_fit-push_two : (t : Table) (entries : List Entry) (p r : Entry) → t.definitions ≡ definitions_of entries → EntriesFit t entries →
+pub entries_fit-push_two : (t : TypeTable) (entries : List Entry) (p r : Entry) → t.definitions ≡ definitions_of entries → EntriesFit t entries →
     IsEntry t (defined_shape (all_shapes t) (definition_of p.item)) p → IsEntry t (defined_shape (all_shapes t) (definition_of r.item)) r →
     EntriesFit (with_definition (with_definition t (definition_of p.item)) (definition_of r.item)) (entries ++ p ∷ [] ++ r ∷ [])
 entries_fit-push_two t entries p r defs fit first second =
@@ -235,13 +235,13 @@ entries_fit-push_two t entries p r defs fit first second =
     entries_fit-push (with_definition t dp) (entries ++ p ∷ []) r defs' one second'
 
 -- the same, of the fields of a `ComponentTypes`, whatever becomes of the functions
-pub kept-push_two : (c : Inside) (t : Table) (items : List Entry) (p r : Entry) (funcs : List TypeFunc) → table c ≡ t →
+pub kept-push_two : (c : Inside) (t : TypeTable) (items : List Entry) (p r : Entry) (funcs : List TypeFunc) → table c ≡ t →
     items ≡ c.entries.items ++ p ∷ [] ++ r ∷ [] → EntriesFit (table c) c.entries.items →
     IsEntry t (defined_shape (all_shapes t) (definition_of p.item)) p → IsEntry t (defined_shape (all_shapes t) (definition_of r.item)) r →
     EntriesFit (record { definitions = definitions_of items; funcs = funcs; resources = c.resources.items }) items
 kept-push_two c t items p r funcs view same fit first second =
     let all = c.entries.items ++ p ∷ [] ++ r ∷ [] in
-    let Is : Entry → Table → Type 0 = λ e x. IsEntry x (defined_shape (all_shapes x) (definition_of e.item)) e in
+    let Is : Entry → TypeTable → Type 0 = λ e x. IsEntry x (defined_shape (all_shapes x) (definition_of e.item)) e in
     let pushed = entries_fit-push_two (table c) c.entries.items p r refl fit (subst (Is p) (sym view) first) (subst (Is r) (sym view) second) in
     let ds : definitions_of c.entries.items ++ definition_of p.item ∷ [] ++ definition_of r.item ∷ [] ≡ definitions_of all = simp map-append in
     let Fit : List Definition → Type 0 = λ xs. EntriesFit (record { definitions = xs; funcs = c.funcs.items; resources = c.resources.items }) all in
@@ -257,7 +257,7 @@ kept-same c items funcs same fit =
 -- ---- functions
 
 -- a tuple that was there is there among more definitions
-pub has_more : (test : Definition → Bool) (t new : Table) (more : List Definition) (i : ℕ) → new.definitions ≡ t.definitions ++ more → has test t i ≡ true → has test new i ≡ true
+pub has_more : (test : Definition → Bool) (t new : TypeTable) (more : List Definition) (i : ℕ) → new.definitions ≡ t.definitions ++ more → has test t i ≡ true → has test new i ≡ true
 has_more test t new more i grown h = go (slice_get t.definitions i) refl
   where
     go : (o : Option Definition) → slice_get t.definitions i ≡ o → has test new i ≡ true
@@ -267,7 +267,7 @@ has_more test t new more i grown h = go (slice_get t.definitions i) refl
         let is : test x ≡ true = sym (ap (λ (o : Option Definition). option_map_or test o false) e) ∙ h in
         ap (λ (o : Option Definition). option_map_or test o false) at ∙ is
 
-over_more : (t new : Table) (more : List Definition) (f : TypeFunc) → new.definitions ≡ t.definitions ++ more → IsOver t f → IsOver new f
+over_more : (t new : TypeTable) (more : List Definition) (f : TypeFunc) → new.definitions ≡ t.definitions ++ more → IsOver t f → IsOver new f
 over_more t new more f grown h = record {
   params = has_more is_tuple t new more f.params grown h.params;
   results = has_more is_tuple t new more f.results grown h.results;
@@ -291,20 +291,20 @@ shapes_after-append known [] more = refl
 shapes_after-append known (d ∷ ds) more = shapes_after-append (known ++ defined_shape known d ∷ []) ds more
 
 -- the shape of a known type stays where definitions follow
-pub shape_more : (t new : Table) (more : List Definition) (type : InterfaceType) → new.definitions ≡ t.definitions ++ more → Knows t type → shape_of new type ≡ shape_of t type
+pub shape_more : (t new : TypeTable) (more : List Definition) (type : InterfaceType) → new.definitions ≡ t.definitions ++ more → Knows t type → shape_of new type ≡ shape_of t type
 unfolding all_shapes
 shape_more t new more type grown h =
     ap (λ (ds : List Definition). shape_in (shapes_after [] ds) type) grown
     ∙ ap (λ (known : List Shape). shape_in known type) (shapes_after-append [] t.definitions more ∙ shapes_after-further (all_shapes t) more)
     ∙ shape_in-append (all_shapes t) (further (all_shapes t) more) type (subst (λ (n : ℕ). IsWithin n type) (sym (length-all_shapes t)) (known_within t type h))
 
-pub func_more : (t new : Table) (more : List Definition) (f : TypeFunc) → new.definitions ≡ t.definitions ++ more → IsFunc t f → IsFunc new f
+pub func_more : (t new : TypeTable) (more : List Definition) (f : TypeFunc) → new.definitions ≡ t.definitions ++ more → IsFunc t f → IsFunc new f
 func_more t new more f grown h = record {
   over = over_more t new more f grown h.over;
   results = ap has_borrow (shape_more t new more (ty.Tuple f.results) grown h.over.results) ∙ h.results;
 }
 
-pub all_funcs_more : (t new : Table) (more : List Definition) (fs : List TypeFunc) → new.definitions ≡ t.definitions ++ more → All (IsFunc t) fs → All (IsFunc new) fs
+pub all_funcs_more : (t new : TypeTable) (more : List Definition) (fs : List TypeFunc) → new.definitions ≡ t.definitions ++ more → All (IsFunc t) fs → All (IsFunc new) fs
 all_funcs_more t new more fs grown h = λ k f lt. func_more t new more _ grown (h k f lt)
 
 -- the functions stay over tuples of the table where an entry is added

@@ -11,7 +11,7 @@ use Rattle.canon_types.specs.declared.types.TypeFunc.{TypeFunc}
 use Rattle.canon_types.specs.declared.table.Entry.{Entry}
 use Rattle.canon_types.specs.declared.table.ComponentTypes.TheInside.{Inside}
 use Rattle.canon_types.specs.Depth.{has_borrow}
-use Rattle.canon_types.specs.Keeps.{EntriesFit, Finds, IsEntry, IsFunc, IsKept, definition_of, table}
+use Rattle.canon_types.specs.Keeps.{EntriesFit, Finds, IsEntry, IsFunc, KeepsTable, definition_of, table}
 use Rattle.canon_types.specs.Table.{Definition, HasTuple, TupleType, all_shapes, defined_shape, is_tuple, members_in, no_shape, shape_of, tuple_members, tuple_types}
 use Rattle.canon_types.specs.Valid.{HoldNoBorrow, IsValidTable, NamesDiffer}
 use Rattle.canon_types.proofs.Distinct.{differ}
@@ -65,7 +65,7 @@ finds c i e fit at =
       layout = here.layout;
     }
 
-pub valid : (c : Inside) → IsKept c → IsValidTable (table c)
+pub valid : (c : Inside) → KeepsTable c → IsValidTable (table c)
 valid c kept = record {
   names = All-map NamesDiffer (λ (e : Entry). definition_of e.item) c.entries.items (λ k e lt. differ _ (kept.entries k e lt).names);
   results = λ k f lt. no_borrow c _ kept.entries (kept.funcs k f lt);

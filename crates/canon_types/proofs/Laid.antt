@@ -7,7 +7,7 @@ use Rattle.canon_abi.specs.Abi.{AreOfCases, AreOfMembers, HasInfo, HasLayout, Te
 use Rattle.canon_abi.specs.declared.abi.CanonicalAbiInfo.{CanonicalAbiInfo}
 use Rattle.canon_abi.specs.declared.abi.VariantInfo.{VariantInfo}
 use Rattle.canon_model.specs.Layout.{align, align_to, cases_align, cases_flat, cases_size, ends, flat, members_align, members_end, members_flat, payload_offset, size, tag_size}
-use Rattle.canon_model.specs.Shape.{Cases, Members, Name, ProductKind, Shape, VariantKind, case_count, case_for, no_cases, of_option, of_places, of_result, result_of, product, tuple, tuple_members, variant}
+use Rattle.canon_model.specs.Shape.{Cases, Members, Name, ProductKind, Shape, VariantKind, case_count, case_for, no_cases, of_option, of_places, of_result, result_of, product, tuple, unnamed_members, variant}
 use Rattle.canon_model.proofs.Layouts.{members_end-le-size}
 use Rattle.canon_types.specs.declared.types.InterfaceType.{InterfaceType}
 use Rattle.canon_types.specs.Laid.{AreLaid, ArePayloadsLaid, IsPayloadLaid, unnamed_cases}
@@ -218,7 +218,7 @@ pair_at ka kb a b o ha hb e =
 
 pair_end : (a b : Shape) → ends false (ends false 0 a) b ≤ size false (tuple (a ∷ b ∷ []))
 unfolding size
-pair_end a b = members_end-le-size false of_places (tuple_members (a ∷ b ∷ []))
+pair_end a b = members_end-le-size false of_places (unnamed_members (a ∷ b ∷ []))
 
 -- the value of a pair ends inside it
 pub pair_fits : (ka kb : CanonicalAbiInfo) (a b : Shape) (o : ℕ) → HasLayout ka a → HasLayout kb b → o ≡ align_to 0 ka.align32 + ka.size32 → size false (tuple (a ∷ b ∷ [])) < 2 ^ 32 → align_to o kb.align32 + kb.size32 < 2 ^ 32

@@ -13,12 +13,12 @@ use Rattle.canon_types.specs.declared.table.Entry.{Entry}
 use Rattle.canon_types.specs.Depth.{deepest, depth, has_borrow, member_borrows}
 use Rattle.canon_types.specs.Keeps.{IsEntry, KeepsLayout, cases_type, definition_of, fields_type}
 use Rattle.canon_types.specs.Refusal.{has_repeats, is_empty, most_names, names, names_refusal, parts_refusal, refusal}
-use Rattle.canon_types.specs.Table.{Definition, Knows, KnowsPayload, ResultType, Table, all_shapes, defined_shape, members_of, parts}
+use Rattle.canon_types.specs.Table.{Definition, Knows, KnowsPayload, ResultType, TypeTable, all_shapes, defined_shape, members_of, parts}
 use Rattle.canon_types.proofs.Measures.{borrows_defined, depth_defined}
 use Rattle.canon_types.proofs.Adding.{refused_at_names}
 
 -- an entry that was measured
-pub is_entry : (t : Table) (d : Definition) (e : Entry) → definition_of e.item ≡ d → All (Knows t) (parts d) → e.depth ≡ 1 + deepest (members_of t (parts d)) → e.has_borrow ≡ member_borrows (members_of t (parts d))
+pub is_entry : (t : TypeTable) (d : Definition) (e : Entry) → definition_of e.item ≡ d → All (Knows t) (parts d) → e.depth ≡ 1 + deepest (members_of t (parts d)) → e.has_borrow ≡ member_borrows (members_of t (parts d))
     → has_repeats (names d) ≡ false → KeepsLayout e.item (defined_shape (all_shapes t) d) → IsEntry t (defined_shape (all_shapes t) (definition_of e.item)) e
 is_entry t d e same known deep borrows apart laid = record {
   known = subst (λ (x : Definition). All (Knows t) (parts x)) (sym same) known;
@@ -45,12 +45,12 @@ pub names_apart : (ns : List Name) (most : ℕ) → names_refusal ns most ≡ No
 names_apart ns most h = grind (arith, nat_tests)
 
 -- a definition whose names are refused
-pub names_refused : (t : Table) (d : Definition) (types : List InterfaceType) (empty : Bool) (e : TypeError) → types ≡ parts d → empty ≡ is_empty d → None ≡ parts_refusal t types empty → names_refusal (names d) (most_names d) ≡ Some e → refusal t d ≡ Some e
+pub names_refused : (t : TypeTable) (d : Definition) (types : List InterfaceType) (empty : Bool) (e : TypeError) → types ≡ parts d → empty ≡ is_empty d → None ≡ parts_refusal t types empty → names_refusal (names d) (most_names d) ≡ Some e → refusal t d ≡ Some e
 names_refused t d types empty e same_types same_empty h refused =
     refused_at_names t d (Some e) (sym (h ∙ ap (λ (ts : List InterfaceType). parts_refusal t ts empty) same_types ∙ ap (parts_refusal t (parts d)) same_empty)) refused
 
 -- some names, and no parts
-pub some_names : (t : Table) (n : ℕ) → 0 < n → None ≡ parts_refusal t [] (n == 0)
+pub some_names : (t : TypeTable) (n : ℕ) → 0 < n → None ≡ parts_refusal t [] (n == 0)
 some_names t n h = grind (arith, nat_tests)
 
 -- ---- records
@@ -89,7 +89,7 @@ cases_empty {Z} cs ps e =
     ∙ sym (ap (λ (n : ℕ). n == 0) (length-map cs (λ (c : String Z × Option InterfaceType). let r : Name × Option InterfaceType = (string_bytes c.0, c.1) in r)))
 
 -- where the types that are there are known, so is each payload
-pub payloads_known : (t : Table) (ps : List (Option InterfaceType)) → All (Knows t) (filter_map (λ p. p) ps) → All (KnowsPayload t) ps
+pub payloads_known : (t : TypeTable) (ps : List (Option InterfaceType)) → All (Knows t) (filter_map (λ p. p) ps) → All (KnowsPayload t) ps
 payloads_known t [] h = All-nil (KnowsPayload t)
 payloads_known t (None ∷ ps) h = All-cons (KnowsPayload t) None ps tt (payloads_known t ps h)
 payloads_known t (Some x ∷ ps) h = All-cons (KnowsPayload t) (Some x) ps (All-head (Knows t) x (filter_map (λ p. p) ps) h) (payloads_known t ps (All-tail (Knows t) x (filter_map (λ p. p) ps) h))

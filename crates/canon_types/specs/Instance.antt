@@ -1,7 +1,7 @@
 -- What contracts see of a component's types in a store.
 use Rattle.std.specs.Prelude.{ℕ}
-use Rattle.canon_types.specs.Table.{Table}
+use Rattle.canon_types.specs.Table.{TypeTable}
 
 pub record Instance : Type 0 where
-  pub types : Table
+  pub types : TypeTable
   pub store : ℕ

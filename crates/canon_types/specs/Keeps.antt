@@ -27,7 +27,7 @@ use Rattle.canon_types.specs.declared.types.InterfaceType.TheVariants as ty
 use Rattle.canon_types.specs.declared.types.TypeFunc.{TypeFunc}
 use Rattle.canon_types.specs.Refusal.{has_repeats, names}
 use Rattle.canon_types.specs.Valid.{NamesDiffer}
-use Rattle.canon_types.specs.Table.{Definition, EnumType, FixedListType, FlagsType, IsOver, Knows, ListType, MapType, OptionType, RecordType, ResultType, Table, TupleType, VariantType, all_shapes, defined_shape, fields_in, no_shape, parts, shape_of}
+use Rattle.canon_types.specs.Table.{Definition, EnumType, FixedListType, FlagsType, IsOver, Knows, ListType, MapType, OptionType, RecordType, ResultType, TupleType, TypeTable, VariantType, all_shapes, defined_shape, fields_in, no_shape, parts, shape_of}
 
 -- ---- the definitions that the structs are
 
@@ -41,7 +41,7 @@ abbrev pub fields_type : List RecordField → Definition
 fields_type fields = RecordType (map (λ f. (string_bytes f.name, f.ty)) fields)
 
 -- the members of a record of these fields
-abbrev pub field_members : Table → List RecordField → Members
+abbrev pub field_members : TypeTable → List RecordField → Members
 field_members t fields = fields_in (all_shapes t) (map (λ f. (string_bytes f.name, f.ty)) fields)
 
 abbrev pub record_type : TypeRecord → Definition
@@ -111,7 +111,7 @@ KeepsLayout (item.Flags x) s = HasLayout x.abi s
 KeepsLayout (item.FixedLengthList x) s = HasLayout x.abi s
 
 -- an entry names types of the table, and is kept with its shape's depth, borrows and numbers
-pub record IsEntry (t : Table) (s : Shape) (e : Entry) : Type 0 where
+pub record IsEntry (t : TypeTable) (s : Shape) (e : Entry) : Type 0 where
   pub known : All (Knows t) (parts (definition_of e.item))
   pub shape : s ≡ defined_shape (all_shapes t) (definition_of e.item)
   pub depth : e.depth ≡ depth s
@@ -119,7 +119,7 @@ pub record IsEntry (t : Table) (s : Shape) (e : Entry) : Type 0 where
   pub names : has_repeats (names (definition_of e.item)) ≡ false
   pub layout : KeepsLayout e.item s
 
-abbrev pub table : Inside → Table
+abbrev pub table : Inside → TypeTable
 table c = record {
   definitions = map (λ e. definition_of e.item) c.entries.items;
   funcs = c.funcs.items;
@@ -127,7 +127,7 @@ table c = record {
 }
 
 -- each entry is that of the shape at its place
-abbrev pub EntriesFit : Table → List Entry → Type 0
+abbrev pub EntriesFit : TypeTable → List Entry → Type 0
 EntriesFit t entries = (i : ℕ) (e : Entry) → i < length entries → IsEntry t (get_or (all_shapes t) i no_shape) (get_or entries i e)
 
 pub record ArePlain (p : PlainAbis) : Type 0 where
@@ -140,18 +140,18 @@ pub record ArePlain (p : PlainAbis) : Type 0 where
   pub text : HasLayout p.pointer_pair string
 
 -- a function is over tuples of the table, and no borrowed handle occurs in its results
-pub record IsFunc (t : Table) (f : TypeFunc) : Type 0 where
+pub record IsFunc (t : TypeTable) (f : TypeFunc) : Type 0 where
   pub over : IsOver t f
   pub results : has_borrow (shape_of t (ty.Tuple f.results)) ≡ false
 
-pub record IsKept (c : Inside) : Type 0 where
+pub record KeepsTable (c : Inside) : Type 0 where
   pub plain : ArePlain c.plain
   pub entries : EntriesFit (table c) c.entries.items
   pub funcs : All (IsFunc (table c)) c.funcs.items
   pub instances : All (λ r. r.instance < 256) c.resources.items
 
 -- the item at a place is the definition there
-pub record Finds (t : Table) (i : ℕ) (it : Item) : Type 0 where
+pub record Finds (t : TypeTable) (i : ℕ) (it : Item) : Type 0 where
   pub definition : slice_get t.definitions i ≡ Some (definition_of it)
   pub known : All (Knows t) (parts (definition_of it))
   pub names : NamesDiffer (definition_of it)

@@ -23,7 +23,7 @@ pub data Definition : Type 0 where
   FlagsType : (names : List Name) → Definition
   FixedListType : (element : InterfaceType) (count : ℕ) → Definition
 
-pub record Table : Type 0 where
+pub record TypeTable : Type 0 where
   pub definitions : List Definition
   pub funcs : List TypeFunc
   pub resources : List TypeResourceTable
@@ -110,16 +110,16 @@ unfoldable pub shapes_after : List Shape → List Definition → List Shape
 shapes_after known [] = known
 shapes_after known (d ∷ ds) = shapes_after (known ++ defined_shape known d ∷ []) ds
 
-unfoldable pub all_shapes : Table → List Shape
+unfoldable pub all_shapes : TypeTable → List Shape
 all_shapes t = shapes_after [] t.definitions
 
 -- ---- the shape of a type of a table
 
-abbrev pub shape_of : Table → InterfaceType → Shape
+abbrev pub shape_of : TypeTable → InterfaceType → Shape
 shape_of t = shape_in (all_shapes t)
 
 -- types in a row, as the members of a tuple
-abbrev pub members_of : Table → List InterfaceType → Members
+abbrev pub members_of : TypeTable → List InterfaceType → Members
 members_of t = members_in (all_shapes t)
 
 -- ---- which types a table knows
@@ -165,10 +165,10 @@ is_fixed_list (FixedListType element count) = true
 is_fixed_list _ = false
 
 -- there is a definition of this number, and it passes the test
-abbrev pub has : (Definition → Bool) → Table → ℕ → Bool
+abbrev pub has : (Definition → Bool) → TypeTable → ℕ → Bool
 has test t i = option_map_or test (slice_get t.definitions i) false
 
-abbrev pub knows : Table → InterfaceType → Bool
+abbrev pub knows : TypeTable → InterfaceType → Bool
 knows t (ty.List i) = has is_list t i
 knows t (ty.Map i) = has is_map t i
 knows t (ty.Record i) = has is_record t i
@@ -183,20 +183,20 @@ knows t (ty.Own r) = nat_lt r (length t.resources)
 knows t (ty.Borrow r) = nat_lt r (length t.resources)
 knows t _ = true
 
-abbrev pub Knows : Table → InterfaceType → Type 0
+abbrev pub Knows : TypeTable → InterfaceType → Type 0
 Knows t type = IsTrue (knows t type)
 
-abbrev pub KnowsPayload : Table → Option InterfaceType → Type 0
+abbrev pub KnowsPayload : TypeTable → Option InterfaceType → Type 0
 KnowsPayload t None = ⊤
 KnowsPayload t (Some type) = Knows t type
 
-abbrev pub HasTuple : Table → ℕ → Type 0
+abbrev pub HasTuple : TypeTable → ℕ → Type 0
 HasTuple t i = Knows t (ty.Tuple i)
 
-abbrev pub HasFunc : Table → ℕ → Type 0
+abbrev pub HasFunc : TypeTable → ℕ → Type 0
 HasFunc t i = i < length t.funcs
 
-abbrev pub HasResource : Table → ℕ → Type 0
+abbrev pub HasResource : TypeTable → ℕ → Type 0
 HasResource t i = i < length t.resources
 
 -- the types that a definition names
@@ -213,11 +213,11 @@ parts (FlagsType names) = []
 parts (FixedListType element count) = element ∷ []
 
 -- the definition of a type, if it has one
-abbrev pub definition_at : Table → InterfaceType → Option Definition
+abbrev pub definition_at : TypeTable → InterfaceType → Option Definition
 definition_at t type = option_map_or (slice_get t.definitions) (place type) None
 
 -- the type has this definition, and the table knows its parts
-pub record IsDefined (t : Table) (type : InterfaceType) (d : Definition) : Type 0 where
+pub record IsDefined (t : TypeTable) (type : InterfaceType) (d : Definition) : Type 0 where
   pub definition : definition_at t type ≡ Some d
   pub shape : shape_of t type ≡ defined_shape (all_shapes t) d
   pub known : All (Knows t) (parts d)
@@ -229,20 +229,20 @@ tuple_types (TupleType types) = types
 tuple_types _ = []
 
 -- the types of a tuple's members
-abbrev pub types_of : Table → ℕ → List InterfaceType
+abbrev pub types_of : TypeTable → ℕ → List InterfaceType
 types_of t i = option_map_or tuple_types (slice_get t.definitions i) []
 
 -- a tuple's members
-abbrev pub tuple_members : Table → ℕ → Members
+abbrev pub tuple_members : TypeTable → ℕ → Members
 tuple_members t i = members_of t (types_of t i)
 
 -- the parameters and the results of the function are tuples of the table
-pub record IsOver (t : Table) (f : TypeFunc) : Type 0 where
+pub record IsOver (t : TypeTable) (f : TypeFunc) : Type 0 where
   pub params : HasTuple t f.params
   pub results : HasTuple t f.results
 
-abbrev pub param_members : Table → TypeFunc → Members
+abbrev pub param_members : TypeTable → TypeFunc → Members
 param_members t f = tuple_members t f.params
 
-abbrev pub result_members : Table → TypeFunc → Members
+abbrev pub result_members : TypeTable → TypeFunc → Members
 result_members t f = tuple_members t f.results

@@ -1,7 +1,7 @@
 //! A component's types in a store, by which a resource has its type.
 
 ghost use Rattle.std.specs.Prelude.{◌≡◌, ℕ};
-ghost use Rattle.canon_types.specs.Table.{Table};
+ghost use Rattle.canon_types.specs.Table.{TypeTable};
 ghost use Rattle.canon_types.specs.Instance.{Instance};
 
 use crate::{ComponentTypes, ResourceKind, ResourceType, StoreId, TypeResourceTableIndex};

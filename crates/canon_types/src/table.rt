@@ -6,7 +6,7 @@ ghost use Rattle.std.specs.List.{list_all, list_any};
 ghost use Rattle.canon_abi.specs.Abi.{HasInfo, HasLayout};
 ghost use Rattle.canon_types.specs.Depth.{depth, deepest, has_borrow, member_borrows, variant_cases};
 ghost use Rattle.canon_types.specs.Keeps.{ArePlain, Finds, HasPair, IsEntry, KeepsLayout, definition_of, enum_type, fixed_list_type, flags_type, list_type, map_type, option_type, record_type, result_type, tuple_type, variant_type};
-ghost use Rattle.canon_types.specs.Refusal.{empty_table, is_full_for, is_unit_type, parts_refusal, with_definition};
+ghost use Rattle.canon_types.specs.Refusal.{empty_type_table, is_full_for, is_unit_type, parts_refusal, with_definition};
 ghost use Rattle.canon_types.specs.Valid.{HoldNoBorrow, IsValidTable, NamesDiffer};
 ghost use Rattle.canon_types.specs.Table.{HasFunc, HasResource, IsDefined, IsOver, Knows, all_shapes, defined_shape, has, is_enum, is_fixed_list, is_flags, is_list, is_map, is_option, is_record, is_result, is_tuple, is_variant, knows, members_of, shape_of, types_of, parts};
 
@@ -84,14 +84,14 @@ pub struct ComponentTypes {
 }
 
 impl Model for ComponentTypes {
-    ghost use Rattle.canon_types.specs.Table.{Table};
-    ghost use Rattle.canon_types.specs.Keeps.{table, IsKept};
+    ghost use Rattle.canon_types.specs.Table.{TypeTable};
+    ghost use Rattle.canon_types.specs.Keeps.{table, KeepsTable};
 
-    ghost Value = { Table };
+    ghost Value = { TypeTable };
 
     ghost view = { table };
 
-    ghost invariant = { IsKept };
+    ghost invariant = { KeepsTable };
 }
 
 impl ComponentTypes {
@@ -396,7 +396,7 @@ impl ComponentTypes {
     }
 
     fn new(alloc: Global) -> Self
-        ensures { result ≡ empty_table }
+        ensures { result ≡ empty_type_table }
     {
         ComponentTypes {
             plain: plain_abis(),

@@ -1,5 +1,5 @@
 -- Values and their trees (canon_model: what memory and words represent).
-use Rattle.std.specs.Prelude.{◌≡◌, ℕ, ℤ, ◌+◌, ◌-◌, ◌^◌, ◌<◌, ◌↔◌, All, Any, Bool, Box, Err, IsTrue, List, None, Ok, Option, Result, Some, String, Vec, [], ◌∷◌, false, length, map, min, pos, slice_get, string_bytes, suc, true, zero}
+use Rattle.std.specs.Prelude.{◌≡◌, ℕ, ℤ, ◌+◌, ◌-◌, ◌<◌, ◌↔◌, All, Any, Bool, Box, Err, IsTrue, List, None, Ok, Option, Result, Some, String, Vec, [], ◌∷◌, false, length, map, pos, slice_get, string_bytes, suc, true, zero}
 use Rattle.std.specs.declared.alloc.Global.{Global}
 use Rattle.canon_lowering.specs.Copies.{case_tree}
 use Rattle.canon_model.specs.Shape.{Cases, Members, Name, ProductKind, Scalar, Shape, VariantKind, bare, borrow, case_count, fixed, flags, list, member, member_count}
@@ -206,10 +206,6 @@ all_places vs = total (map places vs)
 
 abbrev pub pair_places : Val × Val → ℕ
 pair_places p = places p.0 + places p.1
-
--- a place as it is reported: it stays at the last number of a `u64`
-abbrev pub cap : ℕ → ℕ
-cap n = min n (2 ^ 64 - 1)
 
 -- ---- the same value
 

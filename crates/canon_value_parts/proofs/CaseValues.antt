@@ -7,7 +7,7 @@ use Rattle.canon_lowering.specs.Copies.{case_members, case_tree}
 use Rattle.canon_model.specs.Shape.{Cases, Name, Shape, VariantKind, bare, bare_cases, case_count, enum_of, member_count, no_cases, of_names, option_of, payload, variant}
 use Rattle.canon_types.specs.Depth.{variant_cases}
 use Rattle.canon_types.specs.Keeps.{cases_type}
-use Rattle.canon_types.specs.Table.{EnumType, IsDefined, Table, all_shapes, cases_in, shape_of}
+use Rattle.canon_types.specs.Table.{EnumType, IsDefined, TypeTable, all_shapes, cases_in, shape_of}
 use Rattle.canon_types.specs.Valid.{NamesDiffer}
 use Rattle.canon_types.specs.declared.types.InterfaceType.{InterfaceType}
 use Rattle.canon_types.specs.declared.types.InterfaceType.TheVariants as ty
@@ -42,7 +42,7 @@ names_of_cases known [] = refl
 names_of_cases known ((name, None) ∷ xs) = ap (λ (names : List Name). name ∷ names) (names_of_cases known xs)
 names_of_cases known ((name, Some type) ∷ xs) = ap (λ (names : List Name). name ∷ names) (names_of_cases known xs)
 
-pub first_of_cases : {Z : Type 0} (t : Table) (j : ℕ) (entries : List (String Z × Option InterfaceType)) (tag : ℕ) (name : String Z) (o : Option InterfaceType)
+pub first_of_cases : {Z : Type 0} (t : TypeTable) (j : ℕ) (entries : List (String Z × Option InterfaceType)) (tag : ℕ) (name : String Z) (o : Option InterfaceType)
     → IsDefined t (ty.Variant j) (cases_type entries) → NamesDiffer (cases_type entries)
     → slice_get entries tag ≡ Some (name, o) → IsFirst (string_bytes name) (case_names (variant_cases (shape_of t (ty.Variant j)))) tag
 first_of_cases {Z} t j entries tag name o defined differ e =
@@ -52,7 +52,7 @@ first_of_cases {Z} t j entries tag name o defined differ e =
     subst (λ (names : List Name). IsFirst (string_bytes name) names tag) (names_of_cases (all_shapes t) (map f entries) ∙ sym (ap (λ (s : Shape). case_names (variant_cases s)) defined.shape))
     (is_first _ tag (string_bytes name) differ there)
 
-pub first_of_names : {Z : Type 0} (t : Table) (j : ℕ) (keys : List (String Z)) (tag : ℕ) (name : String Z) → IsDefined t (ty.Enum j) (EnumType (map (λ n. string_bytes n) keys)) → NamesDiffer (EnumType (map (λ n. string_bytes n) keys))
+pub first_of_names : {Z : Type 0} (t : TypeTable) (j : ℕ) (keys : List (String Z)) (tag : ℕ) (name : String Z) → IsDefined t (ty.Enum j) (EnumType (map (λ n. string_bytes n) keys)) → NamesDiffer (EnumType (map (λ n. string_bytes n) keys))
     → slice_get keys tag ≡ Some name → IsFirst (string_bytes name) (case_names (variant_cases (shape_of t (ty.Enum j)))) tag
 first_of_names {Z} t j keys tag name defined differ e =
     let f : String Z → Name = λ x. string_bytes x in

@@ -20,12 +20,12 @@ use Rattle.canon_lowering.specs.Copies.{case_members}
 use Rattle.canon_model.specs.Shape.{Cases, Members, Name, Shape, VariantKind, bare_cases, case_for, case_count, enum_of, member, member_count, no_cases, no_members, of_cases, of_names, of_result, result_of, variant, variant_of}
 use Rattle.canon_types.specs.Depth.{variant_cases}
 use Rattle.canon_types.specs.Keeps.{cases_type}
-use Rattle.canon_types.specs.Table.{Knows, KnowsPayload, ResultType, Table, all_shapes, cases_in, parts, payload_in, shape_of}
+use Rattle.canon_types.specs.Table.{Knows, KnowsPayload, ResultType, TypeTable, all_shapes, cases_in, parts, payload_in, shape_of}
 use Rattle.canon_types.specs.declared.types.InterfaceType.{InterfaceType}
 use Rattle.canon_value_parts.specs.CaseView.{IsPayloadViewed, Misses}
 use Rattle.canon_value_parts.specs.Fails.{payload_expected, payload_not_expected, unknown_case}
 use Rattle.canon_val.specs.Value.{IsCase, IsFirst, case_names, member_names, result_case, result_payload, unboxed}
-use Rattle.canon_value_parts.specs.View.{HaveKnownTypes, IsMember, names_of, shapes_of, values_of}
+use Rattle.canon_value_parts.specs.View.{HaveKnownTypes, IsMember, viewed_names, viewed_shapes, viewed_values}
 use Rattle.canon_value_parts.specs.Viewed.{BlamesItself, IsCaseSeen}
 use Rattle.canon_context.specs.declared.fault.Fault.{Fault}
 use Rattle.canon_context.specs.declared.fault.Fault.TheVariants as fault
@@ -39,7 +39,7 @@ use Rattle.canon_plan.proofs.Flats.{first_known, second_known, bare_members, two
 use Rattle.canon_value_parts.proofs.Steps.{own_failure}
 
 -- of one member without a name
-pub one_at : (t : Table) (k : ℕ) (m : Member) → k < 1 → Knows t m.ty → m.is_named ≡ true → IsMember t (member [] (shape_of t m.ty) no_members) ([] ∷ []) (m.value.now ∷ []) k m
+pub one_at : (t : TypeTable) (k : ℕ) (m : Member) → k < 1 → Knows t m.ty → m.is_named ≡ true → IsMember t (member [] (shape_of t m.ty) no_members) ([] ∷ []) (m.value.now ∷ []) k m
 one_at t zero m lt known named = record { known = known; name = []; named = []; same = (λ h. refl, λ e. named); shapes = refl; names = refl; values = refl }
 one_at t (suc k) m lt known named = absurd (omega (arith, lt))
 
@@ -99,7 +99,7 @@ enum_names (name ∷ names) = ap (λ ns. name ∷ ns) (enum_names names)
 -- ---- a payload as members
 
 -- of a case's type, if it has one
-abbrev pub payload_members : Table → Option InterfaceType → Members
+abbrev pub payload_members : TypeTable → Option InterfaceType → Members
 payload_members t None = no_members
 payload_members t (Some type) = member [] (shape_of t type) no_members
 
@@ -113,7 +113,7 @@ same_entry : (n k : String Global) (a b : Option InterfaceType) → ◌≡◌ {A
 same_entry n k a b e = ap (λ (p : Entry). p.1) (same_entries (n, a) (k, b) e)
 
 -- the case of this number, by its entry
-pub entry_members : (t : Table) (entries : List (String Global × Option InterfaceType)) (i : ℕ) (k : String Global) (type : Option InterfaceType) → slice_get entries i ≡ Some (k, type)
+pub entry_members : (t : TypeTable) (entries : List (String Global × Option InterfaceType)) (i : ℕ) (k : String Global) (type : Option InterfaceType) → slice_get entries i ≡ Some (k, type)
     → case_members (cases_in (all_shapes t) (named_entries entries)) i ≡ payload_members t type
 entry_members t [] i k type e = cc
 entry_members t ((n, None) ∷ entries) zero k type e = ap (payload_members t) (same_entry n k None type e)
@@ -121,7 +121,7 @@ entry_members t ((n, Some x) ∷ entries) zero k type e = ap (payload_members t)
 entry_members t ((n, None) ∷ entries) (suc i) k type e = entry_members t entries i k type e
 entry_members t ((n, Some x) ∷ entries) (suc i) k type e = entry_members t entries i k type e
 
-pub entry_known : (t : Table) (entries : List (String Global × Option InterfaceType)) (i : ℕ) (k : String Global) (type : Option InterfaceType) → slice_get entries i ≡ Some (k, type)
+pub entry_known : (t : TypeTable) (entries : List (String Global × Option InterfaceType)) (i : ℕ) (k : String Global) (type : Option InterfaceType) → slice_get entries i ≡ Some (k, type)
     → All (Knows t) (parts (cases_type entries)) → KnowsPayload t type
 entry_known t [] i k type e h = cc
 entry_known t ((n, None) ∷ entries) zero k type e h = subst (KnowsPayload t) (same_entry n k None type e) tt
@@ -129,23 +129,23 @@ entry_known t ((n, Some x) ∷ entries) zero k type e h = subst (KnowsPayload t)
 entry_known t ((n, None) ∷ entries) (suc i) k type e h = entry_known t entries i k type e h
 entry_known t ((n, Some x) ∷ entries) (suc i) k type e h = entry_known t entries i k type e (All-tail (Knows t) x (parts (cases_type entries)) h)
 
-pub first_members : (t : Table) (type : Option InterfaceType) (cs : Cases) → case_members (case_for (payload_in (all_shapes t) type) cs) 0 ≡ payload_members t type
+pub first_members : (t : TypeTable) (type : Option InterfaceType) (cs : Cases) → case_members (case_for (payload_in (all_shapes t) type) cs) 0 ≡ payload_members t type
 first_members t None cs = refl
 first_members t (Some x) cs = refl
 
-pub second_members : (t : Table) (first : Option Shape) (type : Option InterfaceType) (cs : Cases) → case_members (case_for first (case_for (payload_in (all_shapes t) type) cs)) 1 ≡ payload_members t type
+pub second_members : (t : TypeTable) (first : Option Shape) (type : Option InterfaceType) (cs : Cases) → case_members (case_for first (case_for (payload_in (all_shapes t) type) cs)) 1 ≡ payload_members t type
 second_members t None type cs = first_members t type cs
 second_members t (Some s) type cs = first_members t type cs
 
 -- what the members of a payload are
-pub record IsSeen (t : Table) (type : Option InterfaceType) (p : Option (Box Val Global)) (ms : Parts) : Type 0 where
+pub record IsSeen (t : TypeTable) (type : Option InterfaceType) (p : Option (Box Val Global)) (ms : Parts) : Type 0 where
   pub known : HaveKnownTypes t ms
-  pub shapes : shapes_of t ms ≡ payload_members t type
-  pub values : values_of ms ≡ unboxed p
-  pub names : names_of ms ≡ member_names (shapes_of t ms)
-  pub count : length (values_of ms) ≡ member_count (shapes_of t ms)
+  pub shapes : viewed_shapes t ms ≡ payload_members t type
+  pub values : viewed_values ms ≡ unboxed p
+  pub names : viewed_names ms ≡ member_names (viewed_shapes t ms)
+  pub count : length (viewed_values ms) ≡ member_count (viewed_shapes t ms)
 
-pub payload_seen : (t : Table) (type : Option InterfaceType) (p : Option (Box Val Global)) (ms : Parts) → KnowsPayload t type → IsPayloadViewed type p ms → IsSeen t type p ms
+pub payload_seen : (t : TypeTable) (type : Option InterfaceType) (p : Option (Box Val Global)) (ms : Parts) → KnowsPayload t type → IsPayloadViewed type p ms → IsSeen t type p ms
 payload_seen t None None ms known e = subst (λ (x : Parts). IsSeen t None None x) (sym e) (record { known = tt; shapes = refl; values = refl; names = refl; count = refl })
 payload_seen t None (Some b) ms known e = absurd e
 payload_seen t (Some type) None ms known e = absurd e
@@ -155,7 +155,7 @@ payload_seen t (Some type) (Some b) ms known (v, e, ev) =
 -- ---- how a value fails
 
 -- its payload is there though its case has none, or the other way round
-pub missed : (t : Table) (k : VariantKind) (cs : Cases) (d : ℕ) (type : Option InterfaceType) (p : Option (Box Val Global)) (s : Shape) (v : Val) (place : ℕ) (e : Fault) → s ≡ variant k cs
+pub missed : (t : TypeTable) (k : VariantKind) (cs : Cases) (d : ℕ) (type : Option InterfaceType) (p : Option (Box Val Global)) (s : Shape) (v : Val) (place : ℕ) (e : Fault) → s ≡ variant k cs
     → case_members cs d ≡ payload_members t type → IsCase k cs d (unboxed p) v → Misses type p place e → BlamesItself s v place e
 missed t k cs d None None s v place e es members of miss = absurd miss
 missed t k cs d (Some type) (Some b) s v place e es members of miss = absurd miss
@@ -170,7 +170,7 @@ missed t k cs d None (Some b) s v place e es members of miss =
 pub name_few : (name : Name) (info : VariantInfo) (cs : Cases) (i : ℕ) → HasInfo info cs → IsFirst name (case_names cs) i → i < 2 ^ 32
 name_few name info cs i has first = omega (arith, has.few, first_below cs name i first)
 
-module _ (t : Table) (s : Shape) (v : Val) (info : VariantInfo) (ks : List (String Global)) (name : String Global) (xs : Name) (shape : s ≡ enum_of (map (λ k. string_bytes k) ks)) (has : HasInfo info (variant_cases s))
+module _ (t : TypeTable) (s : Shape) (v : Val) (info : VariantInfo) (ks : List (String Global)) (name : String Global) (xs : Name) (shape : s ≡ enum_of (map (λ k. string_bytes k) ks)) (has : HasInfo info (variant_cases s))
     (ev : v ≡ val.Enum name) (en : xs ≡ string_bytes name) where
   abbrev spellings : List Name
   spellings = map (λ (k : String Global). string_bytes k) ks
@@ -203,7 +203,7 @@ module _ (t : Table) (s : Shape) (v : Val) (info : VariantInfo) (ks : List (Stri
 
 -- ---- a variant
 
-module _ (t : Table) (s : Shape) (v : Val) (info : VariantInfo) (entries : List (String Global × Option InterfaceType)) (name : String Global) (p : Option (Box Val Global)) (xs : Name)
+module _ (t : TypeTable) (s : Shape) (v : Val) (info : VariantInfo) (entries : List (String Global × Option InterfaceType)) (name : String Global) (p : Option (Box Val Global)) (xs : Name)
     (shape : s ≡ variant_of (cases_in (all_shapes t) (named_entries entries))) (has : HasInfo info (variant_cases s)) (ev : v ≡ val.Variant name p) (en : xs ≡ string_bytes name) where
   abbrev cs : Cases
   cs = cases_in (all_shapes t) (named_entries entries)
@@ -245,14 +245,14 @@ module _ (t : Table) (s : Shape) (v : Val) (info : VariantInfo) (entries : List 
 -- ---- a result
 
 -- what a result's payload is chosen to be: its case, the case's type, and the payload
-pub record IsChosen (t : Table) (ok error : Option InterfaceType) (r : Both) (i : ℕ) (type : Option InterfaceType) (p : Option (Box Val Global)) : Type 0 where
+pub record IsChosen (t : TypeTable) (ok error : Option InterfaceType) (r : Both) (i : ℕ) (type : Option InterfaceType) (p : Option (Box Val Global)) : Type 0 where
   pub members : case_members (variant_cases (result_of (payload_in (all_shapes t) ok) (payload_in (all_shapes t) error))) i ≡ payload_members t type
   pub known : KnowsPayload t type
   pub case : i ≡ result_case r
   pub payload : unboxed p ≡ result_payload r
   pub few : i < 2
 
-pub chosen_ok : (t : Table) (ok error : Option InterfaceType) (r : Both) (q : Option (Box Val Global)) → All (Knows t) (parts (ResultType ok error)) → r ≡ Ok q → IsChosen t ok error r 0 ok q
+pub chosen_ok : (t : TypeTable) (ok error : Option InterfaceType) (r : Both) (q : Option (Box Val Global)) → All (Knows t) (parts (ResultType ok error)) → r ≡ Ok q → IsChosen t ok error r 0 ok q
 chosen_ok t ok error r q known e = record {
   members = first_members t ok (case_for (payload_in (all_shapes t) error) no_cases);
   known = first_known t ok error known;
@@ -261,7 +261,7 @@ chosen_ok t ok error r q known e = record {
   few = omega arith;
 }
 
-pub chosen_error : (t : Table) (ok error : Option InterfaceType) (r : Both) (q : Option (Box Val Global)) → All (Knows t) (parts (ResultType ok error)) → r ≡ Err q → IsChosen t ok error r 1 error q
+pub chosen_error : (t : TypeTable) (ok error : Option InterfaceType) (r : Both) (q : Option (Box Val Global)) → All (Knows t) (parts (ResultType ok error)) → r ≡ Err q → IsChosen t ok error r 1 error q
 chosen_error t ok error r q known e = record {
   members = second_members t (payload_in (all_shapes t) ok) error no_cases;
   known = second_known t ok error known;
@@ -270,7 +270,7 @@ chosen_error t ok error r q known e = record {
   few = omega arith;
 }
 
-module _ (t : Table) (s : Shape) (v : Val) (info : VariantInfo) (ok error : Option InterfaceType) (r : Both) (i : ℕ) (type : Option InterfaceType) (p : Option (Box Val Global))
+module _ (t : TypeTable) (s : Shape) (v : Val) (info : VariantInfo) (ok error : Option InterfaceType) (r : Both) (i : ℕ) (type : Option InterfaceType) (p : Option (Box Val Global))
     (shape : s ≡ result_of (payload_in (all_shapes t) ok) (payload_in (all_shapes t) error)) (has : HasInfo info (variant_cases s)) (ev : v ≡ val.Result r) (chosen : IsChosen t ok error r i type p) where
   abbrev both_cases : Cases
   both_cases = variant_cases (result_of (payload_in (all_shapes t) ok) (payload_in (all_shapes t) error))

@@ -7,14 +7,15 @@ use Rattle.canon_context.specs.declared.fault.Fault.{Fault}
 use Rattle.canon_context.specs.declared.fault.Fault.TheVariants as fault
 use Rattle.canon_ledger.specs.Ledger.{LedgerState}
 use Rattle.canon_ledger.specs.declared.fault.ResourceFault.TheVariants as resource
-use Rattle.canon_leaves.specs.Parts.{LeavesStop, Passed, lower_parts}
+use Rattle.canon_leaves.specs.Parts.{LeavesStop, PassedResource, lower_parts}
 use Rattle.canon_lowering.specs.Lowering.{Ending, refused}
 use Rattle.canon_memory.specs.Guest.{GuestIn}
 use Rattle.canon_model.specs.Text.{Encoding}
 use Rattle.canon_types.specs.Instance.{Instance}
 use Rattle.canon_value_parts.proofs.Passing.{Ended}
 use Rattle.canon_value_parts.specs.Fails.{Blames, Failure}
-use Rattle.canon_value_parts.specs.Resources.{Crosses, EndsAs, UsesLedger, ledger_fault, stop_of, told_fault}
+use Rattle.canon_value_parts.specs.Resources.{Crosses, EndsAs, UsesLedger, ledger_fault, told_fault}
+use Rattle.canon_context.specs.Faults.{stop_of}
 
 -- want of the ledger's memory, inside
 abbrev wanting : Fault
@@ -94,7 +95,7 @@ told_itself (fault.Resource resource.BorrowsRemain) = refl
 told_itself (fault.Resource resource.NoScope) = refl
 told_itself (fault.Resource resource.OutOfMemory) = refl
 
-ends_as : (X : Type 0) (handles : Bool) (ps : List Passed) (e : Fault) → EndsAs {T = X} handles ps (Err e) (fault_ending e)
+ends_as : (X : Type 0) (handles : Bool) (ps : List PassedResource) (e : Fault) → EndsAs {T = X} handles ps (Err e) (fault_ending e)
 ends_as X handles ps (fault.TypeMismatch k) = refl
 ends_as X handles ps (fault.LengthMismatch k) = refl
 ends_as X handles ps (fault.FieldName k) = refl
@@ -118,13 +119,13 @@ ends_as X handles ps fault.OutOfMemory = inl refl
 ends_as X handles ps (fault.Resource e) = refl
 
 -- the ledger wants memory only where handles are passed
-wants_handles : (handles : Bool) (ps : List Passed) (e : Fault) → (handles ≡ false → ps ≡ []) → (ledger_fault e ≡ None) ⊎ ¬ (ps ≡ []) → e ≡ wanting → UsesLedger handles ps
+wants_handles : (handles : Bool) (ps : List PassedResource) (e : Fault) → (handles ≡ false → ps ≡ []) → (ledger_fault e ≡ None) ⊎ ¬ (ps ≡ []) → e ≡ wanting → UsesLedger handles ps
 wants_handles true ps e none (inr some) is = (refl, some)
 wants_handles true ps e none (inl other) is = let here : ledger_fault e ≡ ledger_fault wanting = ap ledger_fault is in cc
 wants_handles false ps e none (inr some) is = absurd (some (none refl))
 wants_handles false ps e none (inl other) is = let here : ledger_fault e ≡ ledger_fault wanting = ap ledger_fault is in cc
 
-module _ (types : Instance) (handles : Bool) (ps : List Passed) (none : handles ≡ false → ps ≡ []) (l n : LedgerState) (e : Fault) (stopped : Ended types l n ps e) where
+module _ (types : Instance) (handles : Bool) (ps : List PassedResource) (none : handles ≡ false → ps ≡ []) (l n : LedgerState) (e : Fault) (stopped : Ended types l n ps e) where
   -- a lowering that ended with this fault
   pub crossed : {X : Type 0} (Attempted : List ℕ → Ending → Type 0) (hs : List ℕ) (told : Fault) → told ≡ told_fault e → Attempted hs (fault_ending e) → Crosses {T = X} types handles ps Attempted l n (Err told)
   crossed {X} Attempted hs told is h = subst (λ (x : Fault). Crosses {T = X} types handles ps Attempted l n (Err x)) (sym is) (record {

@@ -17,7 +17,7 @@ use Rattle.canon_model.specs.Flat.{max_params}
 use Rattle.canon_model.specs.Layout.{align, flat, members_align, members_flat, size}
 use Rattle.canon_model.specs.Shape.{Members, Shape, of_places, product, member_count}
 use Rattle.canon_model.specs.Text.{Encoding}
-use Rattle.canon_types.specs.Table.{IsDefined, Table, TupleType, shape_of, tuple_members, types_of as tuple_types_of}
+use Rattle.canon_types.specs.Table.{IsDefined, TupleType, TypeTable, shape_of, tuple_members, types_of as tuple_types_of}
 use Rattle.canon_types.specs.declared.types.InterfaceType.{InterfaceType}
 use Rattle.canon_types.specs.declared.types.InterfaceType.TheVariants as ty
 use Rattle.canon_value_parts.specs.Args.{AsksTuple, LowersParams, args_words}
@@ -36,8 +36,8 @@ use Rattle.canon_context.proofs.Moves.{moves_then, GuestLaws}
 use Rattle.canon_context.proofs.Cores.{same_encoding, same_types}
 use Rattle.canon_value_parts.proofs.StoreSteps.{Named, count_members}
 
-pub tuple_shape_of_now : (t t2 : Table) (j : ℕ) (types : List InterfaceType) → t2 ≡ t → IsDefined t2 (ty.Tuple j) (TupleType types) → types ≡ tuple_types_of t2 j → shape_of t2 (ty.Tuple j) ≡ product of_places (tuple_members t j)
-tuple_shape_of_now t t2 j types e h is = ap (λ (x : Table). shape_of x (ty.Tuple j)) e ∙ tuple_shape_of t t2 j types e h is
+pub tuple_shape_of_now : (t t2 : TypeTable) (j : ℕ) (types : List InterfaceType) → t2 ≡ t → IsDefined t2 (ty.Tuple j) (TupleType types) → types ≡ tuple_types_of t2 j → shape_of t2 (ty.Tuple j) ≡ product of_places (tuple_members t j)
+tuple_shape_of_now t t2 j types e h is = ap (λ (x : TypeTable). shape_of x (ty.Tuple j)) e ∙ tuple_shape_of t t2 j types e h is
 
 -- the numbers of the tuple are those that are asked for
 pub tuple_call : (s : Shape) (ms : Members) (abi : CanonicalAbiInfo) → s ≡ product of_places ms → HasLayout abi s → call 0 0 abi.align32 abi.size32 ≡ args_call false ms
@@ -65,7 +65,7 @@ module _ {T G : Type 0} (L : GuestLaws G) (options options2 : ℕ) (a b c : Part
 
   -- what the storing of the members left, said of the table of the start
   stood : PartsStoreTo L.seen L.moves options b c 0 ms 0 p (no_names vs) vs 0 r
-  stood = subst (λ (x : Table). PartsStoreTo L.seen L.moves options b c 0 (tuple_members x j) 0 p (no_names vs) vs 0 r) (same_types a b g.same)
+  stood = subst (λ (x : TypeTable). PartsStoreTo L.seen L.moves options b c 0 (tuple_members x j) 0 p (no_names vs) vs 0 r) (same_types a b g.same)
       (subst (λ (n : ℕ). PartsStoreTo L.seen L.moves n b c 0 (tuple_members (component_types b) j) 0 p (no_names vs) vs 0 r) eo h)
 
   storing : StoresMembers false (moment_of L.seen b) (moment_of L.seen c) (encoding_by a options) ms 0 p (Named ms (no_names vs) vs) stood.handles (ending_of r)

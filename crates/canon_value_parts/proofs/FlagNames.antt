@@ -18,7 +18,7 @@ use Rattle.canon_model.specs.Cost.{set_length}
 use Rattle.canon_model.specs.Rep.{bits_of}
 use Rattle.canon_model.specs.Shape.{Name, flags}
 use Rattle.canon_types.specs.Keeps.{flags_type, names_of}
-use Rattle.canon_types.specs.Table.{IsDefined, Table, shape_of}
+use Rattle.canon_types.specs.Table.{IsDefined, TypeTable, shape_of}
 use Rattle.canon_types.specs.Valid.{NamesDiffer}
 use Rattle.canon_types.specs.declared.types.InterfaceType.TheVariants as ty
 use Rattle.canon_types.specs.declared.types.TypeFlags.{TypeFlags}
@@ -179,16 +179,16 @@ chosen_unset ns ms cs bs name en ec = rw (en, ec) (refl, omega arith)
 
 -- ---- a name by the table
 
-pub names_are : (t : Table) (i : ℕ) (f : TypeFlags) → IsDefined t (ty.Flags i) (flags_type f) → flag_names t i ≡ names_of f.names.keys
+pub names_are : (t : TypeTable) (i : ℕ) (f : TypeFlags) → IsDefined t (ty.Flags i) (flags_type f) → flag_names t i ≡ names_of f.names.keys
 names_are t i f is = ap names_in_flags is.shape
 
-pub flags_are : (t : Table) (i : ℕ) (f : TypeFlags) → IsDefined t (ty.Flags i) (flags_type f) → shape_of t (ty.Flags i) ≡ flags (flag_names t i)
+pub flags_are : (t : TypeTable) (i : ℕ) (f : TypeFlags) → IsDefined t (ty.Flags i) (flags_type f) → shape_of t (ty.Flags i) ≡ flags (flag_names t i)
 flags_are t i f is = is.shape ∙ ap flags (sym (names_are t i f is))
 
-pub names_differ : (t : Table) (i : ℕ) (f : TypeFlags) → IsDefined t (ty.Flags i) (flags_type f) → NamesDiffer (flags_type f) → Differ (flag_names t i)
+pub names_differ : (t : TypeTable) (i : ℕ) (f : TypeFlags) → IsDefined t (ty.Flags i) (flags_type f) → NamesDiffer (flags_type f) → Differ (flag_names t i)
 names_differ t i f is differ = subst (λ (ns : List Name). Differ ns) (sym (names_are t i f is)) differ
 
-module _ (t : Table) (i : ℕ) (f : TypeFlags) (name : String Global) (text : List ℕ) (is : IsDefined t (ty.Flags i) (flags_type f)) (spelled : text ≡ string_bytes name) where
+module _ (t : TypeTable) (i : ℕ) (f : TypeFlags) (name : String Global) (text : List ℕ) (is : IsDefined t (ty.Flags i) (flags_type f)) (spelled : text ≡ string_bytes name) where
   abbrev fits : String Global → Bool
   fits s = bytes_eq text (string_bytes s)
 

@@ -15,10 +15,10 @@ use Rattle.canon_lowering.specs.Lowering.{Lowering, done, refused}
 use Rattle.canon_lowering.specs.Steps.{Writes}
 use Rattle.canon_lowering.specs.Storing.{narrow}
 use Rattle.canon_model.specs.Layout.{flag_words, flags_size, flat, size}
-use Rattle.canon_model.specs.Memory.{Block, num}
+use Rattle.canon_model.specs.Memory.{Block, cap, num}
 use Rattle.canon_model.specs.Shape.{Name, Shape, flags}
 use Rattle.canon_types.specs.Keeps.{flags_type, names_of}
-use Rattle.canon_types.specs.Table.{IsDefined, Table, shape_of}
+use Rattle.canon_types.specs.Table.{IsDefined, TypeTable, shape_of}
 use Rattle.canon_types.specs.declared.types.InterfaceType.TheVariants as ty
 use Rattle.canon_types.specs.declared.types.TypeFlags.{TypeFlags}
 use Rattle.canon_context.specs.Core.{Parts, encoding_by, guest_of, moment_of, component_types}
@@ -26,7 +26,7 @@ use Rattle.canon_value_parts.specs.Flags.{AreSetInWords, SetsBit, SomeUnknown, f
 use Rattle.canon_value_parts.proofs.Passing.{flags_none, passes_none, passes_stopped}
 use Rattle.canon_value_parts.specs.Resources.{passes}
 use Rattle.canon_value_parts.specs.Stores.{StoresTo}
-use Rattle.canon_val.specs.Value.{HasTree, cap}
+use Rattle.canon_val.specs.Value.{HasTree}
 use Rattle.canon_value_parts.specs.Words.{LowersTo, WordsStay}
 use Rattle.canon_context.specs.declared.fault.Fault.TheVariants as fault
 use Rattle.canon_value_parts.specs.declared.spot.Spot.{Spot}
@@ -39,11 +39,11 @@ use Rattle.canon_value_parts.proofs.Sizes.{flags_small}
 use Rattle.canon_context.proofs.Cores.{written_whole}
 
 -- how many bytes flags take
-pub flags_bytes : (t u : Table) (i : ℕ) (f : TypeFlags) → u ≡ t → IsDefined u (ty.Flags i) (flags_type f) → HasLayout f.abi (shape_of u (ty.Flags i)) → f.abi.size32 ≡ flags_size (length (flag_names t i))
+pub flags_bytes : (t u : TypeTable) (i : ℕ) (f : TypeFlags) → u ≡ t → IsDefined u (ty.Flags i) (flags_type f) → HasLayout f.abi (shape_of u (ty.Flags i)) → f.abi.size32 ≡ flags_size (length (flag_names t i))
 unfolding size
 flags_bytes t u i f e is abi =
     let here : f.abi.size32 ≡ flags_size (length (flag_names u i)) = abi.size ∙ ap (size false) (flags_are u i f is) in
-    subst (λ (x : Table). f.abi.size32 ≡ flags_size (length (flag_names x i))) e here
+    subst (λ (x : TypeTable). f.abi.size32 ≡ flags_size (length (flag_names x i))) e here
 
 pub size_flags : (s : Shape) (names : List Name) → s ≡ flags names → size false s ≡ flags_size (length names)
 unfolding size
@@ -54,7 +54,7 @@ unfolding flat
 flat_flags s names e = ap flat e
 
 -- how many words
-pub flags_words_count : (t : Table) (i : ℕ) (f : TypeFlags) (n : ℕ) → IsDefined t (ty.Flags i) (flags_type f) → n ≡ length f.names.keys → div_ceil n 32 ≡ flag_words (length (flag_names t i))
+pub flags_words_count : (t : TypeTable) (i : ℕ) (f : TypeFlags) (n : ℕ) → IsDefined t (ty.Flags i) (flags_type f) → n ≡ length f.names.keys → div_ceil n 32 ≡ flag_words (length (flag_names t i))
 flags_words_count t i f n is e =
     let counted : length (names_of f.names.keys) ≡ length f.names.keys = simp length-map in
     ap flag_words (e ∙ (sym counted ∙ ap length (sym (names_are t i f is))))
@@ -137,9 +137,9 @@ module _ {T G : Type 0} (L : GuestLaws G) (options : ℕ) (a : Parts T G) (names
 
 -- ---- one name after another, in the memory of a core
 
-module _ {T G : Type 0} (a b : Parts T G) (only : b ≡ record a { memory = b.memory }) (t : Table) (here : t ≡ component_types b) (i : ℕ) where
+module _ {T G : Type 0} (a b : Parts T G) (only : b ≡ record a { memory = b.memory }) (t : TypeTable) (here : t ≡ component_types b) (i : ℕ) where
   pub same_names : flag_names t i ≡ flag_names (component_types a) i
-  same_names = ap (λ (x : Table). flag_names x i) (here ∙ ap (λ (x : Parts T G). component_types x) only)
+  same_names = ap (λ (x : TypeTable). flag_names x i) (here ∙ ap (λ (x : Parts T G). component_types x) only)
 
   pub stored_next : (ys zs : List ℕ) (at bytes : ℕ) (set : List Name) (k : ℕ) (x : Name) → ys ≡ b.memory → at + bytes ≤ length a.memory → bytes ≡ flags_size (length (flag_names (component_types a) i)) → Differ (flag_names t i)
       → AreStored a.memory b.memory at bytes (flag_names (component_types a) i) set → k < length (flag_names t i) → ((d : Name) → get_or (flag_names t i) k d ≡ x) → SetsBit 8 (at + k / 8) (k % 8) ys zs

@@ -26,7 +26,7 @@ use Rattle.canon_plan.specs.Plan.{shaped_handle, type_of_handle, typed_handle}
 use Rattle.canon_plan.specs.declared.plan.HandleType.{HandleType}
 use Rattle.canon_resources.specs.Held.{Any}
 use Rattle.canon_types.specs.Instance.{Instance}
-use Rattle.canon_types.specs.Table.{HasResource, Knows, Table, shape_of}
+use Rattle.canon_types.specs.Table.{HasResource, Knows, TypeTable, shape_of}
 use Rattle.canon_types.specs.declared.types.InterfaceType.{InterfaceType}
 use Rattle.canon_value_parts.proofs.ResourcesOf.{resources_resource}
 use Rattle.canon_value_parts.specs.Lifts.{IsOfWords, LiftsTo}
@@ -37,14 +37,14 @@ use Rattle.canon_val.specs.declared.val.Val.TheVariants as val
 
 -- ---- types
 
-handle_has : (t : Table) (owned : Bool) (r : ℕ) → Knows t (typed_handle owned r) → HasResource t r
+handle_has : (t : TypeTable) (owned : Bool) (r : ℕ) → Knows t (typed_handle owned r) → HasResource t r
 handle_has t true r h = grind (arith, h)
 handle_has t false r h = grind (arith, h)
 
-pub has_resource : (t : Table) (h : HandleType) → Knows t (type_of_handle h) → HasResource t h.resource
+pub has_resource : (t : TypeTable) (h : HandleType) → Knows t (type_of_handle h) → HasResource t h.resource
 has_resource t h known = handle_has t h.owned h.resource known
 
-shaped : (t : Table) (owned : Bool) (r : ℕ) → shape_of t (typed_handle owned r) ≡ shaped_handle owned r
+shaped : (t : TypeTable) (owned : Bool) (r : ℕ) → shape_of t (typed_handle owned r) ≡ shaped_handle owned r
 shaped t true r = refl
 shaped t false r = refl
 
@@ -55,7 +55,7 @@ no_scalar false r (k, e) = cc
 pub handle_no_scalar : (type : InterfaceType) (h : HandleType) → type ≡ type_of_handle h → IsScalarType type → ⊥
 handle_no_scalar type h is scalar = no_scalar h.owned h.resource (subst IsScalarType is scalar)
 
-pub handle_shape : (t : Table) (type : InterfaceType) (h : HandleType) → type ≡ type_of_handle h → shape_of t type ≡ shaped_handle h.owned h.resource
+pub handle_shape : (t : TypeTable) (type : InterfaceType) (h : HandleType) → type ≡ type_of_handle h → shape_of t type ≡ shaped_handle h.owned h.resource
 handle_shape t type h is = ap (λ (x : InterfaceType). shape_of t x) is ∙ shaped t h.owned h.resource
 
 handle_size : (owned : Bool) (r : ℕ) → size false (shaped_handle owned r) ≡ 4
@@ -68,10 +68,10 @@ unfolding flat
 handle_flat true r = refl
 handle_flat false r = refl
 
-pub handle_bytes : (t : Table) (type : InterfaceType) (h : HandleType) → type ≡ type_of_handle h → size false (shape_of t type) ≡ 4
+pub handle_bytes : (t : TypeTable) (type : InterfaceType) (h : HandleType) → type ≡ type_of_handle h → size false (shape_of t type) ≡ 4
 handle_bytes t type h is = ap (size false) (handle_shape t type h is) ∙ handle_size h.owned h.resource
 
-pub handle_words : (t : Table) (type : InterfaceType) (h : HandleType) → type ≡ type_of_handle h → flat (shape_of t type) ≡ 1
+pub handle_words : (t : TypeTable) (type : InterfaceType) (h : HandleType) → type ≡ type_of_handle h → flat (shape_of t type) ≡ 1
 handle_words t type h is = ap flat (handle_shape t type h is) ∙ handle_flat h.owned h.resource
 
 -- ---- through the ledger
@@ -126,7 +126,7 @@ module _ (types : Instance) (before after : LedgerState) where
     leaves_so true r = refl
     leaves_so false r = refl
 
-    module _ (t : Table) (type : InterfaceType) (h : HandleType) (is : type ≡ type_of_handle h) (r : Result Val Fault) (takes : TakesHandle types before after (leaf h.owned h.resource (num (narrow bytes) a 4)) r) where
+    module _ (t : TypeTable) (type : InterfaceType) (h : HandleType) (is : type ≡ type_of_handle h) (r : Result Val Fault) (takes : TakesHandle types before after (leaf h.owned h.resource (num (narrow bytes) a 4)) r) where
       pub handle_loaded : (enc : Encoding) (fuel : ℕ) → a + size false (shape_of t type) ≤ length bytes → IfOk r (IsLoaded enc (narrow bytes) (shape_of t type) a fuel fuel)
       handle_loaded enc fuel inside =
           let room : a + 4 ≤ length bytes = omega (arith, inside, handle_bytes t type h is) in
@@ -150,7 +150,7 @@ module _ (types : Instance) (before after : LedgerState) where
     flat_leaves_so true r = refl
     flat_leaves_so false r = refl
 
-    module _ (t : Table) (type : InterfaceType) (h : HandleType) (is : type ≡ type_of_handle h) where
+    module _ (t : TypeTable) (type : InterfaceType) (h : HandleType) (is : type ≡ type_of_handle h) where
       pub handle_lifted : (enc : Encoding) (fuel to : ℕ) (r : Result Val Fault) → TakesHandle types before after (leaf h.owned h.resource (low (slice_index ws i))) r → to ≡ i + 1 → LiftsTo enc m ws i to fuel fuel (shape_of t type) r
       handle_lifted enc fuel to (Ok v) takes moved =
           (subst (λ (s : Shape). IsOfWords enc m s ws i fuel fuel v) (sym (handle_shape t type h is)) (lifted_so enc fuel h.owned h.resource v takes.is), omega (arith, moved, handle_words t type h is))

@@ -10,7 +10,7 @@ use Rattle.canon_context.specs.declared.fault.Fault.{Fault}
 use Rattle.canon_context.specs.declared.fault.Fault.TheVariants as fault
 use Rattle.canon_ledger.specs.Ledger.{LedgerState}
 use Rattle.canon_ledger.specs.declared.fault.ResourceFault.{ResourceFault}
-use Rattle.canon_leaves.specs.Parts.{Passed, passed}
+use Rattle.canon_leaves.specs.Parts.{PassedResource, passed}
 use Rattle.canon_lowering.proofs.AimedAt.{borrow_stored, own_stored}
 use Rattle.canon_lowering.proofs.AimedWords.{borrow_words, own_words}
 use Rattle.canon_lowering.proofs.Attempts.{attempt_refused}
@@ -22,7 +22,7 @@ use Rattle.canon_memory.specs.Guest.{moment}
 use Rattle.canon_memory.specs.Memory.{written_over}
 use Rattle.canon_memory.specs.Realloc.{block}
 use Rattle.canon_model.specs.Layout.{flat, size}
-use Rattle.canon_model.specs.Memory.{low, num}
+use Rattle.canon_model.specs.Memory.{cap, low, num}
 use Rattle.canon_model.specs.Shape.{borrow, own}
 use Rattle.canon_model.specs.Text.{Encoding}
 use Rattle.canon_plan.specs.Plan.{shaped_handle}
@@ -32,7 +32,7 @@ use Rattle.canon_value_parts.proofs.Passing.{Ended, Took}
 use Rattle.canon_value_parts.specs.Fails.{IsSmall}
 use Rattle.canon_value_parts.specs.Resources.{passes}
 use Rattle.canon_value_parts.specs.Stores.{StoresTo}
-use Rattle.canon_val.specs.Value.{HasTree, cap, places}
+use Rattle.canon_val.specs.Value.{HasTree, places}
 use Rattle.canon_value_parts.specs.Words.{LowersTo}
 use Rattle.canon_value_parts.specs.declared.spot.Spot.{Spot}
 use Rattle.canon_val.specs.declared.val.Val.{Val, the_lemmas}
@@ -70,10 +70,10 @@ handle_flat false r = refl
 
 took_as : (types : Instance) (l n : LedgerState) (owned : Bool) (r : ℕ) (x : Any) (h k : ℕ) → k ≡ h → Took types l n (passed owned r x ∷ []) (h ∷ []) → Took types l n (passes (val.Resource x) (shaped_handle owned r)) (k ∷ [])
 took_as types l n owned r x h k e took =
-    subst (λ (ps : List Passed). Took types l n ps (k ∷ [])) (sym (resource_passes owned r x)) (subst (λ (j : ℕ). Took types l n (passed owned r x ∷ []) (j ∷ [])) (sym e) took)
+    subst (λ (ps : List PassedResource). Took types l n ps (k ∷ [])) (sym (resource_passes owned r x)) (subst (λ (j : ℕ). Took types l n (passed owned r x ∷ []) (j ∷ [])) (sym e) took)
 
 ended_as : (types : Instance) (l n : LedgerState) (owned : Bool) (r : ℕ) (x : Any) (e : Fault) → Ended types l n (passed owned r x ∷ []) e → Ended types l n (passes (val.Resource x) (shaped_handle owned r)) e
-ended_as types l n owned r x e ended = subst (λ (ps : List Passed). Ended types l n ps e) (sym (resource_passes owned r x)) ended
+ended_as types l n owned r x e ended = subst (λ (ps : List PassedResource). Ended types l n ps e) (sym (resource_passes owned r x)) ended
 
 module _ {T G : Type 0} (L : GuestLaws G) (options : ℕ) (a : Parts T G) (l : LedgerState) (owned : Bool) (r : ℕ) (x : Any) (small : length a.memory ≤ 2 ^ 32) where
   abbrev taken : Parts T G

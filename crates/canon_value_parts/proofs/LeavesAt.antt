@@ -18,7 +18,7 @@ use Rattle.canon_plan.specs.Plan.{IsVariant}
 use Rattle.canon_plan.specs.declared.element.Element.{Element}
 use Rattle.canon_plan.specs.declared.element.Element.TheVariants as element
 use Rattle.canon_types.specs.Depth.{element_shape, variant_cases}
-use Rattle.canon_types.specs.Table.{Table, shape_of}
+use Rattle.canon_types.specs.Table.{TypeTable, shape_of}
 use Rattle.canon_types.specs.declared.types.InterfaceType.TheVariants as ty
 
 at_zero : (s : Shape) → align false s ∣ 0
@@ -73,7 +73,7 @@ module _ (bytes : List ℕ) where
   abbrev pub RowLeaves : Shape → ℕ → ℕ → Type 0
   RowLeaves s n p = members_reach_leaves (narrow bytes) (row_of s n) 0 p ≡ list_at (λ c. reach_leaves (narrow bytes) (element_shape s) c) (size false (element_shape s)) p n
 
-  pub row_leaves : (t : Table) (e : Element) → IsKnown t e → (n p : ℕ) → RowLeaves (list_shape t e) n p
+  pub row_leaves : (t : TypeTable) (e : Element) → IsKnown t e → (n p : ℕ) → RowLeaves (list_shape t e) n p
   row_leaves t (element.Item type) known n p = copies_leaves n 0 p p (shape_of t type) (at_zero (shape_of t type)) (omega arith)
   row_leaves t (element.Pair i) (known, is) n p =
       let s = element_shape (shape_of t (ty.Map i)) in
@@ -83,7 +83,7 @@ module _ (bytes : List ℕ) where
   elements_leaves s p n = list_leaves (narrow bytes) (reach_leaves (narrow bytes) (element_shape s)) (element_shape s) p n
 
   -- of a list that is aligned and inside memory
-  pub items_leaves : (t : Table) (e : Element) → IsKnown t e → (n p : ℕ) → p % align false (element_shape (list_shape t e)) ≡ 0 → p + n * size false (element_shape (list_shape t e)) ≤ length bytes
+  pub items_leaves : (t : TypeTable) (e : Element) → IsKnown t e → (n p : ℕ) → p % align false (element_shape (list_shape t e)) ≡ 0 → p + n * size false (element_shape (list_shape t e)) ≤ length bytes
       → elements_leaves (list_shape t e) p n ≡ members_reach_leaves (narrow bytes) (row_of (list_shape t e) n) 0 p
   items_leaves t e known n p aligned inside = cond-true _ _ _ (and_from _ _ (le-leb _ _ inside) (eq-eqb _ _ aligned)) ∙ sym (row_leaves t e known n p)
 

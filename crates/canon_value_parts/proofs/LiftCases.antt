@@ -12,7 +12,7 @@ use Rattle.canon_model.specs.Shape.{Cases, Members, Shape, VariantKind, bare, ca
 use Rattle.canon_model.specs.Text.{Encoding}
 use Rattle.canon_model.specs.Tree.{Trees}
 use Rattle.canon_types.specs.Depth.{deepest, depth, variant_cases}
-use Rattle.canon_types.specs.Table.{Table}
+use Rattle.canon_types.specs.Table.{TypeTable}
 use Rattle.std.specs.Prelude.{slice_index}
 use Rattle.canon_plan.specs.CasePlan.{IsCaseSlots, case_name_cost, name_charge}
 use Rattle.canon_value_parts.specs.Lifts.{AreTaken, LiftsTo}
@@ -132,7 +132,7 @@ pub record WeighsCaseWords (enc : Encoding) (m : Memory) (ws : List ℕ) (s : Sh
   pub lifted : (to before mid late end after : ℕ) (vs : List Val) → before ≡ mid + member_count ms * val_cost → AreTaken enc m ws (i + 1) to mid late ms vs → late ≡ after + name_charge s tag → end ≡ i + flat s
       → (r : Result Val Fault) → IfOk r (IsCaseRebuilt s tag vs) → IfErr r (λ e. e ≡ fault.OutOfMemory) → LiftsTo enc m ws i end before after s r
 
-pub case_weighs_words : (enc : Encoding) (m : Memory) (ws : List ℕ) (s : Shape) (i tag : ℕ) → IsVariant s → tag ≡ low (slice_index ws i) → (t : Table) (c : CaseSlots) → IsCaseSlots t s tag c
+pub case_weighs_words : (enc : Encoding) (m : Memory) (ws : List ℕ) (s : Shape) (i tag : ℕ) → IsVariant s → tag ≡ low (slice_index ws i) → (t : TypeTable) (c : CaseSlots) → IsCaseSlots t s tag c
     → WeighsCaseWords enc m ws s i tag (shapes_of t c.payload)
 case_weighs_words enc m ws s i tag is read t c h =
     subst (λ (ms : Members). WeighsCaseWords enc m ws s i tag ms) (sym h.shapes) (record {

@@ -10,7 +10,7 @@ use Rattle.canon_model.specs.Memory.{Inside, Memory}
 use Rattle.canon_model.specs.Reach.{At, FlatFault, Kind, MemberFlatFault, SomeElement, flat_reach, members_flat_reach, sum_at}
 use Rattle.canon_model.specs.Shape.{Members, Shape, borrow, fixed, flags, list, member_count, of_fields, of_places, own, product, scalar, string, variant}
 use Rattle.canon_model.specs.Text.{Encoding}
-use Rattle.canon_types.specs.Table.{Table, members_of}
+use Rattle.canon_types.specs.Table.{TypeTable, members_of}
 use Rattle.canon_types.specs.declared.types.InterfaceType.{InterfaceType}
 use Rattle.canon_value_parts.specs.Lifts.{ArePartsLifted, AreTaken, LiftsTo, MembersLiftTo, PartsLiftTo}
 use Rattle.canon_context.specs.Told.{LiftBlames, ToldAt}
@@ -96,7 +96,7 @@ module _ (enc : Encoding) (m : Memory) (ws : List ℕ) where
       told_by (MemberFlatFault enc m ws these i) (FlatFault enc m ws s i) _ _ w.blames (λ (low : mid < names_length these + members_flat_reach enc m ws these i). w.low before (omega (arith, low, charged))) e h
 
   -- a tuple's members, as results
-  pub unnamed_lifted : (t : Table) (types : List InterfaceType) (from to before after : ℕ) (r : Result (Vec Val Global) Fault)
+  pub unnamed_lifted : (t : TypeTable) (types : List InterfaceType) (from to before after : ℕ) (r : Result (Vec Val Global) Fault)
       → PartsLiftTo enc m ws from to before after (members_of t types) r → MembersLiftTo enc m ws from to before after (members_of t types) r
   unnamed_lifted t types from to before after (Ok values) (ts, reps, have, spent, moved) = (ts, reps, have, omega (arith, spent, no_length t types), moved)
   unnamed_lifted t types from to before after (Err e) h =

@@ -16,7 +16,7 @@ use Rattle.canon_model.specs.Reach.{At, FlatFault, Kind, MemberFault, SomeElemen
 use Rattle.canon_model.specs.Shape.{ListKind, Shape, list, map_of, of_items, of_pairs}
 use Rattle.canon_model.specs.Text.{Encoding}
 use Rattle.canon_types.specs.Depth.{element_shape}
-use Rattle.canon_types.specs.Table.{Table, shape_of}
+use Rattle.canon_types.specs.Table.{TypeTable, shape_of}
 use Rattle.canon_types.specs.declared.types.InterfaceType.TheVariants as ty
 use Rattle.canon_plan.specs.Element.{IsKnown, ItemsFault, element_cost, element_reach, first_of, items_reach, list_shape, row_of, second_of}
 use Rattle.canon_value_parts.specs.Lifts.{ArePartsLifted}
@@ -125,7 +125,7 @@ module _ (enc : Encoding) (bytes : List ℕ) where
         );
   }
 
-  pub row_weighs : (t : Table) (e : Element) → IsKnown t e → (n p : ℕ) → WeighsRow enc bytes (list_shape t e) n p
+  pub row_weighs : (t : TypeTable) (e : Element) → IsKnown t e → (n p : ℕ) → WeighsRow enc bytes (list_shape t e) n p
   row_weighs t (element.Item type) known n p = items_weigh (shape_of t type) n p
   row_weighs t (element.Pair i) (known, is) n p =
       let s = element_shape (shape_of t (ty.Map i)) in

@@ -11,7 +11,7 @@ use Rattle.canon_model.specs.Shape.{ListKind, Members, Shape, list, map_of, of_i
 use Rattle.canon_model.specs.Text.{Encoding}
 use Rattle.canon_model.specs.Tree.{Tree, Trees, items, tree_count, trees_of}
 use Rattle.canon_types.specs.Depth.{deepest, depth, element_shape}
-use Rattle.canon_types.specs.Table.{Table, shape_of}
+use Rattle.canon_types.specs.Table.{TypeTable, shape_of}
 use Rattle.canon_types.specs.declared.types.InterfaceType.TheVariants as ty
 use Rattle.canon_plan.specs.NoHandle.{HaveNoHandle, HasNoHandle}
 use Rattle.canon_plan.specs.Element.{IsKnown, first_of, list_shape, row_of, second_of}
@@ -92,7 +92,7 @@ pairs_listed s u xs = record {
   named = pairs_named s u xs.items;
 }
 
-pub listed : (t : Table) (els : Elements) → IsKnown t (element_in els) → IsListOf (list_shape t (element_in els)) (list_value els) (list_length els) (row_of (list_shape t (element_in els)) (list_length els)) (values_listed els)
+pub listed : (t : TypeTable) (els : Elements) → IsKnown t (element_in els) → IsListOf (list_shape t (element_in els)) (list_value els) (list_length els) (row_of (list_shape t (element_in els)) (list_length els)) (values_listed els)
 listed t (elements.Items type xs) known = items_listed (shape_of t type) xs.now
 listed t (elements.Pairs i xs) (known, is) =
     let s = element_shape (shape_of t (ty.Map i)) in
@@ -131,7 +131,7 @@ map_row s u n = record {
   place = refl;
 }
 
-pub row : (t : Table) (e : Element) → IsKnown t e → (n : ℕ) → IsRowOf (list_shape t e) n
+pub row : (t : TypeTable) (e : Element) → IsKnown t e → (n : ℕ) → IsRowOf (list_shape t e) n
 row t (element.Item type) known n = items_row (shape_of t type) n
 row t (element.Pair i) (known, is) n =
     let s = element_shape (shape_of t (ty.Map i)) in
@@ -139,9 +139,9 @@ row t (element.Pair i) (known, is) n =
 
 -- ---- by a look-up
 
-module _ (t t2 : Table) (e e2 : Element) (abi : CanonicalAbiInfo) (et : t2 ≡ t) (ee : e2 ≡ e) (h : HasLayout abi (element_shape (list_shape t2 e2))) where
+module _ (t t2 : TypeTable) (e e2 : Element) (abi : CanonicalAbiInfo) (et : t2 ≡ t) (ee : e2 ≡ e) (h : HasLayout abi (element_shape (list_shape t2 e2))) where
   same_element : element_shape (list_shape t2 e2) ≡ element_shape (list_shape t e)
-  same_element = ap₂ (λ (x : Table) (y : Element). element_shape (list_shape x y)) et ee
+  same_element = ap₂ (λ (x : TypeTable) (y : Element). element_shape (list_shape x y)) et ee
 
   pub element_size : abi.size32 ≡ size false (element_shape (list_shape t e))
   element_size = h.size ∙ ap (size false) same_element

@@ -26,7 +26,7 @@ use Rattle.canon_context.specs.Told.{Exactly, LiftBlames, place_of}
 use Rattle.canon_value_parts.specs.Loads.{AreCharged, IsLoaded, charged_reach}
 use Rattle.canon_value_parts.specs.Plan.{IsCaseRebuilt}
 use Rattle.canon_plan.specs.Plan.{IsVariant, shapes_of}
-use Rattle.canon_types.specs.Table.{Table}
+use Rattle.canon_types.specs.Table.{TypeTable}
 use Rattle.canon_val.specs.Value.{AreLiftedFrom}
 use Rattle.canon_plan.specs.declared.case_plan.CaseSlots.{CaseSlots}
 use Rattle.canon_context.specs.declared.fault.Fault.{Fault}
@@ -178,7 +178,7 @@ payload_count cs tag vs ts h = have_count true (case_members cs tag) vs ts h
 pub tag_inside : (s : Shape) (info : VariantInfo) (a n : ℕ) → IsVariant s → HasInfo info (variant_cases s) → a + size false s ≤ n → a + tag_bytes info.size ≤ n
 tag_inside s info a n (k, e) h room = omega (arith, room, h.size, ap (size false) e, tag-le-size false k (variant_cases s))
 
-pub none_past : (t : Table) (s : Shape) (tag : ℕ) (r : Option CaseSlots) → TellsCase t s tag r → ((c : CaseSlots) → r ≡ Some c → ⊥) → case_count (variant_cases s) ≤ tag
+pub none_past : (t : TypeTable) (s : Shape) (tag : ℕ) (r : Option CaseSlots) → TellsCase t s tag r → ((c : CaseSlots) → r ≡ Some c → ⊥) → case_count (variant_cases s) ≤ tag
 none_past t s tag None h never = h
 none_past t s tag (Some c) h never = absurd (never c refl)
 
@@ -201,7 +201,7 @@ module _ (enc : Encoding) (bytes : List ℕ) (s : Shape) (a tag : ℕ) (is : IsV
   pub case_read : tag ≡ tag_at (narrow bytes) a (variant_cases s)
   case_read = told ∙ ap (num (narrow bytes) a) has.size
 
-  pub case_weighs : a % align false s ≡ 0 → a + size false s ≤ length bytes → (t : Table) (c : CaseSlots) → IsCaseSlots t s tag c → (n : ℕ) → n ≡ info.payload_offset32
+  pub case_weighs : a % align false s ≡ 0 → a + size false s ≤ length bytes → (t : TypeTable) (c : CaseSlots) → IsCaseSlots t s tag c → (n : ℕ) → n ≡ info.payload_offset32
       → WeighsCase enc bytes s a tag (shapes_of t c.payload) (a + n)
   case_weighs aligned inside t c h n start =
       let at : a + n ≡ a + payload_offset false (variant_cases s) = ap (λ (o : ℕ). a + o) (start ∙ has.offset) in

@@ -16,7 +16,7 @@ use Rattle.canon_model.specs.Tree.{Tree, Trees, no_trees, tree}
 use Rattle.canon_model.proofs.Layouts.{align-dvd-align, align_to-dvd, alignment, members_alignment, members_end-le}
 use Rattle.canon_model.proofs.Reached.{reach_is_the_cost}
 use Rattle.canon_types.specs.declared.types.InterfaceType.{InterfaceType}
-use Rattle.canon_types.specs.Table.{Table, members_of}
+use Rattle.canon_types.specs.Table.{TypeTable, members_of}
 use Rattle.canon_lowering.specs.Storing.{narrow}
 use Rattle.canon_context.specs.Told.{Exactly, LiftBlames, place_of}
 use Rattle.canon_value_parts.specs.Loads.{AreCharged, AreLoaded, IsLoaded, charged_reach}
@@ -137,7 +137,7 @@ scalar_refused enc bytes k a before r h =
 
 -- ---- members of a tuple, whose names are empty
 
-module _ (enc : Encoding) (m : Memory) (t : Table) (types : List InterfaceType) (a before : ℕ) where
+module _ (enc : Encoding) (m : Memory) (t : TypeTable) (types : List InterfaceType) (a before : ℕ) where
   pub members_loaded : (after : ℕ) (vs : List Val) → AreCharged enc m (members_of t types) 0 a before after vs → AreLoaded enc m (members_of t types) 0 a before after vs
   members_loaded after vs (ts, stored, have, spent) = (ts, stored, have, omega (arith, spent, no_length t types))
 

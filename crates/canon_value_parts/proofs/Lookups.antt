@@ -3,7 +3,7 @@ use Rattle.std.proofs.Common.{◌≡◌, ◌<◌, ◌+◌, ◌∙◌, List, [], 
 use Rattle.std.specs.declared.alloc.Global.{Global}
 use Rattle.canon_model.specs.Shape.{Name, member_count}
 use Rattle.canon_types.specs.declared.types.InterfaceType.{InterfaceType}
-use Rattle.canon_types.specs.Table.{Table, members_of, tuple_members, types_of as tuple_types_of}
+use Rattle.canon_types.specs.Table.{TypeTable, members_of, tuple_members, types_of as tuple_types_of}
 use Rattle.canon_val.specs.Value.{member_names, no_names, values_in, names_in}
 use Rattle.canon_val.specs.declared.val.Val.{Val}
 use Rattle.canon_plan.proofs.Lookups.{count_members}
@@ -17,7 +17,7 @@ use Rattle.canon_plan.proofs.Lookups.{count_members}
 -- ---- what a look-up gives
 
 -- as many members as values have their names
-pub member_names-members_of : (t : Table) (types : List InterfaceType) (vs : List Val) → length vs ≡ length types → member_names (members_of t types) ≡ no_names vs
+pub member_names-members_of : (t : TypeTable) (types : List InterfaceType) (vs : List Val) → length vs ≡ length types → member_names (members_of t types) ≡ no_names vs
 member_names-members_of t [] [] e = refl
 member_names-members_of t [] (v ∷ vs) e = cc
 member_names-members_of t (type ∷ types) [] e = cc
@@ -27,7 +27,7 @@ pub count_values : (fields : List (String Global × Val)) → length (values_in 
 count_values [] = refl
 count_values (f ∷ fields) = ap suc (count_values fields)
 
-pub tuple_names : (t : Table) (j : ℕ) (vs : List Val) → length vs ≡ member_count (tuple_members t j) → no_names vs ≡ member_names (tuple_members t j)
+pub tuple_names : (t : TypeTable) (j : ℕ) (vs : List Val) → length vs ≡ member_count (tuple_members t j) → no_names vs ≡ member_names (tuple_members t j)
 tuple_names t j vs e = sym (member_names-members_of t (tuple_types_of t j) vs (e ∙ count_members t (tuple_types_of t j)))
 
 -- ---- loops that store the fields of a record or the members of a tuple: what is left completes what is done

@@ -11,7 +11,7 @@ use Rattle.std.proofs.lemmas.List.{drop_all, length-map}
 use Rattle.std.proofs.lemmas.Bool.Decides.{Decides-eqb}
 use Rattle.std.proofs.lemmas.Slice.Eq.{slice_eq-Decides}
 use Rattle.canon_context.specs.Quiet.{cases_have_handle, has_handle, have_handle}
-use Rattle.canon_leaves.specs.Parts.{Passed, passed}
+use Rattle.canon_leaves.specs.Parts.{PassedResource, passed}
 use Rattle.canon_lowering.specs.Copies.{case_members, copies, pairs_of}
 use Rattle.canon_model.specs.Layout.{member_shape}
 use Rattle.canon_model.specs.Shape as shape
@@ -22,12 +22,12 @@ use Rattle.canon_plan.specs.Plan.{LiesAs, members_from, typed_handle}
 use Rattle.canon_plan.specs.declared.plan.HandleType.{HandleType}
 use Rattle.canon_resources.specs.Held.{Any}
 use Rattle.canon_types.specs.Depth.{product_members}
-use Rattle.canon_types.specs.Table.{Table, shape_of}
+use Rattle.canon_types.specs.Table.{TypeTable, shape_of}
 use Rattle.canon_types.specs.declared.types.InterfaceType.{InterfaceType}
 use Rattle.canon_value_parts.specs.Elements.{by_turns, element_in, list_length, list_value, values_listed}
 use Rattle.canon_value_parts.specs.Resources.{all_passes, full_passes, passes, passes_step, place_in, row_passes, turns_of}
 use Rattle.canon_val.specs.Value.{IsCase, IsFirst, case_names, values_in}
-use Rattle.canon_value_parts.specs.View.{IsMember, names_of, shapes_of, values_of}
+use Rattle.canon_value_parts.specs.View.{IsMember, viewed_names, viewed_shapes, viewed_values}
 use Rattle.canon_value_parts.specs.Viewed.{HasMembers, Views}
 use Rattle.canon_value_parts.specs.declared.case_view.Case.{Case}
 use Rattle.canon_value_parts.specs.declared.elements.Elements.{Elements}
@@ -44,7 +44,7 @@ use Rattle.canon_value_parts.proofs.Steps.{no_first, no_later}
 
 -- what a value passes, by the shape that is wanted
 abbrev Passing : Type 0
-Passing = Shape → List Passed
+Passing = Shape → List PassedResource
 
 -- ---- where no handle is reached
 
@@ -90,23 +90,23 @@ module _ {E : Type 0} (f : E → Val) (h : (e : E) (s : Shape) → has_handle s 
   row_none : (ms : shape.Members) (es : List E) → have_handle ms ≡ false → row_passes ms (map passes (map f es)) ≡ []
   row_none no_members es e = refl
   row_none (member name s ms) [] e = refl
-  row_none (member name s ms) (x ∷ es) e = ap₂ (λ (ps qs : List Passed). ps ++ qs) (h x s (no_first (has_handle s) (have_handle ms) e)) (row_none ms es (no_later (has_handle s) (have_handle ms) e))
+  row_none (member name s ms) (x ∷ es) e = ap₂ (λ (ps qs : List PassedResource). ps ++ qs) (h x s (no_first (has_handle s) (have_handle ms) e)) (row_none ms es (no_later (has_handle s) (have_handle ms) e))
 
   fields_none : (ms : shape.Members) (es : List (String Global × E)) → have_handle ms ≡ false
       → row_passes ms (map (λ g. g.1) (map (former-Val-Record-0-at-2.map Val Passing passes) (map (former-Val-Record-0-at-2.map E Val f) es))) ≡ []
   fields_none no_members es e = refl
   fields_none (member name s ms) [] e = refl
-  fields_none (member name s ms) (x ∷ es) e = ap₂ (λ (ps qs : List Passed). ps ++ qs) (h x.1 s (no_first (has_handle s) (have_handle ms) e)) (fields_none ms es (no_later (has_handle s) (have_handle ms) e))
+  fields_none (member name s ms) (x ∷ es) e = ap₂ (λ (ps qs : List PassedResource). ps ++ qs) (h x.1 s (no_first (has_handle s) (have_handle ms) e)) (fields_none ms es (no_later (has_handle s) (have_handle ms) e))
 
   turns_none : (ms : shape.Members) (es : List (E × E)) → have_handle ms ≡ false
       → row_passes ms (turns_of (map (former-Val-Map-0-at-2.map Val Passing passes) (map (former-Val-Map-0-at-2.map E Val f) es))) ≡ []
   turns_none no_members es e = refl
   turns_none (member name s ms) [] e = refl
-  turns_none (member name s no_members) (x ∷ es) e = ap (λ (ps : List Passed). ps ++ []) (h x.0 s (no_first (has_handle s) false e))
+  turns_none (member name s no_members) (x ∷ es) e = ap (λ (ps : List PassedResource). ps ++ []) (h x.0 s (no_first (has_handle s) false e))
   turns_none (member name s (member other u ms)) (x ∷ es) e =
       let more = no_later (has_handle s) (has_handle u || have_handle ms) e in
-      ap₂ (λ (ps qs : List Passed). ps ++ qs) (h x.0 s (no_first (has_handle s) (has_handle u || have_handle ms) e))
-      (ap₂ (λ (ps qs : List Passed). ps ++ qs) (h x.1 u (no_first (has_handle u) (have_handle ms) more)) (turns_none ms es (no_later (has_handle u) (have_handle ms) more)))
+      ap₂ (λ (ps qs : List PassedResource). ps ++ qs) (h x.0 s (no_first (has_handle s) (has_handle u || have_handle ms) e))
+      (ap₂ (λ (ps qs : List PassedResource). ps ++ qs) (h x.1 u (no_first (has_handle u) (have_handle ms) more)) (turns_none ms es (no_later (has_handle u) (have_handle ms) more)))
 
   level : (y : Val-F E) (s : Shape) → has_handle s ≡ false → passes_step (map-Val Val Passing passes (map-Val E Val f y)) s ≡ []
   level (F.Resource x) (own r) e = cc
@@ -137,23 +137,23 @@ no_passes s v e = none_passed v s e
 pub no_row_passes : (ms : shape.Members) (vs : List Val) → have_handle ms ≡ false → all_passes ms vs ≡ []
 no_row_passes no_members vs e = refl
 no_row_passes (member name s ms) [] e = refl
-no_row_passes (member name s ms) (v ∷ vs) e = ap₂ (λ (ps qs : List Passed). ps ++ qs) (no_passes s v (no_first (has_handle s) (have_handle ms) e)) (no_row_passes ms vs (no_later (has_handle s) (have_handle ms) e))
+no_row_passes (member name s ms) (v ∷ vs) e = ap₂ (λ (ps qs : List PassedResource). ps ++ qs) (no_passes s v (no_first (has_handle s) (have_handle ms) e)) (no_row_passes ms vs (no_later (has_handle s) (have_handle ms) e))
 
 pub text_none : (s : String Global) → passes (val.String s) string ≡ []
 text_none s = no_passes string (val.String s) refl
 
 -- ---- by the view of the value
 
-pub scalar_passes : (t : Table) (type : InterfaceType) (v : Val) (word : ℕ) → Views t type v (view.Scalar word) → passes v (shape_of t type) ≡ []
+pub scalar_passes : (t : TypeTable) (type : InterfaceType) (v : Val) (word : ℕ) → Views t type v (view.Scalar word) → passes v (shape_of t type) ≡ []
 scalar_passes t type v word (k, tree, is, has, word_is, least) = no_passes (shape_of t type) v (ap has_handle (scalar_shape t type k is))
 
-pub text_passes : (t : Table) (type : InterfaceType) (v : Val) (s : Bor (String Global)) → Views t type v (view.Text s) → passes v (shape_of t type) ≡ []
+pub text_passes : (t : TypeTable) (type : InterfaceType) (v : Val) (s : Bor (String Global)) → Views t type v (view.Text s) → passes v (shape_of t type) ≡ []
 text_passes t type v s (is, e) = no_passes (shape_of t type) v (ap has_handle is)
 
 flags_value : (names : Vec (String Global) Global) (s : Shape) → passes (val.Flags names) s ≡ []
 flags_value names s = search (rules, the_lemmas)
 
-pub flags_passes : (t : Table) (type : InterfaceType) (v : Val) (names : Bor (Vec (String Global) Global)) → Views t type v (view.Flags names) → passes v (shape_of t type) ≡ []
+pub flags_passes : (t : TypeTable) (type : InterfaceType) (v : Val) (names : Bor (Vec (String Global) Global)) → Views t type v (view.Flags names) → passes v (shape_of t type) ≡ []
 flags_passes t type v names (is, e) = ap (λ (w : Val). passes w (shape_of t type)) e ∙ flags_value names.now (shape_of t type)
 
 own_passes : (x : Any) (r : ℕ) → passes (val.Resource x) (own r) ≡ passed true r x ∷ []
@@ -162,11 +162,11 @@ own_passes x r = search (rules, the_lemmas)
 borrow_passes : (x : Any) (r : ℕ) → passes (val.Resource x) (borrow r) ≡ passed false r x ∷ []
 borrow_passes x r = search (rules, the_lemmas)
 
-typed_passes : (t : Table) (owned : Bool) (r : ℕ) (x : Any) → passes (val.Resource x) (shape_of t (typed_handle owned r)) ≡ passed owned r x ∷ []
+typed_passes : (t : TypeTable) (owned : Bool) (r : ℕ) (x : Any) → passes (val.Resource x) (shape_of t (typed_handle owned r)) ≡ passed owned r x ∷ []
 typed_passes t true r x = own_passes x r
 typed_passes t false r x = borrow_passes x r
 
-pub handle_passes : (t : Table) (type : InterfaceType) (v : Val) (h : HandleType) (x : Any) → Views t type v (view.Handle h x) → passes v (shape_of t type) ≡ passed h.owned h.resource x ∷ []
+pub handle_passes : (t : TypeTable) (type : InterfaceType) (v : Val) (h : HandleType) (x : Any) → Views t type v (view.Handle h x) → passes v (shape_of t type) ≡ passed h.owned h.resource x ∷ []
 handle_passes t type v h x (is, e) = ap₂ (λ (w : Val) (y : InterfaceType). passes w (shape_of t y)) e is ∙ typed_passes t h.owned h.resource x
 
 -- ---- members
@@ -211,8 +211,8 @@ has_passes (list k s) ms names vs v e h count = absurd e
 has_passes (variant k cs) ms names vs v e h count = absurd e
 has_passes (flags names) ms them vs v e h count = absurd e
 
-pub members_passes : (t : Table) (type : InterfaceType) (v : Val) (ms : Members) → Views t type v (view.Members ms) → passes v (shape_of t type) ≡ all_passes (shapes_of t ms) (values_of ms)
-members_passes t type v ms (known, lies, has, count) = has_passes (shape_of t type) (shapes_of t ms) (names_of ms) (values_of ms) v lies has count
+pub members_passes : (t : TypeTable) (type : InterfaceType) (v : Val) (ms : Members) → Views t type v (view.Members ms) → passes v (shape_of t type) ≡ all_passes (viewed_shapes t ms) (viewed_values ms)
+members_passes t type v ms (known, lies, has, count) = has_passes (shape_of t type) (viewed_shapes t ms) (viewed_names ms) (viewed_values ms) v lies has count
 
 -- ---- lists and maps
 
@@ -231,12 +231,12 @@ map_pairs s xs =
     ≡ row_passes (row_of (list of_pairs s) (length (map (former-Val-Map-0-at-2.map Val Passing passes) xs.items))) (turns_of (map (former-Val-Map-0-at-2.map Val Passing passes) xs.items)) = search (rules, the_lemmas) in
     opened ∙ ap₂ (λ n fs. row_passes (row_of (list of_pairs s) n) fs) (length-map xs.items (former-Val-Map-0-at-2.map Val Passing passes)) (turned xs.items)
 
-pub listed_passes : (t : Table) (xs : Elements) → IsKnown t (element_in xs) → passes (list_value xs) (list_shape t (element_in xs)) ≡ all_passes (row_of (list_shape t (element_in xs)) (list_length xs)) (values_listed xs)
+pub listed_passes : (t : TypeTable) (xs : Elements) → IsKnown t (element_in xs) → passes (list_value xs) (list_shape t (element_in xs)) ≡ all_passes (row_of (list_shape t (element_in xs)) (list_length xs)) (values_listed xs)
 listed_passes t (elements.Items type xs) known = list_items (shape_of t type) xs.now
 listed_passes t (elements.Pairs i xs) (known, is) = subst (λ (s : Shape). passes (val.Map xs.now) s ≡ all_passes (row_of s (length xs.now.items)) (by_turns xs.now.items)) (sym is) (map_pairs _ xs.now)
 
 -- of a list or a map, as the members that `members_in` gives
-pub list_passes : (t : Table) (type : InterfaceType) (v : Val) (xs : Elements) → Views t type v (view.List xs)
+pub list_passes : (t : TypeTable) (type : InterfaceType) (v : Val) (xs : Elements) → Views t type v (view.List xs)
     → passes v (shape_of t type) ≡ all_passes (row_of (list_shape t (element_in xs)) (list_length xs)) (values_listed xs)
 list_passes t type v xs (known, is, e) = ap₂ (λ (w : Val) (s : Shape). passes w s) e is ∙ listed_passes t xs known
 
@@ -278,13 +278,13 @@ case_of of_result cs d vs v (Ok (Some b), is, ev, ed, inside) = payload_passes (
 case_of of_result cs d vs v (Err None, is, ev, ed, inside) = bare_passes (variant of_result cs) (case_members cs d) vs v (val.Result (Err None)) is ev (search (rules, the_lemmas))
 case_of of_result cs d vs v (Err (Some b), is, ev, ed, inside) = payload_passes (variant of_result cs) cs 1 d vs v (val.Result (Err (Some b))) b.value is ev (sym ed) (search (rules, the_lemmas))
 
-pub case_passes : (t : Table) (type : InterfaceType) (v : Val) (c : Case) → Views t type v (view.Case c) → passes v (shape_of t type) ≡ all_passes (shapes_of t c.payload) (values_of c.payload)
-case_passes t type v c seen = ap (passes v) seen.shape ∙ (case_of seen.kind seen.cases c.tag (values_of c.payload) v seen.is ∙ ap (λ (ms : shape.Members). all_passes ms (values_of c.payload)) (sym seen.shapes))
+pub case_passes : (t : TypeTable) (type : InterfaceType) (v : Val) (c : Case) → Views t type v (view.Case c) → passes v (shape_of t type) ≡ all_passes (viewed_shapes t c.payload) (viewed_values c.payload)
+case_passes t type v c seen = ap (passes v) seen.shape ∙ (case_of seen.kind seen.cases c.tag (viewed_values c.payload) v seen.is ∙ ap (λ (ms : shape.Members). all_passes ms (viewed_values c.payload)) (sym seen.shapes))
 
 -- ---- rows
 
 -- member k, and then those from k + 1 on
-pub member_passes : (t : Table) (ms : shape.Members) (names : List Name) (vs : List Val) (k : ℕ) (m : Member) → IsMember t ms names vs k m
+pub member_passes : (t : TypeTable) (ms : shape.Members) (names : List Name) (vs : List Val) (k : ℕ) (m : Member) → IsMember t ms names vs k m
     → all_passes (members_from k ms) (drop k vs) ≡ passes m.value.now (shape_of t m.ty) ++ all_passes (members_from (k + 1) ms) (drop (k + 1) vs)
 member_passes t ms names vs k m is = ap₂ (λ (ns : shape.Members) (ws : List Val). all_passes ns ws) is.shapes is.values
 

@@ -9,13 +9,14 @@ use Rattle.canon_context.specs.declared.fault.Fault.TheVariants as fault
 use Rattle.canon_ledger.specs.Ledger.{LedgerState}
 use Rattle.canon_ledger.specs.declared.fault.ResourceFault.{ResourceFault}
 use Rattle.canon_leaves.proofs.Leaves.{leaves_one, leaves_stop_first, leaves_stop_one, leaves_stop_then, leaves_then, stops_at_once}
-use Rattle.canon_leaves.specs.Parts.{LeafMoves, LeavesStop, LeavesTake, Part, Passed, lower_parts, refusal_of}
+use Rattle.canon_leaves.specs.Parts.{LeafMoves, LeavesStop, LeavesTake, Part, PassedResource, lower_parts, refusal_of}
 use Rattle.canon_lowering.specs.Lowering.{Ending, Reallocated, refused}
 use Rattle.canon_memory.specs.Guest.{Moment}
 use Rattle.canon_model.specs.Requests.{Call}
 use Rattle.canon_types.specs.Instance.{Instance}
 use Rattle.canon_model.specs.Shape.{Name, flags}
-use Rattle.canon_value_parts.specs.Resources.{LowersHandles, ledger_fault, passes, stop_of}
+use Rattle.canon_value_parts.specs.Resources.{LowersHandles, ledger_fault, passes}
+use Rattle.canon_context.specs.Faults.{stop_of}
 use Rattle.canon_val.specs.declared.val.Val.{the_lemmas}
 use Rattle.canon_val.specs.declared.val.Val.TheVariants as val
 use Rattle.std.specs.declared.alloc.Global.{Global}
@@ -106,32 +107,32 @@ own_elsewhere e h = ap (λ (p : Ending × Option ResourceFault). p.1) h
 
 -- ---- what is passed
 
-both_empty : (ps qs : List Passed) → ps ++ qs ≡ [] → ps ≡ []
+both_empty : (ps qs : List PassedResource) → ps ++ qs ≡ [] → ps ≡ []
 both_empty [] qs e = refl
 both_empty (p ∷ ps) qs e = cc
 
-last_empty : (ps qs : List Passed) → ps ++ qs ≡ [] → qs ≡ []
+last_empty : (ps qs : List PassedResource) → ps ++ qs ≡ [] → qs ≡ []
 last_empty [] qs e = e
 last_empty (p ∷ ps) qs e = cc
 
 module _ (types : Instance) where
   -- all of it went through, or up to this fault, as `LowersHandles` says
-  abbrev pub Took : LedgerState → LedgerState → List Passed → List ℕ → Type 0
+  abbrev pub Took : LedgerState → LedgerState → List PassedResource → List ℕ → Type 0
   Took l n ps hs = LeavesTake l (map (lower_parts types) ps) hs n
 
-  abbrev pub Ended : LedgerState → LedgerState → List Passed → Fault → Type 0
+  abbrev pub Ended : LedgerState → LedgerState → List PassedResource → Fault → Type 0
   Ended l n ps e = LeavesStop (stop_of e) l (map (lower_parts types) ps) n × (ledger_fault e ≡ None ⊎ ¬ (ps ≡ []))
 
   -- nothing was passed
-  pub passes_none : (l n : LedgerState) (ps : List Passed) → n ≡ l → ps ≡ [] → Took l n ps []
-  passes_none l n ps same e = subst (λ (qs : List Passed). Took l n qs []) (sym e) (refl, same)
+  pub passes_none : (l n : LedgerState) (ps : List PassedResource) → n ≡ l → ps ≡ [] → Took l n ps []
+  passes_none l n ps same e = subst (λ (qs : List PassedResource). Took l n qs []) (sym e) (refl, same)
 
   -- it ended before anything was
-  pub passes_stopped : (l n : LedgerState) (ps : List Passed) (e : Fault) → n ≡ l → ledger_fault e ≡ None → Ended l n ps e
+  pub passes_stopped : (l n : LedgerState) (ps : List PassedResource) (e : Fault) → n ≡ l → ledger_fault e ≡ None → Ended l n ps e
   passes_stopped l n ps e same ef = (subst (λ (why : Option ResourceFault). LeavesStop why l (map (lower_parts types) ps) n) (sym (no_stop e ef)) (stops_at_once l n (map (lower_parts types) ps) same), inl ef)
 
   -- these, and then those, as far as the walk went
-  pub passes_then : {Y : Type 0} (l m n : LedgerState) (ps qs : List Passed) (hs ks : List ℕ) (r : Result Y Fault) → Took l m ps hs → LowersHandles types m n qs ks r → LowersHandles types l n (ps ++ qs) (hs ++ ks) r
+  pub passes_then : {Y : Type 0} (l m n : LedgerState) (ps qs : List PassedResource) (hs ks : List ℕ) (r : Result Y Fault) → Took l m ps hs → LowersHandles types m n qs ks r → LowersHandles types l n (ps ++ qs) (hs ++ ks) r
   passes_then l m n ps qs hs ks (Ok y) h k =
       subst (λ (xs : List (List Part)). LeavesTake l xs (hs ++ ks) n) (sym (map-append (lower_parts types) ps qs)) (leaves_then l m n (map (lower_parts types) ps) (map (lower_parts types) qs) hs ks h k)
   passes_then l m n ps qs hs ks (Err e) h (k, at) = (
@@ -144,7 +145,7 @@ module _ (types : Instance) where
       later (inr some) = inr (λ nil. some (last_empty ps qs nil))
 
   -- it ended among these, whatever was to come
-  pub passes_stop : (l n : LedgerState) (ps qs : List Passed) (e : Fault) → Ended l n ps e → Ended l n (ps ++ qs) e
+  pub passes_stop : (l n : LedgerState) (ps qs : List PassedResource) (e : Fault) → Ended l n ps e → Ended l n (ps ++ qs) e
   passes_stop l n ps qs e (h, at) = (
     subst (λ (xs : List (List Part)). LeavesStop (stop_of e) l xs n) (sym (map-append (lower_parts types) ps qs)) (leaves_stop_first (stop_of e) l n (map (lower_parts types) ps) (map (lower_parts types) qs) h),
     later at,
@@ -155,11 +156,11 @@ module _ (types : Instance) where
       later (inr some) = inr (λ nil. some (both_empty ps qs nil))
 
   -- the same, said of other words for what was passed
-  pub passes_as : {X : Type 0} (l n : LedgerState) (ps qs : List Passed) (hs : List ℕ) (r : Result X Fault) → qs ≡ ps → LowersHandles types l n ps hs r → LowersHandles types l n qs hs r
-  passes_as l n ps qs hs r e h = subst (λ (xs : List Passed). LowersHandles types l n xs hs r) (sym e) h
+  pub passes_as : {X : Type 0} (l n : LedgerState) (ps qs : List PassedResource) (hs : List ℕ) (r : Result X Fault) → qs ≡ ps → LowersHandles types l n ps hs r → LowersHandles types l n qs hs r
+  passes_as l n ps qs hs r e h = subst (λ (xs : List PassedResource). LowersHandles types l n xs hs r) (sym e) h
 
 -- and said of the core before a step that left its ledger
-pub passes_from : {T G X : Type 0} → (a b : Parts T G) (n : LedgerState) (ps : List Passed) (hs : List ℕ) (r : Result X Fault) → SameBut a b → LowersHandles b.component.types b.ledger n ps hs r
+pub passes_from : {T G X : Type 0} → (a b : Parts T G) (n : LedgerState) (ps : List PassedResource) (hs : List ℕ) (r : Result X Fault) → SameBut a b → LowersHandles b.component.types b.ledger n ps hs r
     → LowersHandles a.component.types a.ledger n ps hs r
 passes_from a b n ps hs r same h = subst₂ (λ (i : Instance) (l : LedgerState). LowersHandles i l n ps hs r) (handles_instance a b (same_handles a b same)) (same_ledger a b same) h
 
@@ -171,8 +172,8 @@ flags_none names set = search (rules, the_lemmas)
 -- ---- one resource
 
 -- a handle that went through the ledger, or was refused
-pub handed_one : (types : Instance) (l n : LedgerState) (p : Passed) (h : ℕ) → LeafMoves l n (lower_parts types p) (Ok h) → Took types l n (p ∷ []) (h ∷ [])
+pub handed_one : (types : Instance) (l n : LedgerState) (p : PassedResource) (h : ℕ) → LeafMoves l n (lower_parts types p) (Ok h) → Took types l n (p ∷ []) (h ∷ [])
 handed_one types l n p h moves = leaves_one l n (lower_parts types p) h moves
 
-pub refused_one : (types : Instance) (l n : LedgerState) (p : Passed) (e : ResourceFault) → LeafMoves l n (lower_parts types p) (Err e) → Ended types l n (p ∷ []) (fault.Resource e)
+pub refused_one : (types : Instance) (l n : LedgerState) (p : PassedResource) (e : ResourceFault) → LeafMoves l n (lower_parts types p) (Err e) → Ended types l n (p ∷ []) (fault.Resource e)
 refused_one types l n p e moves = (leaves_stop_one (refusal_of e) l n (lower_parts types p) moves, inr (λ nil. cc))

@@ -16,7 +16,8 @@ use Rattle.canon_context.specs.declared.fault.Fault.TheVariants as fault
 use Rattle.canon_value_parts.proofs.Passing.{ledger_unless, passes_none, passes_stopped, same_handles, same_ledger}
 use Rattle.canon_value_parts.proofs.PassesOf.{text_none}
 use Rattle.canon_value_parts.specs.Resources.{passes}
-use Rattle.canon_val.specs.Value.{HasTree, cap}
+use Rattle.canon_val.specs.Value.{HasTree}
+use Rattle.canon_model.specs.Memory.{cap}
 use Rattle.canon_val.specs.declared.val.Val.TheVariants as val
 use Rattle.canon_context.proofs.Moves.{GuestLaws}
 use Rattle.canon_value_parts.proofs.Contents.{places_text, same_text}

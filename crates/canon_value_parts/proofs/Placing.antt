@@ -14,7 +14,8 @@ use Rattle.canon_value_parts.specs.Fails.{AreSmall, Blames, Failure, FailsAt, Is
 use Rattle.canon_context.specs.Lowers.{fault_ending, ending_of}
 use Rattle.canon_context.specs.Asks.{AsksFor}
 use Rattle.canon_value_parts.specs.Stores.{PlacesTo, PlacesCounted, FieldsCount, PartsStoreTo}
-use Rattle.canon_val.specs.Value.{HasTree, all_places, cap, no_names, places}
+use Rattle.canon_val.specs.Value.{HasTree, all_places, no_names, places}
+use Rattle.canon_model.specs.Memory.{cap}
 use Rattle.canon_context.specs.declared.fault.Fault.{Fault}
 use Rattle.canon_context.specs.declared.fault.Fault.TheVariants as fault
 use Rattle.canon_val.specs.declared.val.Val.{Val}

@@ -4,7 +4,8 @@ use Rattle.std.specs.declared.alloc.Global.{Global}
 use Rattle.canon_ledger.specs.declared.fault.ResourceFault.{ResourceFault}
 use Rattle.canon_model.specs.Shape.{Name, ProductKind, of_fields, of_places, of_items, of_pairs, Members, Shape, borrow, fixed, flags, list, own, product, scalar, string, variant}
 use Rattle.canon_value_parts.specs.Fails.{Blames, Failure, Fails, field_name, mismatch, overflow, too_long, wrong_length, FailsAt, payload_expected, payload_not_expected, unknown_case, unknown_flag}
-use Rattle.canon_val.specs.Value.{IsProduct, all_places, cap, places, total, values_in, IsFixed, no_names}
+use Rattle.canon_val.specs.Value.{IsProduct, all_places, places, total, values_in, IsFixed, no_names}
+use Rattle.canon_model.specs.Memory.{cap}
 use Rattle.canon_context.specs.Lowers.{fault_ending}
 use Rattle.canon_context.specs.declared.fault.Fault.{Fault}
 use Rattle.canon_context.specs.declared.fault.Fault.TheVariants as fault

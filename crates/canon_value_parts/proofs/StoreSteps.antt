@@ -6,12 +6,13 @@ use Rattle.canon_model.specs.Layout.{scalar_size, size}
 use Rattle.canon_model.specs.Rep.{IsLeast, ScalarIs}
 use Rattle.canon_model.specs.Shape.{Members, Name, ProductKind, Scalar, Shape, bool, char, f32, f64, member, member_count, product, s16, s32, s64, s8, u16, u32, u64, u8}
 use Rattle.canon_model.specs.Tree.{Tree, Trees}
-use Rattle.canon_types.specs.Table.{Table, shape_of}
+use Rattle.canon_types.specs.Table.{TypeTable, shape_of}
 use Rattle.canon_types.specs.declared.types.InterfaceType.{InterfaceType}
 use Rattle.canon_plan.specs.NoHandle.{IsScalarType}
 use Rattle.canon_value_parts.specs.Fails.{Blames, FailsAt, IsSmall, MemberFails}
 use Rattle.canon_value_parts.specs.Stores.{PlacesCounted, FieldsCount}
-use Rattle.canon_val.specs.Value.{HasTree, HaveTrees, IsProduct, all_places, cap, member_names, places}
+use Rattle.canon_val.specs.Value.{HasTree, HaveTrees, IsProduct, all_places, member_names, places}
+use Rattle.canon_model.specs.Memory.{cap}
 use Rattle.canon_context.specs.declared.fault.Fault.{Fault}
 use Rattle.canon_val.specs.declared.val.Val.{Val}
 use Rattle.canon_value_parts.proofs.Sizes.{member_small, product_small}
@@ -51,7 +52,7 @@ scalar_bytes f32 = omega arith
 scalar_bytes f64 = omega arith
 scalar_bytes char = omega arith
 
-pub scalar_type_bytes : (t : Table) (type : InterfaceType) → IsScalarType type → size false (shape_of t type) ≤ 8
+pub scalar_type_bytes : (t : TypeTable) (type : InterfaceType) → IsScalarType type → size false (shape_of t type) ≤ 8
 unfolding size
 scalar_type_bytes t type (k, e) = subst (λ (s : Shape). size false s ≤ 8) (sym (scalar_shape t type k e)) (scalar_bytes k)
 

@@ -9,10 +9,10 @@ use Rattle.canon_model.specs.Layout.{align, flat, members_end, members_flat, siz
 use Rattle.canon_model.specs.Shape.{Members, Shape, borrow, fixed, flags, list, member_count, own, product, scalar, string, variant}
 use Rattle.canon_types.specs.Depth.{deepest, depth}
 use Rattle.canon_plan.specs.NoHandle.{HaveNoHandle, HasNoHandle}
-use Rattle.canon_types.specs.Table.{Table, shape_of}
+use Rattle.canon_types.specs.Table.{TypeTable, shape_of}
 use Rattle.canon_types.specs.declared.types.InterfaceType.TheVariants as ty
 use Rattle.canon_value_parts.specs.Elements.{by_turns}
-use Rattle.canon_value_parts.specs.View.{HaveKnownTypes, names_of, shapes_of, values_of}
+use Rattle.canon_value_parts.specs.View.{HaveKnownTypes, viewed_names, viewed_shapes, viewed_values}
 use Rattle.canon_plan.specs.Plan.{LiesAs}
 use Rattle.canon_value_parts.specs.declared.members.Members.{Members as View}
 use Rattle.canon_value_parts.specs.declared.members.Members.TheVariants as members
@@ -23,7 +23,7 @@ use Rattle.canon_plan.proofs.Lookups.{copies_count}
 use Rattle.canon_value_parts.proofs.Walks.{copies_no_handle, copies_deepest}
 
 -- as many names as values
-pub names_count : (ms : View) → length (names_of ms) ≡ length (values_of ms)
+pub names_count : (ms : View) → length (viewed_names ms) ≡ length (viewed_values ms)
 names_count (members.Fields i values) = count_names values.now ∙ sym (count_values values.now)
 names_count (members.Places i values) = count_no_names values.now
 names_count (members.Items type values) = count_no_names values.now
@@ -32,7 +32,7 @@ names_count (members.Single type value) = refl
 names_count (members.Pairs i values) = count_no_names (by_turns values.now)
 
 -- as many members as values
-pub values_count : (t : Table) (ms : View) → HaveKnownTypes t ms → length (values_of ms) ≡ member_count (shapes_of t ms)
+pub values_count : (t : TypeTable) (ms : View) → HaveKnownTypes t ms → length (viewed_values ms) ≡ member_count (viewed_shapes t ms)
 values_count t (members.Fields i values) (known, count) = count_values values.now ∙ count
 values_count t (members.Places i values) (known, count) = count
 values_count t (members.Items type values) known = sym (copies_count (length values.now) (shape_of t type))

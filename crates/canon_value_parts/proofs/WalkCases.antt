@@ -11,12 +11,12 @@ use Rattle.canon_memory.specs.Memory.{written_over}
 use Rattle.canon_memory.specs.Realloc.{block}
 use Rattle.canon_model.proofs.Layouts.{tag-le-size}
 use Rattle.canon_model.specs.Layout.{members_end, payload_offset, size, tag_size}
-use Rattle.canon_model.specs.Memory.{Block, num}
+use Rattle.canon_model.specs.Memory.{Block, cap, num}
 use Rattle.canon_model.specs.Shape.{Cases, Members, Name, Shape, VariantKind, case_count, member_count, variant}
 use Rattle.canon_model.specs.Text.{Encoding, utf8}
 use Rattle.canon_model.specs.Tree.{Tree, Trees, case_number}
 use Rattle.canon_types.specs.Depth.{deepest, depth}
-use Rattle.canon_types.specs.Table.{Table}
+use Rattle.canon_types.specs.Table.{TypeTable}
 use Rattle.canon_context.specs.Core.{Parts, encoding_by, guest_of, moment_of}
 use Rattle.canon_value_parts.specs.Fails.{FailsAt, MemberFails}
 use Rattle.canon_context.specs.Lowers.{ending_of}
@@ -24,8 +24,8 @@ use Rattle.canon_context.specs.Moves.{Moves}
 use Rattle.canon_value_parts.specs.Resources.{all_passes, passes}
 use Rattle.canon_value_parts.proofs.Passing.{passes_as}
 use Rattle.canon_value_parts.specs.Stores.{PlacesCounted, PartsStoreTo, StoresTo}
-use Rattle.canon_val.specs.Value.{CaseHas, HasTree, HaveTrees, IsCase, all_places, cap, member_names, places}
-use Rattle.canon_value_parts.specs.View.{HaveKnownTypes, names_of, shapes_of, values_of}
+use Rattle.canon_val.specs.Value.{CaseHas, HasTree, HaveTrees, IsCase, all_places, member_names, places}
+use Rattle.canon_value_parts.specs.View.{HaveKnownTypes, viewed_names, viewed_shapes, viewed_values}
 use Rattle.canon_value_parts.specs.Viewed.{IsCaseSeen}
 use Rattle.canon_value_parts.specs.declared.case_view.Case.{Case}
 use Rattle.canon_context.specs.declared.fault.Fault.{Fault}
@@ -68,15 +68,15 @@ case_counted enc k cs d vs v place (Err e) of b =
 
 -- ---- what a view of a case says to a walk
 
-pub record CaseWants (t : Table) (s : Shape) (c : Case) (at : ℕ) : Type 0 where
+pub record CaseWants (t : TypeTable) (s : Shape) (c : Case) (at : ℕ) : Type 0 where
   pub few : tag_bytes c.info.size ≤ 8
   pub inside : at + tag_bytes c.info.size ≤ at + size false s
-  pub room : at + c.info.payload_offset32 + members_end false 0 (shapes_of t c.payload) ≤ at + size false s
+  pub room : at + c.info.payload_offset32 + members_end false 0 (viewed_shapes t c.payload) ≤ at + size false s
   pub known : HaveKnownTypes t c.payload
-  pub count : length (values_of c.payload) ≡ member_count (shapes_of t c.payload)
-  pub falls : 4 * deepest (shapes_of t c.payload) + 2 < 4 * depth s
+  pub count : length (viewed_values c.payload) ≡ member_count (viewed_shapes t c.payload)
+  pub falls : 4 * deepest (viewed_shapes t c.payload) + 2 < 4 * depth s
 
-pub case_wants : (t : Table) (s : Shape) (v : Val) (c : Case) (at : ℕ) → IsCaseSeen t s v c → CaseWants t s c at
+pub case_wants : (t : TypeTable) (s : Shape) (v : Val) (c : Case) (at : ℕ) → IsCaseSeen t s v c → CaseWants t s c at
 case_wants t s v c at h = record {
   few = omega (arith, h.info.size, tag_few (case_count h.cases));
   inside = omega (arith, h.info.size, tag-le-size false h.kind h.cases, ap (size false) h.shape);
@@ -110,18 +110,20 @@ module _ {T G : Type 0} (L : GuestLaws G) (options : ℕ) where
     quiet = λ none. h.quiet (case_quiet cs d none);
   }
 
-  pub case_stored : (t : Table) (a c : Parts T G) (m ys : List ℕ) (s : Shape) (at n inner : ℕ) (x : Case) (v : Val) (place from : ℕ) (r : Result ℕ Fault) → length a.memory ≤ 2 ^ 32 → at + size false s ≤ length a.memory → IsCaseSeen t s v x
-      → passes v s ≡ all_passes (shapes_of t x.payload) (values_of x.payload)
+  pub case_stored : (t : TypeTable) (a c : Parts T G) (m ys : List ℕ) (s : Shape) (at n inner : ℕ) (x : Case) (v : Val) (place from : ℕ) (r : Result ℕ Fault) → length a.memory ≤ 2 ^ 32 → at + size false s ≤ length a.memory
+      → IsCaseSeen t s v x
+      → passes v s ≡ all_passes (viewed_shapes t x.payload) (viewed_values x.payload)
       → n ≡ tag_bytes x.info.size → inner ≡ at + x.info.payload_offset32 → ys ≡ a.memory → Writes (block at n) ys m → num (narrow m) at n ≡ x.tag % 256 ^ n → from ≡ cap (place + 1)
-      → PartsStoreTo L.seen L.moves options (record a { memory = written_over a.memory m }) c place (shapes_of t x.payload) 0 inner (names_of x.payload) (values_of x.payload) from r → StoresTo L.seen L.moves options a c s at v place r
+      → PartsStoreTo L.seen L.moves options (record a { memory = written_over a.memory m }) c place (viewed_shapes t x.payload) 0 inner (viewed_names x.payload) (viewed_values x.payload) from r
+      → StoresTo L.seen L.moves options a c s at v place r
   case_stored t a c m ys s at n inner x v place from r small room seen given en ei ey w put ef h =
       let bytes : n ≡ tag_size (case_count seen.cases) = en ∙ seen.info.size in
       let here : inner ≡ at + payload_offset false seen.cases = ei ∙ ap (λ (o : ℕ). at + o) seen.info.offset in
       let whole : written_over a.memory m ≡ m = written_whole a.memory m (w.same_length ∙ ap length ey) in
-      let Step : List ℕ → Members → ℕ → ℕ → Type 0 = λ bs ms o f. PartsStoreTo L.seen L.moves options (record a { memory = bs }) c place ms 0 o (names_of x.payload) (values_of x.payload) f r in
+      let Step : List ℕ → Members → ℕ → ℕ → Type 0 = λ bs ms o f. PartsStoreTo L.seen L.moves options (record a { memory = bs }) c place ms 0 o (viewed_names x.payload) (viewed_values x.payload) f r in
       subst (λ (y : Shape). StoresTo L.seen L.moves options a c y at v place r) (sym seen.shape)
-      (case_stores a c m seen.kind seen.cases at x.tag (names_of x.payload) (values_of x.payload) v place r small (omega (arith, room, ap (size false) seen.shape))
-      (ap (passes v) (sym seen.shape) ∙ given ∙ ap (λ (ms : Members). all_passes ms (values_of x.payload)) seen.shapes) seen.inside (omega (arith, seen.inside, seen.info.few)) seen.is
+      (case_stores a c m seen.kind seen.cases at x.tag (viewed_names x.payload) (viewed_values x.payload) v place r small (omega (arith, room, ap (size false) seen.shape))
+      (ap (passes v) (sym seen.shape) ∙ given ∙ ap (λ (ms : Members). all_passes ms (viewed_values x.payload)) seen.shapes) seen.inside (omega (arith, seen.inside, seen.info.few)) seen.is
       (seen.names ∙ ap member_names seen.shapes)
       (subst (λ (j : ℕ). Writes (block at j) a.memory m) bytes (subst (λ (bs : List ℕ). Writes (block at n) bs m) ey w)) (subst (λ (j : ℕ). num (narrow m) at j ≡ x.tag % 256 ^ j) bytes put)
       (subst (λ (bs : List ℕ). Step bs (case_members seen.cases x.tag) (at + payload_offset false seen.cases) (cap (place + 1))) whole

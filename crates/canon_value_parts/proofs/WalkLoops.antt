@@ -5,7 +5,7 @@ use Rattle.canon_memory.specs.declared.event.Event.{Event}
 use Rattle.canon_model.specs.Layout.{begins, ends, members_end, size}
 use Rattle.canon_model.specs.Shape.{Members, Name, Shape, member, member_count, no_members}
 use Rattle.canon_types.specs.Depth.{deepest, depth}
-use Rattle.canon_types.specs.Table.{Knows, Table, shape_of}
+use Rattle.canon_types.specs.Table.{Knows, TypeTable, shape_of}
 use Rattle.canon_types.specs.declared.types.InterfaceType.{InterfaceType}
 use Rattle.canon_context.specs.Core.{Parts, component_types}
 use Rattle.canon_context.specs.Asks.{SameButHandles}
@@ -56,9 +56,9 @@ module _ {T G : Type 0} (L : GuestLaws G) (options place : ℕ) (ms : Members) (
         let same : component_types now ≡ component_types start = handles_types start now h.same in
         let end : members_end false o (members_from i ms) ≡ members_end false o (member is.name s (members_from (i + 1) ms)) = ap (members_end false o) is.shapes in
         let first = member_room is.name s (members_from (i + 1) ms) o in
-        let bytes : size false (shape_of (component_types now) m.ty) ≡ size false s = ap (λ (x : Table). size false (shape_of x m.ty)) same in
+        let bytes : size false (shape_of (component_types now) m.ty) ≡ size false s = ap (λ (x : TypeTable). size false (shape_of x m.ty)) same in
         record {
-          known = subst (λ (x : Table). Knows x m.ty) (sym same) is.known;
+          known = subst (λ (x : TypeTable). Knows x m.ty) (sym same) is.known;
           room = omega (arith, end, first, h.room, h.longer, bytes);
           fits = omega (arith, end, first, h.room, h.longer, h.small);
           small = h.small;
@@ -77,7 +77,7 @@ module _ {T G : Type 0} (L : GuestLaws G) (options place : ℕ) (ms : Members) (
         → StoresTo L.seen L.moves options now now2 s (at + begins false o s) m.value.now next r
     stood now2 options2 p r eo ep g =
         subst (λ (b : ℕ). StoresTo L.seen L.moves options now now2 s (at + b) m.value.now next r) ep
-        (subst (λ (x : Table). StoresTo L.seen L.moves options now now2 (shape_of x m.ty) (at + p) m.value.now next r) (handles_types start now h.same)
+        (subst (λ (x : TypeTable). StoresTo L.seen L.moves options now now2 (shape_of x m.ty) (at + p) m.value.now next r) (handles_types start now h.same)
         (subst (λ (n : ℕ). StoresTo L.seen L.moves n now now2 (shape_of (component_types now) m.ty) (at + p) m.value.now next r) eo g))
 
     pub go_on : (now2 : Parts T G) (options2 p next2 o2 : ℕ) → IsTrue m.is_named → options2 ≡ options → p ≡ begins false o s → o2 ≡ ends false o s → next2 < 2 ^ 64

@@ -14,7 +14,7 @@ use Rattle.canon_lowering.specs.Lowering.{Ending, done, refused}
 use Rattle.canon_lowering.specs.Steps.{Writes}
 use Rattle.canon_lowering.specs.Storing.{IsPair, narrow}
 use Rattle.canon_model.specs.Layout.{begins, ends, scalar_size, size}
-use Rattle.canon_model.specs.Memory.{num}
+use Rattle.canon_model.specs.Memory.{cap, num}
 use Rattle.canon_model.specs.Rep.{IsLeast, ScalarIs}
 use Rattle.canon_model.specs.Requests.{requests}
 use Rattle.canon_model.specs.Shape.{ListKind, Members, Name, Shape, borrow, fixed, flags, list, member, member_count, no_members, of_items, own, product, scalar, string, variant, ProductKind}
@@ -29,7 +29,7 @@ use Rattle.canon_value_parts.specs.Fails.{Blames, Failure, FailsAt, MemberFails,
 use Rattle.canon_context.specs.Lowers.{ending_of, fault_ending}
 use Rattle.canon_context.specs.Quiet.{has_block, have_block}
 use Rattle.canon_value_parts.specs.Stores.{PlacesCounted, FieldsCount, PartsStoreTo, PlacesTo, StoresTo}
-use Rattle.canon_val.specs.Value.{EachHas, HasTree, HaveTrees, IsFixed, IsProduct, all_places, cap, member_names, no_names, places, HasTreeAs, HaveTreesAs}
+use Rattle.canon_val.specs.Value.{EachHas, HasTree, HaveTrees, IsFixed, IsProduct, all_places, member_names, no_names, places, HasTreeAs, HaveTreesAs}
 use Rattle.canon_value_parts.specs.Viewed.{HasMembers}
 use Rattle.canon_plan.specs.Plan.{LiesAs}
 use Rattle.canon_value_parts.specs.Words.{IsWordOf}

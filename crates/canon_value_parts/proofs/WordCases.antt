@@ -17,15 +17,16 @@ use Rattle.canon_model.specs.Layout.{cases_flat, flat, members_flat}
 use Rattle.canon_model.specs.Shape.{Cases, Members, Name, Shape, VariantKind, bare, case_count, no_cases, payload, variant}
 use Rattle.canon_model.specs.Text.{Encoding}
 use Rattle.canon_model.specs.Tree.{Trees}
-use Rattle.canon_types.specs.Table.{Table}
+use Rattle.canon_types.specs.Table.{TypeTable}
 use Rattle.canon_context.specs.Core.{Parts, encoding_by, moment_of}
 use Rattle.canon_value_parts.specs.Fails.{FailsAt}
 use Rattle.canon_context.specs.Lowers.{fault_ending}
 use Rattle.canon_value_parts.proofs.Passing.{passes_as}
 use Rattle.canon_value_parts.specs.Resources.{all_passes, passes}
 use Rattle.canon_value_parts.specs.Stores.{PlacesCounted, FieldsCount}
-use Rattle.canon_val.specs.Value.{HasTree, IsCase, cap, member_names, places}
-use Rattle.canon_value_parts.specs.View.{names_of, shapes_of, values_of}
+use Rattle.canon_val.specs.Value.{HasTree, IsCase, member_names, places}
+use Rattle.canon_model.specs.Memory.{cap}
+use Rattle.canon_value_parts.specs.View.{viewed_names, viewed_shapes, viewed_values}
 use Rattle.canon_value_parts.specs.Viewed.{IsCaseSeen}
 use Rattle.canon_value_parts.specs.Words.{Clears, LowersTo, PartsLowerTo, behind_tag}
 use Rattle.canon_value_parts.specs.declared.case_view.Case.{Case}
@@ -135,18 +136,18 @@ module _ {T G : Type 0} (L : GuestLaws G) (options : ℕ) where
         quiet = λ none. h.quiet (case_quiet cs d none);
       }
 
-  module _ (t : Table) (a c : Parts T G) (dst dst1 dst2 : List ℕ) (from first : Spot) (s : Shape) (x : Case) (v : Val) (seen : IsCaseSeen t s v x) (e1 : dst1 ≡ set dst from.word x.tag) (ef : first ≡ behind_tag from)
-      (given : passes v s ≡ all_passes (shapes_of t x.payload) (values_of x.payload)) where
+  module _ (t : TypeTable) (a c : Parts T G) (dst dst1 dst2 : List ℕ) (from first : Spot) (s : Shape) (x : Case) (v : Val) (seen : IsCaseSeen t s v x) (e1 : dst1 ≡ set dst from.word x.tag) (ef : first ≡ behind_tag from)
+      (given : passes v s ≡ all_passes (viewed_shapes t x.payload) (viewed_values x.payload)) where
     abbrev payload_lowered : Result Spot Fault → Type 0
-    payload_lowered r = PartsLowerTo L.seen L.moves options a c dst1 dst2 first r from.place (shapes_of t x.payload) (names_of x.payload) (values_of x.payload)
+    payload_lowered r = PartsLowerTo L.seen L.moves options a c dst1 dst2 first r from.place (viewed_shapes t x.payload) (viewed_names x.payload) (viewed_values x.payload)
 
-    given_there : passes v (variant seen.kind seen.cases) ≡ all_passes (case_members seen.cases x.tag) (values_of x.payload)
-    given_there = ap (passes v) (sym seen.shape) ∙ given ∙ ap (λ (ms : Members). all_passes ms (values_of x.payload)) seen.shapes
+    given_there : passes v (variant seen.kind seen.cases) ≡ all_passes (case_members seen.cases x.tag) (viewed_values x.payload)
+    given_there = ap (passes v) (sym seen.shape) ∙ given ∙ ap (λ (ms : Members). all_passes ms (viewed_values x.payload)) seen.shapes
 
-    by_case : (r : Result Spot Fault) → payload_lowered r → PartsLowerTo L.seen L.moves options a c dst1 dst2 (behind_tag from) r from.place (case_members seen.cases x.tag) (names_of x.payload) (values_of x.payload)
+    by_case : (r : Result Spot Fault) → payload_lowered r → PartsLowerTo L.seen L.moves options a c dst1 dst2 (behind_tag from) r from.place (case_members seen.cases x.tag) (viewed_names x.payload) (viewed_values x.payload)
     by_case r h =
-        subst (λ (ms : Members). PartsLowerTo L.seen L.moves options a c dst1 dst2 (behind_tag from) r from.place ms (names_of x.payload) (values_of x.payload)) seen.shapes
-        (subst (λ (i : Spot). PartsLowerTo L.seen L.moves options a c dst1 dst2 i r from.place (shapes_of t x.payload) (names_of x.payload) (values_of x.payload)) ef h)
+        subst (λ (ms : Members). PartsLowerTo L.seen L.moves options a c dst1 dst2 (behind_tag from) r from.place ms (viewed_names x.payload) (viewed_values x.payload)) seen.shapes
+        (subst (λ (i : Spot). PartsLowerTo L.seen L.moves options a c dst1 dst2 i r from.place (viewed_shapes t x.payload) (viewed_names x.payload) (viewed_values x.payload)) ef h)
 
     pub case_lowered : (dst3 : List ℕ) (past to : Spot) (end : ℕ) → from.word + flat s ≤ length dst → end ≡ from.word + flat s → Clears past.word end dst2 dst3 → to ≡ record { word = end; place = past.place } → payload_lowered (Ok past)
         → LowersTo L.seen L.moves options a c dst dst3 from (Ok to) s v
@@ -154,17 +155,18 @@ module _ {T G : Type 0} (L : GuestLaws G) (options : ℕ) where
         let whole : end ≡ from.word + flat (variant seen.kind seen.cases) = ee ∙ ap (λ (y : Shape). from.word + flat y) seen.shape in
         subst (λ (y : Shape). LowersTo L.seen L.moves options a c dst dst3 from (Ok to) y v) (sym seen.shape)
         (subst (λ (i : Spot). LowersTo L.seen L.moves options a c dst dst3 from (Ok i) (variant seen.kind seen.cases) v) (sym (et ∙ ap (λ (n : ℕ). record { word = n; place = past.place }) whole))
-        (case_lowers a c dst dst1 dst2 dst3 from past seen.kind seen.cases x.tag (names_of x.payload) (values_of x.payload) v seen.inside (omega (arith, seen.inside, seen.info.few)) seen.is (seen.names ∙ ap member_names seen.shapes) e1
+        (case_lowers a c dst dst1 dst2 dst3 from past seen.kind seen.cases x.tag (viewed_names x.payload) (viewed_values x.payload) v seen.inside (omega (arith, seen.inside, seen.info.few)) seen.is
+        (seen.names ∙ ap member_names seen.shapes) e1
         (omega (arith, room, ap flat seen.shape)) (subst (λ (n : ℕ). Clears past.word n dst2 dst3) whole clears) given_there (by_case (Ok past) h)))
 
     pub case_stopped : (e : Fault) → payload_lowered (Err e) → LowersTo L.seen L.moves options a c dst dst2 from (Err e) s v
     case_stopped e h =
         subst (λ (y : Shape). LowersTo L.seen L.moves options a c dst dst2 from (Err e) y v) (sym seen.shape)
-        (case_stops a c dst dst1 dst2 from seen.kind seen.cases x.tag (names_of x.payload) (values_of x.payload) v e seen.inside (omega (arith, seen.inside, seen.info.few)) seen.is
+        (case_stops a c dst dst1 dst2 from seen.kind seen.cases x.tag (viewed_names x.payload) (viewed_values x.payload) v e seen.inside (omega (arith, seen.inside, seen.info.few)) seen.is
         (seen.names ∙ ap member_names seen.shapes) e1 given_there (by_case (Err e) h))
 
 -- the words of a case and of its payload are within the type's
-pub case_room : (t : Table) (s : Shape) (v : Val) (c : Case) → IsCaseSeen t s v c → 1 + members_flat (shapes_of t c.payload) ≤ flat s
+pub case_room : (t : TypeTable) (s : Shape) (v : Val) (c : Case) → IsCaseSeen t s v c → 1 + members_flat (viewed_shapes t c.payload) ≤ flat s
 case_room t s v c h = omega (arith, ap members_flat h.shapes, ap flat h.shape, variant_flat h.kind h.cases, payload_words h.cases c.tag)
 
 -- ---- words become 0 one after another

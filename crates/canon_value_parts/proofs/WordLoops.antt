@@ -6,7 +6,7 @@ use Rattle.canon_memory.specs.Guest.{GuestIn, Seen}
 use Rattle.canon_memory.specs.declared.event.Event.{Event}
 use Rattle.canon_model.specs.Layout.{flat, members_flat}
 use Rattle.canon_model.specs.Shape.{Members, Name, Shape, member, member_count, no_members}
-use Rattle.canon_types.specs.Table.{Knows, Table, shape_of}
+use Rattle.canon_types.specs.Table.{Knows, TypeTable, shape_of}
 use Rattle.canon_types.specs.declared.types.InterfaceType.{InterfaceType}
 use Rattle.canon_context.specs.Core.{Parts, component_types}
 use Rattle.canon_context.specs.Asks.{SameButHandles}
@@ -50,9 +50,9 @@ module _ {T G : Type 0} (L : GuestLaws G) (options place : ℕ) (ms : Members) (
     pub has_room : HasRoom now dst next m.ty
     has_room =
         let same : component_types now ≡ component_types start = handles_types start now h.same in
-        let count : flat (shape_of (component_types now) m.ty) ≡ flat s = ap (λ (x : Table). flat (shape_of x m.ty)) same in
+        let count : flat (shape_of (component_types now) m.ty) ≡ flat s = ap (λ (x : TypeTable). flat (shape_of x m.ty)) same in
         record {
-          known = subst (λ (x : Table). Knows x m.ty) (sym same) is.known;
+          known = subst (λ (x : TypeTable). Knows x m.ty) (sym same) is.known;
           room = omega (arith, words, h.room, count);
           small = h.small;
         }
@@ -69,7 +69,7 @@ module _ {T G : Type 0} (L : GuestLaws G) (options place : ℕ) (ms : Members) (
     stood : (now2 : Parts T G) (dst2 : List ℕ) (options2 : ℕ) (r : Result Spot Fault) → options2 ≡ options → LowersTo L.seen L.moves options2 now now2 dst dst2 next r (shape_of (component_types now) m.ty) m.value.now
         → LowersTo L.seen L.moves options now now2 dst dst2 next r s m.value.now
     stood now2 dst2 options2 r eo g =
-        subst (λ (x : Table). LowersTo L.seen L.moves options now now2 dst dst2 next r (shape_of x m.ty) m.value.now) (handles_types start now h.same)
+        subst (λ (x : TypeTable). LowersTo L.seen L.moves options now now2 dst dst2 next r (shape_of x m.ty) m.value.now) (handles_types start now h.same)
         (subst (λ (n : ℕ). LowersTo L.seen L.moves n now now2 dst dst2 next r (shape_of (component_types now) m.ty) m.value.now) eo g)
 
     pub go_on : (now2 : Parts T G) (dst2 : List ℕ) (options2 : ℕ) (next2 : Spot) → IsTrue m.is_named → options2 ≡ options → LowersTo L.seen L.moves options2 now now2 dst dst2 next (Ok next2) (shape_of (component_types now) m.ty) m.value.now

@@ -3,7 +3,8 @@ use Rattle.std.proofs.Common.{◌∙◌, ◌++◌, List, [], ◌∷◌, subst, s
 use Rattle.canon_model.specs.Shape.{Cases, Members, Shape, bare, borrow, fixed, flags, list, member, no_cases, no_members, own, payload, product, scalar, string, variant, Name, member_count}
 use Rattle.canon_model.specs.Tree.{Tree, Trees, no_trees, payload_of}
 use Rattle.canon_model.specs.Fits.{AllTrees, CaseFits, Fits, MembersFit}
-use Rattle.canon_val.specs.Value.{CaseHas, EachHas, HasTree, HaveTrees, cap, member_names, no_names}
+use Rattle.canon_val.specs.Value.{CaseHas, EachHas, HasTree, HaveTrees, member_names, no_names}
+use Rattle.canon_model.specs.Memory.{cap}
 use Rattle.canon_val.specs.declared.val.Val.{Val}
 use Rattle.canon_value_parts.proofs.Contents.{each_count}
 use Rattle.canon_lowering.proofs.Parameters.{args_near}

@@ -9,7 +9,7 @@ use Rattle.canon_model.specs.Memory.{low, num}
 use Rattle.canon_model.specs.Rep.{bits_of}
 use Rattle.canon_model.specs.Shape.{Name, Shape, flags}
 use Rattle.canon_model.specs.Tree.{bits}
-use Rattle.canon_types.specs.Table.{Table, shape_of}
+use Rattle.canon_types.specs.Table.{TypeTable, shape_of}
 use Rattle.canon_types.specs.declared.types.InterfaceType.{InterfaceType}
 use Rattle.canon_types.specs.declared.types.InterfaceType.TheVariants as ty
 use Rattle.canon_val.specs.Value.{AreMarked, IsLiftedFrom, Occurs}
@@ -26,7 +26,7 @@ names_in_flags (flags names) = names
 names_in_flags _ = []
 
 -- of the flags type of a number
-abbrev pub flag_names : Table → ℕ → List Name
+abbrev pub flag_names : TypeTable → ℕ → List Name
 flag_names t i = names_in_flags (shape_of t (ty.Flags i))
 
 abbrev pub IsFlagsType : InterfaceType → Type 0

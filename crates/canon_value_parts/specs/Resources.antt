@@ -5,7 +5,7 @@ use Rattle.canon_context.specs.declared.fault.Fault.{Fault}
 use Rattle.canon_context.specs.declared.fault.Fault.TheVariants as fault
 use Rattle.canon_context.specs.Core.{Parts}
 use Rattle.canon_context.specs.Lowers.{ending_of, fault_ending}
-use Rattle.canon_leaves.specs.Parts.{LeavesLift, LeavesStop, LeavesTake, Passed, lift_parts, lower_parts, passed, refusal_of}
+use Rattle.canon_leaves.specs.Parts.{LeavesLift, LeavesStop, LeavesTake, PassedResource, lift_parts, lower_parts, passed, refusal_of}
 use Rattle.canon_ledger.specs.Ledger.{LedgerState}
 use Rattle.canon_ledger.specs.declared.fault.ResourceFault.{ResourceFault}
 use Rattle.canon_ledger.specs.declared.fault.ResourceFault.TheVariants as resource
@@ -19,6 +19,7 @@ use Rattle.canon_types.specs.Instance.{Instance}
 use Rattle.canon_val.specs.Value.{case_names}
 use Rattle.canon_val.specs.declared.val.Val.{Val, fold-Val}
 use Rattle.canon_val.specs.declared.val.Val.TheOpen.{Val-F}
+use Rattle.canon_context.specs.Faults.{stop_of}
 use Rattle.canon_val.specs.declared.val.Val.TheVariants as val
 
 -- ---- of values alone
@@ -48,13 +49,13 @@ all_resources vs = joined (map resources vs)
 -- ---- where handles are wanted
 
 -- where members of these shapes are wanted: what each passes where its shape is, one after the other
-abbrev pub row_passes : Members → List (Shape → List Passed) → List Passed
+abbrev pub row_passes : Members → List (Shape → List PassedResource) → List PassedResource
 row_passes no_members fs = []
 row_passes (member name s ms) [] = []
 row_passes (member name s ms) (f ∷ fs) = f s ++ row_passes ms fs
 
 -- the same where there are as many
-abbrev pub full_passes : Members → List (Shape → List Passed) → List Passed
+abbrev pub full_passes : Members → List (Shape → List PassedResource) → List PassedResource
 full_passes ms fs = if length fs == member_count ms then row_passes ms fs else []
 
 -- the place of a name among names: the first, or how many there are
@@ -69,7 +70,7 @@ turns_of (p ∷ ps) = p.0 ∷ p.1 ∷ turns_of ps
 
 -- What a value passes where a type is wanted: the resources that stand where handles are, below parts that have the shape of
 -- their types. A part that hasn't passes nothing.
-abbrev pub passes_step : Val-F (Shape → List Passed) → Shape → List Passed
+abbrev pub passes_step : Val-F (Shape → List PassedResource) → Shape → List PassedResource
 passes_step (Val-F.Resource x) (own r) = passed true r x ∷ []
 passes_step (Val-F.Resource x) (borrow r) = passed false r x ∷ []
 passes_step (Val-F.Record fields) (product of_fields ms) = full_passes ms (map (λ f. f.1) fields.items)
@@ -83,11 +84,11 @@ passes_step (Val-F.Result (Ok (Some b))) (variant of_result cs) = row_passes (ca
 passes_step (Val-F.Result (Err (Some b))) (variant of_result cs) = row_passes (case_members cs 1) (b.value ∷ [])
 passes_step _ _ = []
 
-abbrev pub passes : Val → Shape → List Passed
-passes = fold-Val (Shape → List Passed) passes_step
+abbrev pub passes : Val → Shape → List PassedResource
+passes = fold-Val (Shape → List PassedResource) passes_step
 
 -- values in a row, as members of these shapes
-abbrev pub all_passes : Members → List Val → List Passed
+abbrev pub all_passes : Members → List Val → List PassedResource
 all_passes ms vs = row_passes ms (map passes vs)
 
 -- ---- through the ledger
@@ -97,11 +98,6 @@ abbrev pub ledger_fault : Fault → Option ResourceFault
 ledger_fault (fault.Resource e) = Some e
 ledger_fault _ = None
 
--- the refusal that stopped a walk, if it was the ledger's; out of memory is none
-abbrev pub stop_of : Fault → Option ResourceFault
-stop_of (fault.Resource e) = refusal_of e
-stop_of _ = None
-
 -- the number, where there is one
 abbrev pub number_given : Result ℕ Fault → List ℕ
 number_given (Ok h) = h ∷ []
@@ -109,19 +105,19 @@ number_given (Err e) = []
 
 -- What was passed went through the ledger in order, as far as the walk went, and was given these handles. The ledger stops a walk
 -- only where something is passed.
-abbrev pub LowersHandles : {T : Type 0} → Instance → LedgerState → LedgerState → List Passed → List ℕ → Result T Fault → Type 0
+abbrev pub LowersHandles : {T : Type 0} → Instance → LedgerState → LedgerState → List PassedResource → List ℕ → Result T Fault → Type 0
 LowersHandles types before after ps hs (Ok x) = LeavesTake before (map (lower_parts types) ps) hs after
 LowersHandles types before after ps hs (Err e) = LeavesStop (stop_of e) before (map (lower_parts types) ps) after × (ledger_fault e ≡ None ⊎ ¬ (ps ≡ []))
 
 -- one resource was passed: the number that the guest is given for it, and nothing but the ledger changed
-pub record GivesHandle {T G : Type 0} (before after : Parts T G) (p : Passed) (result : Result ℕ Fault) : Type 0 where
+pub record GivesHandle {T G : Type 0} (before after : Parts T G) (p : PassedResource) (result : Result ℕ Fault) : Type 0 where
   pub passed : LowersHandles before.component.types before.ledger after.ledger (p ∷ []) (number_given result) result
   pub only_ledger : after ≡ record before { ledger = after.ledger }
   pub refusal : IfErr result (λ e. (r : ResourceFault) × (e ≡ fault.Resource r))
   pub narrow : IfOk result (λ h. h < 2 ^ 32)
 
 -- what was passed on the way from one core to another, and the lowering, which gave these handles
-pub record PartsLower {T G X : Type 0} (before after : Parts T G) (ps : List Passed) (Lowered : List ℕ → Type 0) (result : Result X Fault) : Type 0 where
+pub record PartsLower {T G X : Type 0} (before after : Parts T G) (ps : List PassedResource) (Lowered : List ℕ → Type 0) (result : Result X Fault) : Type 0 where
   pub handles : List ℕ
   pub lowered : Lowered handles
   pub passed : LowersHandles before.component.types before.ledger after.ledger ps handles result
@@ -132,17 +128,17 @@ told_fault (fault.Resource resource.OutOfMemory) = fault.OutOfMemory
 told_fault e = e
 
 -- handles are reached by the types, and some are passed
-abbrev pub UsesLedger : Bool → List Passed → Type 0
+abbrev pub UsesLedger : Bool → List PassedResource → Type 0
 UsesLedger handles ps = (handles ≡ true) × ¬ (ps ≡ [])
 
 -- How a lowering ended with this answer. Memory that the ledger wanted ended it as a fault of the value does; that is kept apart from
 -- want of the guest's memory only inside.
-abbrev pub EndsAs : {T : Type 0} → Bool → List Passed → Result T Fault → Ending → Type 0
+abbrev pub EndsAs : {T : Type 0} → Bool → List PassedResource → Result T Fault → Ending → Type 0
 EndsAs handles ps (Err fault.OutOfMemory) ending = (ending ≡ short) ⊎ (UsesLedger handles ps × (ending ≡ refused))
 EndsAs handles ps result ending = ending ≡ ending_of result
 
 -- A lowering of a value, or of values, that reach handles or not and pass these resources: it ended so, and gave these handles.
-pub record Crosses {T : Type 0} (types : Instance) (handles : Bool) (ps : List Passed) (Attempted : List ℕ → Ending → Type 0) (before after : LedgerState) (result : Result T Fault) : Type 0 where
+pub record Crosses {T : Type 0} (types : Instance) (handles : Bool) (ps : List PassedResource) (Attempted : List ℕ → Ending → Type 0) (before after : LedgerState) (result : Result T Fault) : Type 0 where
   pub given : List ℕ
   pub ending : Ending
   pub ends : EndsAs handles ps result ending
@@ -153,7 +149,7 @@ pub record Crosses {T : Type 0} (types : Instance) (handles : Bool) (ps : List P
 
 -- where no text, list or map is reached, the same is there as before, and a refusal is for the value alone, or a shortage of memory in
 -- the ledger where handles are passed
-abbrev pub QuietBut : {T : Type 0} → Bool → List Passed → Bool → Type 0 → Result T Fault → Type 0
+abbrev pub QuietBut : {T : Type 0} → Bool → List PassedResource → Bool → Type 0 → Result T Fault → Type 0
 QuietBut handles ps blocks same result = blocks ≡ false → same × IfErr result (λ e. (fault_ending e ≡ refused) ⊎ (UsesLedger handles ps × (e ≡ fault.OutOfMemory)))
 
 -- The handles at these leaves went through the ledger in order, as far as the walk went; what was lifted has the resources that

@@ -11,7 +11,8 @@ use Rattle.canon_context.specs.Lowers.{ending_of}
 use Rattle.canon_context.specs.Moves.{Moves}
 use Rattle.canon_context.specs.Quiet.{Quiet, has_block, have_block}
 use Rattle.canon_value_parts.specs.Resources.{LowersHandles, all_passes, passes}
-use Rattle.canon_val.specs.Value.{HasTree, HaveTrees, all_places, cap, member_names, places}
+use Rattle.canon_val.specs.Value.{HasTree, HaveTrees, all_places, member_names, places}
+use Rattle.canon_model.specs.Memory.{cap}
 use Rattle.canon_value_parts.specs.declared.blocks.Placed.{Placed}
 use Rattle.canon_context.specs.declared.fault.Fault.{Fault}
 use Rattle.canon_context.specs.declared.fault.Fault.TheVariants as fault

@@ -4,7 +4,7 @@ use Rattle.canon_lowering.specs.Copies.{copies}
 use Rattle.canon_model.specs.Shape as shape
 use Rattle.canon_model.specs.Shape.{Name, member, member_count, no_members}
 use Rattle.canon_types.specs.Depth.{product_members}
-use Rattle.canon_types.specs.Table.{HasTuple, Knows, Table, shape_of, tuple_members}
+use Rattle.canon_types.specs.Table.{HasTuple, Knows, TypeTable, shape_of, tuple_members}
 use Rattle.canon_types.specs.declared.types.InterfaceType.TheVariants as ty
 use Rattle.canon_plan.specs.Element.{IsMap, row_of}
 use Rattle.canon_value_parts.specs.Elements.{by_turns}
@@ -16,32 +16,32 @@ use Rattle.canon_val.specs.declared.val.Val.{Val}
 use Rattle.canon_plan.specs.Plan.{members_from}
 
 -- their shapes, by the table, their values and their names
-abbrev pub shapes_of : Table → Members → shape.Members
-shapes_of t (members.Fields i values) = product_members (shape_of t (ty.Record i))
-shapes_of t (members.Places i values) = tuple_members t i
-shapes_of t (members.Items type values) = copies (length values.now) (shape_of t type)
-shapes_of t members.Empty = no_members
-shapes_of t (members.Single type value) = member [] (shape_of t type) no_members
-shapes_of t (members.Pairs i values) = row_of (shape_of t (ty.Map i)) (length values.now)
+abbrev pub viewed_shapes : TypeTable → Members → shape.Members
+viewed_shapes t (members.Fields i values) = product_members (shape_of t (ty.Record i))
+viewed_shapes t (members.Places i values) = tuple_members t i
+viewed_shapes t (members.Items type values) = copies (length values.now) (shape_of t type)
+viewed_shapes t members.Empty = no_members
+viewed_shapes t (members.Single type value) = member [] (shape_of t type) no_members
+viewed_shapes t (members.Pairs i values) = row_of (shape_of t (ty.Map i)) (length values.now)
 
-abbrev pub values_of : Members → List Val
-values_of (members.Fields i values) = values_in values.now
-values_of (members.Places i values) = values.now
-values_of (members.Items type values) = values.now
-values_of members.Empty = []
-values_of (members.Single type value) = value.now ∷ []
-values_of (members.Pairs i values) = by_turns values.now
+abbrev pub viewed_values : Members → List Val
+viewed_values (members.Fields i values) = values_in values.now
+viewed_values (members.Places i values) = values.now
+viewed_values (members.Items type values) = values.now
+viewed_values members.Empty = []
+viewed_values (members.Single type value) = value.now ∷ []
+viewed_values (members.Pairs i values) = by_turns values.now
 
-abbrev pub names_of : Members → List Name
-names_of (members.Fields i values) = names_in values.now
-names_of (members.Places i values) = no_names values.now
-names_of (members.Items type values) = no_names values.now
-names_of members.Empty = []
-names_of (members.Single type value) = [] ∷ []
-names_of (members.Pairs i values) = no_names (by_turns values.now)
+abbrev pub viewed_names : Members → List Name
+viewed_names (members.Fields i values) = names_in values.now
+viewed_names (members.Places i values) = no_names values.now
+viewed_names (members.Items type values) = no_names values.now
+viewed_names members.Empty = []
+viewed_names (members.Single type value) = [] ∷ []
+viewed_names (members.Pairs i values) = no_names (by_turns values.now)
 
 -- the table knows their types, as many as there are values
-abbrev pub HaveKnownTypes : Table → Members → Type 0
+abbrev pub HaveKnownTypes : TypeTable → Members → Type 0
 HaveKnownTypes t (members.Fields i values) = Knows t (ty.Record i) × (length values.now ≡ member_count (product_members (shape_of t (ty.Record i))))
 HaveKnownTypes t (members.Places i values) = HasTuple t i × (length values.now ≡ member_count (tuple_members t i))
 HaveKnownTypes t (members.Items type values) = Knows t type
@@ -55,7 +55,7 @@ AreFew (members.Pairs i values) = length values.now < 2 ^ 32
 AreFew _ = ⊤
 
 -- of members of these shapes, names and values, the one of number k
-pub record IsMember (t : Table) (ms : shape.Members) (all : List Name) (vs : List Val) (k : ℕ) (m : Member) : Type 0 where
+pub record IsMember (t : TypeTable) (ms : shape.Members) (all : List Name) (vs : List Val) (k : ℕ) (m : Member) : Type 0 where
   pub known : Knows t m.ty
   pub name : Name
   pub named : Name

@@ -19,7 +19,8 @@ use Rattle.canon_context.specs.Quiet.{Quiet, has_block, have_block}
 use Rattle.canon_context.specs.Asks.{SameButHandles}
 use Rattle.canon_value_parts.specs.Resources.{LowersHandles, all_passes, passes}
 use Rattle.canon_value_parts.specs.Stores.{PlacesCounted, FieldsCount}
-use Rattle.canon_val.specs.Value.{HasScalar, HasTree, HaveTrees, cap, member_names, places}
+use Rattle.canon_val.specs.Value.{HasScalar, HasTree, HaveTrees, member_names, places}
+use Rattle.canon_model.specs.Memory.{cap}
 use Rattle.canon_context.specs.declared.fault.Fault.{Fault}
 use Rattle.canon_value_parts.specs.declared.spot.Spot.{Spot}
 use Rattle.canon_val.specs.declared.val.Val.{Val}

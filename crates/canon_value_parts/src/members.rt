@@ -4,11 +4,11 @@ ghost use Rattle.std.specs.Prelude.{[], length, ◌<◌, ◌^◌, ◌∷◌, ◌
 ghost use Rattle.canon_lowering.specs.Copies.{copies};
 ghost use Rattle.canon_model.specs.Shape.{member, member_count, no_members};
 ghost use Rattle.canon_types.specs.Depth.{product_members};
-ghost use Rattle.canon_types.specs.Table.{HasTuple, Knows, Table, shape_of, tuple_members};
+ghost use Rattle.canon_types.specs.Table.{HasTuple, Knows, TypeTable, shape_of, tuple_members};
 ghost use Rattle.canon_plan.specs.Element.{IsKnown, list_shape, row_of};
 ghost use Rattle.canon_value_parts.specs.Elements.{by_turns, element_in, list_length, values_listed};
 ghost use Rattle.canon_val.specs.Value.{names_in, no_names, values_in};
-ghost use Rattle.canon_value_parts.specs.View.{AreFew, HaveKnownTypes, IsMember, names_of, shapes_of, values_of};
+ghost use Rattle.canon_value_parts.specs.View.{AreFew, HaveKnownTypes, IsMember, viewed_names, viewed_shapes, viewed_values};
 
 use crate::elements::Elements;
 use canon_types::{ComponentTypes, InterfaceType, TypeMapIndex, TypeRecordIndex, TypeTupleIndex};
@@ -39,7 +39,7 @@ pub struct Member<'a> {
 /// How many there are.
 pub fn count_of(members: &Members<'_>) -> usize
     requires few { AreFew members.now }
-    ensures { result ≡ length (values_of members.now) }
+    ensures { result ≡ length (viewed_values members.now) }
 {
     match members {
         Members::Fields(_, values) => values.len(),
@@ -54,8 +54,8 @@ pub fn count_of(members: &Members<'_>) -> usize
 /// The one of this number.
 pub fn member_of<'a>(types: &ComponentTypes, members: &Members<'a>, k: usize) -> Member<'a>
     requires known { HaveKnownTypes types.now members.now }
-    requires inside { k < length (values_of members.now) }
-    ensures { IsMember types.now (shapes_of types.now members.now) (names_of members.now) (values_of members.now) k result }
+    requires inside { k < length (viewed_values members.now) }
+    ensures { IsMember types.now (viewed_shapes types.now members.now) (viewed_names members.now) (viewed_values members.now) k result }
 {
     match members {
         Members::Fields(i, values) => field_of(types, *i, values, k),
@@ -175,10 +175,10 @@ fn pair_of<'a>(
 /// The elements of a list, as members.
 pub fn members_in<'a>(list: &Elements<'a>) -> Members<'a>
     requires few { list_length list.now < 2 ^ 32 }
-    ensures known { (t : Table) → IsKnown t (element_in list.now) → HaveKnownTypes t result }
-    ensures shapes { (t : Table) → shapes_of t result ≡ row_of (list_shape t (element_in list.now)) (list_length list.now) }
-    ensures names { names_of result ≡ no_names (values_listed list.now) }
-    ensures values { values_of result ≡ values_listed list.now }
+    ensures known { (t : TypeTable) → IsKnown t (element_in list.now) → HaveKnownTypes t result }
+    ensures shapes { (t : TypeTable) → viewed_shapes t result ≡ row_of (list_shape t (element_in list.now)) (list_length list.now) }
+    ensures names { viewed_names result ≡ no_names (values_listed list.now) }
+    ensures values { viewed_values result ≡ values_listed list.now }
 {
     match list {
         Elements::Items(ty, items) => Members::Items(*ty, items),

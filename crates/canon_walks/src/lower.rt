@@ -18,7 +18,7 @@ ghost use Rattle.canon_context.specs.Quiet.{Quiet, have_block};
 ghost use Rattle.canon_context.specs.Asks.{SameButHandles};
 ghost use Rattle.canon_val.specs.declared.val.Val.TheVariants as val;
 ghost use Rattle.canon_val.specs.Value.{HaveTrees};
-ghost use Rattle.canon_value_parts.specs.View.{HaveKnownTypes, names_of, shapes_of, values_of};
+ghost use Rattle.canon_value_parts.specs.View.{HaveKnownTypes, viewed_names, viewed_shapes, viewed_values};
 ghost use Rattle.canon_value_parts.specs.Viewed.{IsCaseSeen};
 ghost use Rattle.canon_value_parts.specs.Words.{Clears, IsWordOf, LowersTo, PartsLowerTo, WordsStay, behind_tag, inside};
 
@@ -133,11 +133,11 @@ fn lower_parts<T, G: Guest>(
     first: Spot,
 ) -> Result<Spot, Fault>
     requires known { HaveKnownTypes (component_types cx.old.core.now) members.now }
-    requires count { length (values_of members.now) ≡ member_count (shapes_of (component_types cx.old.core.now) members.now) }
+    requires count { length (viewed_values members.now) ≡ member_count (viewed_shapes (component_types cx.old.core.now) members.now) }
     requires small { length cx.old.core.now.memory ≤ 2 ^ 32 }
-    requires room { first.word + members_flat (shapes_of (component_types cx.old.core.now) members.now) ≤ length dst.old }
+    requires room { first.word + members_flat (viewed_shapes (component_types cx.old.core.now) members.now) ≤ length dst.old }
     ensures lowers { PartsLowerTo G.seen G.moves cx.old.options cx.old.core.now cx.new.core.now dst.old dst.new first result place
-        (shapes_of (component_types cx.old.core.now) members.now) (names_of members.now) (values_of members.now) }
+        (viewed_shapes (component_types cx.old.core.now) members.now) (viewed_names members.now) (viewed_values members.now) }
     ensures same_reference { cx.new.core.ghost_name ≡ cx.old.core.ghost_name }
     ensures same_options { cx.new.options ≡ cx.old.options }
 {

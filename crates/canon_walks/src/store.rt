@@ -10,7 +10,7 @@ ghost use Rattle.canon_plan.specs.Element.{IsKnown, list_shape};
 ghost use Rattle.canon_value_parts.specs.Elements.{element_in, list_value};
 ghost use Rattle.canon_value_parts.specs.Stores.{PartsStoreTo, PlacesTo, StoresTo};
 ghost use Rattle.canon_val.specs.declared.val.Val.TheVariants as val;
-ghost use Rattle.canon_value_parts.specs.View.{HaveKnownTypes, names_of, shapes_of, values_of};
+ghost use Rattle.canon_value_parts.specs.View.{HaveKnownTypes, viewed_names, viewed_shapes, viewed_values};
 ghost use Rattle.canon_value_parts.specs.Words.{IsWordOf};
 
 use canon_bytes::{block_size, put_low_bytes, put_pair};
@@ -71,11 +71,11 @@ pub fn store_parts<T, G: Guest>(
     first: u64,
 ) -> Result<u64, Fault>
     requires known { HaveKnownTypes (component_types cx.old.core.now) members.now }
-    requires count { length (values_of members.now) ≡ member_count (shapes_of (component_types cx.old.core.now) members.now) }
+    requires count { length (viewed_values members.now) ≡ member_count (viewed_shapes (component_types cx.old.core.now) members.now) }
     requires small { length cx.old.core.now.memory ≤ 2 ^ 32 }
-    requires room { at + members_end false 0 (shapes_of (component_types cx.old.core.now) members.now) ≤ length cx.old.core.now.memory }
-    ensures stores { PartsStoreTo G.seen G.moves cx.old.options cx.old.core.now cx.new.core.now place (shapes_of (component_types cx.old.core.now) members.now) 0 at
-        (names_of members.now) (values_of members.now) first result }
+    requires room { at + members_end false 0 (viewed_shapes (component_types cx.old.core.now) members.now) ≤ length cx.old.core.now.memory }
+    ensures stores { PartsStoreTo G.seen G.moves cx.old.options cx.old.core.now cx.new.core.now place (viewed_shapes (component_types cx.old.core.now) members.now) 0 at
+        (viewed_names members.now) (viewed_values members.now) first result }
     ensures same_reference { cx.new.core.ghost_name ≡ cx.old.core.ghost_name }
     ensures same_options { cx.new.options ≡ cx.old.options }
 {

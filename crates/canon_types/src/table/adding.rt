@@ -5,7 +5,7 @@ ghost use Rattle.std.specs.List.{list_all, list_any};
 ghost use Rattle.std.specs.Result.{result_err};
 ghost use Rattle.canon_abi.specs.Abi.{AreOfCases, AreOfMembers, HasInfo, HasLayout, TellsLayout};
 ghost use Rattle.canon_model.specs.Layout.{offset, size};
-ghost use Rattle.canon_model.specs.Shape.{VariantKind, fixed, of_option, of_places, product, tuple, tuple_members, variant};
+ghost use Rattle.canon_model.specs.Shape.{VariantKind, fixed, of_option, of_places, product, tuple, unnamed_members, variant};
 ghost use Rattle.canon_types.specs.Depth.{deepest, has_borrow, member_borrows};
 ghost use Rattle.canon_types.specs.Keeps.{IsEntry, KeepsLayout, cases_type, definition_of, entry_of, fields_type, names_of};
 ghost use Rattle.canon_types.specs.Laid.{AreLaid, ArePayloadsLaid, IsPayloadLaid, unnamed_cases};
@@ -314,7 +314,7 @@ impl ComponentTypes {
         requires key { Knows self.now key.now }
         requires value { Knows self.now value.now }
         requires fits { size false (tuple (shape_of self.now key.now ∷ shape_of self.now value.now ∷ [])) < 2 ^ 32 }
-        ensures { result ≡ offset false (tuple_members (shape_of self.now key.now ∷ shape_of self.now value.now ∷ [])) 1 }
+        ensures { result ≡ offset false (unnamed_members (shape_of self.now key.now ∷ shape_of self.now value.now ∷ [])) 1 }
     {
         let mut end = 0;
         self.canonical_abi(key).next_field32(&mut end);

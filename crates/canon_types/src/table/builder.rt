@@ -2,7 +2,7 @@
 
 ghost use Rattle.std.specs.Prelude.{◌≡◌, ◌≢◌, Err, IfErr, IfOk, Ok, OnErr, Some, if◌then◌else◌, length, nat_lt};
 ghost use Rattle.canon_types.specs.Keeps.{cases_type, fields_type, names_of};
-ghost use Rattle.canon_types.specs.Refusal.{Adds, AddsFunc, AddsResource, empty_table, func_refusal, refusal, resource_refusal};
+ghost use Rattle.canon_types.specs.Refusal.{Adds, AddsFunc, AddsResource, empty_type_table, func_refusal, refusal, resource_refusal};
 ghost use Rattle.canon_types.specs.Table.{EnumType, FixedListType, FlagsType, ListType, MapType, OptionType, ResultType, TupleType};
 
 use super::ComponentTypes;
@@ -20,9 +20,9 @@ pub struct TypeBuilder {
 }
 
 impl Model for TypeBuilder {
-    ghost use Rattle.canon_types.specs.Table.{Table};
+    ghost use Rattle.canon_types.specs.Table.{TypeTable};
 
-    ghost Value = { Table };
+    ghost Value = { TypeTable };
 
     ghost view = { λ b. b.types };
 }
@@ -30,7 +30,7 @@ impl Model for TypeBuilder {
 impl TypeBuilder {
     /// A table with no types.
     pub fn new(alloc: Global) -> Self
-        ensures { result ≡ empty_table }
+        ensures { result ≡ empty_type_table }
     {
         TypeBuilder {
             types: ComponentTypes::new(alloc),

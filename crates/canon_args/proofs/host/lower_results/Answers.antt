@@ -8,7 +8,7 @@ use Rattle.canon_lower_parts.specs.Words.{TypedLowers}
 use Rattle.canon_model.specs.Flat.{max_results}
 use Rattle.canon_model.specs.Layout.{flat, members_flat, size}
 use Rattle.canon_model.specs.Shape.{Shape, of_places, product}
-use Rattle.canon_types.specs.Table.{Table, shape_of, tuple_members}
+use Rattle.canon_types.specs.Table.{TypeTable, shape_of, tuple_members}
 use Rattle.canon_types.specs.declared.types.InterfaceType.TheVariants as ty
 use Rattle.canon_value_parts.proofs.Far.{tuple_shape_of_now}
 use Rattle.canon_args.proofs.host.lower_results.Given.{Over}
@@ -19,7 +19,7 @@ shape : (g : Over) (c : After-is_some g) → shape_of c.types.result.now (ty.Tup
 shape g c = tuple_shape_of_now (component_types c.args.cx.now.core.now) c.types.result.now c.args.ty c.tuple.result.now.types.items c.types.ensures c.tuple.ensures.entry c.tuple.ensures.types
 
 now : (g : Over) (c : After-is_some g) → shape_of (component_types c.args.cx.now.core.now) (ty.Tuple c.args.ty) ≡ product of_places (tuple_members (component_types c.args.cx.now.core.now) c.args.ty)
-now g c = ap (λ (t : Table). shape_of t (ty.Tuple c.args.ty)) (sym c.types.ensures) ∙ shape g c
+now g c = ap (λ (t : TypeTable). shape_of t (ty.Tuple c.args.ty)) (sym c.types.ensures) ∙ shape g c
 
 -- whether they go in a row
 few : (g : Over) (c : After-is_some g) → c.is_some.result ≡ true → members_flat (tuple_members (component_types c.args.cx.now.core.now) c.args.ty) ≤ max_results

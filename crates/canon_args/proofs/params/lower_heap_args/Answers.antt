@@ -4,7 +4,7 @@ use Rattle.canon_context.proofs.Moves.{GuestLaws}
 use Rattle.canon_context.specs.Core.{component_types}
 use Rattle.canon_model.specs.Layout.{size}
 use Rattle.canon_model.specs.Shape.{Shape, of_places, product}
-use Rattle.canon_types.specs.Table.{Table, shape_of, tuple_members}
+use Rattle.canon_types.specs.Table.{TypeTable, shape_of, tuple_members}
 use Rattle.canon_types.specs.declared.types.InterfaceType.TheVariants as ty
 use Rattle.canon_value_parts.proofs.Far.{one_word, tuple_shape_of_now}
 use Rattle.canon_args.proofs.Far.{heap_stored, heap_ungiven, other_words, stored_there}
@@ -28,9 +28,9 @@ shape g c =
     let core = c.args.cx.now.core.now in
     let asked = c.ask_tuple.new.cx.core.now in
     let t = component_types asked in
-    ap (λ (t : Table). shape_of t (ty.Tuple c.args.ty)) (sym c.types.ensures)
+    ap (λ (t : TypeTable). shape_of t (ty.Tuple c.args.ty)) (sym c.types.ensures)
     ∙ tuple_shape_of_now t c.types.result.now c.args.ty c.tuple-tuple.result.now.types.items c.types.ensures c.tuple-tuple.ensures.entry c.tuple-tuple.ensures.types
-    ∙ ap (λ (t : Table). product of_places (tuple_members t c.args.ty)) (same_types core asked c.in-Ok.ensures.asked.same)
+    ∙ ap (λ (t : TypeTable). product of_places (tuple_members t c.args.ty)) (same_types core asked c.in-Ok.ensures.asked.same)
 
 pub linear_lower_to_memory-requires-clause-room : goal.linear_lower_to_memory-requires-clause-room
 linear_lower_to_memory-requires-clause-room g c =
@@ -54,7 +54,7 @@ returns-in-Ok-linear_lower_to_memory-clause-lowers g c =
     (sym (one_word a.dst.now c.u32.result c.in-Ok.pointer c.requires.words c.u32.ensures))
     (heap_stored L a.cx.now.options core ms (g.P.ComponentType.walks v) (g.P.Lower.gives core.component.types (product of_places ms) v) c.requires.far asked after c.in-Ok.pointer
     (products_of g.P.ComponentType.fits g.P.ComponentType.means g.P.ComponentType.walks g.met.P.ComponentType.typed g.met.P.ComponentType.walked core.component.types (ty.Tuple a.ty) ms v c.requires.fits
-    (ap (λ (t : Table). shape_of t (ty.Tuple a.ty)) (sym (same_types core asked gave.same)) ∙ is)) gave (Ok tt) there)
+    (ap (λ (t : TypeTable). shape_of t (ty.Tuple a.ty)) (sym (same_types core asked gave.same)) ∙ is)) gave (Ok tt) there)
 
 pub returns-in-Err-linear_lower_to_memory-clause-lowers : goal.returns-in-Err-linear_lower_to_memory-clause-lowers
 returns-in-Err-linear_lower_to_memory-clause-lowers g c =
@@ -73,4 +73,4 @@ returns-in-Err-linear_lower_to_memory-clause-lowers g c =
     other_words L a.cx.now.options core after ms (g.P.ComponentType.walks v) (g.P.Lower.gives core.component.types (product of_places ms) v) (c.in-Ok.pointer ∷ []) a.dst.now e
     (heap_stored L a.cx.now.options core ms (g.P.ComponentType.walks v) (g.P.Lower.gives core.component.types (product of_places ms) v) c.requires.far asked after c.in-Ok.pointer
     (products_of g.P.ComponentType.fits g.P.ComponentType.means g.P.ComponentType.walks g.met.P.ComponentType.typed g.met.P.ComponentType.walked core.component.types (ty.Tuple a.ty) ms v c.requires.fits
-    (ap (λ (t : Table). shape_of t (ty.Tuple a.ty)) (sym (same_types core asked gave.same)) ∙ is)) gave (Err e) there)
+    (ap (λ (t : TypeTable). shape_of t (ty.Tuple a.ty)) (sym (same_types core asked gave.same)) ∙ is)) gave (Err e) there)

@@ -4,7 +4,7 @@ use Rattle.canon_context.specs.Core.{component_types}
 use Rattle.canon_lower_parts.specs.Words.{TypedLowers}
 use Rattle.canon_model.specs.Layout.{flat}
 use Rattle.canon_model.specs.Shape.{Shape, of_places, product}
-use Rattle.canon_types.specs.Table.{Table, shape_of, tuple_members}
+use Rattle.canon_types.specs.Table.{TypeTable, shape_of, tuple_members}
 use Rattle.canon_types.specs.declared.types.InterfaceType.TheVariants as ty
 use Rattle.canon_value_parts.proofs.Far.{tuple_shape_of_now}
 use Rattle.canon_args.proofs.Near.{products_of, stack_lowered}
@@ -14,7 +14,7 @@ use Rattle.canon_args.proofs.params.lower_stack_args.Goals as goal
 
 shape : (g : Over) (c : After-tuple-tuple g) → shape_of (component_types c.args.cx.now.core.now) (ty.Tuple c.args.ty) ≡ product of_places (tuple_members (component_types c.args.cx.now.core.now) c.args.ty)
 shape g c =
-    ap (λ (t : Table). shape_of t (ty.Tuple c.args.ty)) (sym c.types.ensures)
+    ap (λ (t : TypeTable). shape_of t (ty.Tuple c.args.ty)) (sym c.types.ensures)
     ∙ tuple_shape_of_now (component_types c.args.cx.now.core.now) c.types.result.now c.args.ty c.tuple-tuple.result.now.types.items c.types.ensures c.tuple-tuple.ensures.entry c.tuple-tuple.ensures.types
 
 pub linear_lower_to_flat-requires-clause-words : goal.linear_lower_to_flat-requires-clause-words

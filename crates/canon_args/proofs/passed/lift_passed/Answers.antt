@@ -5,7 +5,7 @@ use Rattle.canon_reading.specs.Reading.{Lifts, setting_in}
 use Rattle.canon_reading.specs.Spots.{flat_in}
 use Rattle.canon_model.specs.Layout.{flat, members_flat}
 use Rattle.canon_model.specs.Shape.{Shape, of_places, product}
-use Rattle.canon_types.specs.Table.{Table, shape_of, tuple_members}
+use Rattle.canon_types.specs.Table.{TypeTable, shape_of, tuple_members}
 use Rattle.canon_types.specs.declared.types.InterfaceType.TheVariants as ty
 use Rattle.canon_value_parts.proofs.Far.{tuple_shape_of_now}
 use Rattle.canon_args.proofs.Areas.{few_words, lifts_by, many_words}
@@ -25,7 +25,7 @@ lift_words-requires-clause-words g c =
     let few = few_words _ _ c.flat_count.result c.from.result is (c.flat_count.ensures.words _ c.tuple.ensures.abi) (sym c.is_some.ensures ∙ c.if-is_some.true) in
     let near : members_flat ms ≤ c.args.most = omega (arith, few, c.from.ensures) in
     let count = c.requires.words ∙ cond-true _ _ _ (le-leb (members_flat ms) c.args.most near) in
-    let same : flat (shape_of t (ty.Tuple c.args.ty)) ≡ members_flat ms = ap (λ (x : Table). flat (shape_of x (ty.Tuple c.args.ty))) (sym c.types.ensures) ∙ ap flat is in
+    let same : flat (shape_of t (ty.Tuple c.args.ty)) ≡ members_flat ms = ap (λ (x : TypeTable). flat (shape_of x (ty.Tuple c.args.ty))) (sym c.types.ensures) ∙ ap flat is in
     omega (arith, count, same)
 
 pub returns-then-is_some-clause-lifts : goal.returns-then-is_some-clause-lifts
@@ -37,7 +37,7 @@ returns-then-is_some-clause-lifts g c =
     let ms = tuple_members t c.args.ty in
     let few = few_words _ _ c.flat_count.result c.from.result is (c.flat_count.ensures.words _ c.tuple.ensures.abi) (sym c.is_some.ensures ∙ c.if-is_some.true) in
     let near : members_flat ms ≤ c.args.most = omega (arith, few, c.from.ensures) in
-    let there : shape_of t (ty.Tuple c.args.ty) ≡ product of_places ms = ap (λ (x : Table). shape_of x (ty.Tuple c.args.ty)) (sym c.types.ensures) ∙ is in
+    let there : shape_of t (ty.Tuple c.args.ty) ≡ product of_places ms = ap (λ (x : TypeTable). shape_of x (ty.Tuple c.args.ty)) (sym c.types.ensures) ∙ is in
     let after = c.lift_words.new.cx in
     let w = setting_in core c.args.cx.now.options in
     lifts_by g.V.Lift.reading w c.args.src.now (product of_places ms) core.ledger c.args.cx.now.fuel c.lift_words.result after.core.now.ledger after.fuel _ _ (le-leb (members_flat ms) c.args.most near)

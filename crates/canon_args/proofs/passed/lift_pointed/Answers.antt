@@ -6,7 +6,7 @@ use Rattle.canon_reading.specs.Reading.{setting_in}
 use Rattle.canon_model.specs.Layout.{align, size}
 use Rattle.canon_model.specs.Memory.{low}
 use Rattle.canon_model.specs.Shape.{of_places, product}
-use Rattle.canon_types.specs.Table.{Table, shape_of, tuple_members}
+use Rattle.canon_types.specs.Table.{TypeTable, shape_of, tuple_members}
 use Rattle.canon_types.specs.declared.types.InterfaceType.TheVariants as ty
 use Rattle.canon_value_parts.proofs.Far.{tuple_shape_of_now}
 use Rattle.canon_value_parts.proofs.Pointed.{tuple_align, tuple_size}
@@ -20,7 +20,7 @@ shape : (g : Over) (c : After-tuple g) → shape_of c.types.result.now (ty.Tuple
 shape g c = tuple_shape_of_now (component_types c.args.cx.now.core.now) c.types.result.now c.args.ty c.tuple.result.now.types.items c.types.ensures c.tuple.ensures.entry c.tuple.ensures.types
 
 now : (g : Over) (c : After-tuple g) → shape_of (component_types c.args.cx.now.core.now) (ty.Tuple c.args.ty) ≡ product of_places (tuple_members (component_types c.args.cx.now.core.now) c.args.ty)
-now g c = ap (λ (x : Table). shape_of x (ty.Tuple c.args.ty)) (sym c.types.ensures) ∙ shape g c
+now g c = ap (λ (x : TypeTable). shape_of x (ty.Tuple c.args.ty)) (sym c.types.ensures) ∙ shape g c
 
 pub returns-then-at-from-ne0-clause-lifts : goal.returns-then-at-from-ne0-clause-lifts
 unfolding align

@@ -1,6 +1,6 @@
 use Rattle.std.proofs.Common.{Err, Global, length, Vec, ap, arith, ℕ, ◌∙◌, ◌≡◌}
 use Rattle.canon_model.specs.Flat.{max_params}
-use Rattle.canon_types.specs.Table.{Table, tuple_members}
+use Rattle.canon_types.specs.Table.{TypeTable, tuple_members}
 use Rattle.canon_context.specs.Core.{encoding_by, guest_of, moment_of, component_types}
 use Rattle.canon_func.specs.Call.{OnAnswered, words_within}
 use Rattle.canon_func.specs.declared.error.Error.TheVariants as error
@@ -16,7 +16,7 @@ returns-in-Ok-clause-lowered g c =
     let same : c.types-types.result.now ≡ component_types before = c.types-types.ensures ∙ ap (λ k. k.types.types) c.component.ensures.component in
     let all = written c.in_ok-words.words.items c.lower_into.new.words c.in_ok-words.words.len (omega (arith, c.deref_mut.ensures.len, c.lower_into.auto.words)) in
     let counted : words_within max_params (tuple_members c.types-types.result.now f.params) ≡ words_within max_params (tuple_members (component_types before) f.params) =
-    ap (λ (t : Table). words_within max_params (tuple_members t f.params)) same in
+    ap (λ (t : TypeTable). words_within max_params (tuple_members t f.params)) same in
     let low = c.in-Ok.ensures.lowers in
     lowered_done (moment_of seen before) (moment_of seen after) (encoding_by before c.args.export.now.options) before.component.types (tuple_members (component_types before) f.params) _ c.args.params.now before.ledger after.ledger
     (params_are (component_types before) c.types-types.result.now c.args.export.now.ty f same c.func.ensures.found)

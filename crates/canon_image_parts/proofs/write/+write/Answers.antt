@@ -7,7 +7,7 @@ use Rattle.canon_types.specs.declared.types.InterfaceType.TheVariants as ty
 use Rattle.canon_plan.specs.NoHandle.{HasNoHandle}
 use Rattle.canon_plan.proofs.Lookups.{copies_count}
 use Rattle.canon_plan.proofs.Pairs.{key_known, map_shape, value_known}
-use Rattle.canon_value_parts.specs.View.{names_of, shapes_of, values_of}
+use Rattle.canon_value_parts.specs.View.{viewed_names, viewed_shapes, viewed_values}
 use Rattle.canon_value_parts.proofs.Viewing.{lies_no_handle, lies_depth, names_count}
 use Rattle.canon_value_parts.proofs.WalkCases.{case_wants}
 use Rattle.canon_value_parts.proofs.WalkLoops.{member_shallow}
@@ -127,14 +127,14 @@ write_parts-returns-then-not-member t c =
     let a = c.args in
     let ms = a.members.now in
     record {
-      writes = misnamed a.bytes.now.items a.place (shapes_of a.types.now ms) (names_of ms) (values_of ms) a.first c.loop-k.bytes.items c.loop-k.next c.loop-k.k c.loop-k.invariant.written a.types.now c.member_of-member.result c.member_of-member.ensures
+      writes = misnamed a.bytes.now.items a.place (viewed_shapes a.types.now ms) (viewed_names ms) (viewed_values ms) a.first c.loop-k.bytes.items c.loop-k.next c.loop-k.k c.loop-k.invariant.written a.types.now c.member_of-member.result c.member_of-member.ensures
           (λ h. blocks_none _ h c.if-not-member.true);
     }
 
 pub write_parts-write_value-requires : goal.write_parts-write_value-requires
 write_parts-write_value-requires t c =
     let a = c.args in
-    let ms = shapes_of a.types.now a.members.now in
+    let ms = viewed_shapes a.types.now a.members.now in
     let is = c.member_of-member.ensures in
     let s = shape_of a.types.now c.member_of-member.result.ty in
     (omega (arith, member_shallow ms c.loop-k.k is.name s _ is.shapes), (is.known, member_no_handle ms c.loop-k.k is.name s _ is.shapes c.requires.no_handle))
@@ -144,7 +144,7 @@ write_parts-returns-in-Err t c =
     let a = c.args in
     let ms = a.members.now in
     record {
-      writes = stop a.bytes.now.items a.place (shapes_of a.types.now ms) (names_of ms) (values_of ms) a.first c.loop-k.bytes.items c.loop-k.next c.loop-k.k c.loop-k.invariant.written a.types.now c.member_of-member.result c.member_of-member.ensures
+      writes = stop a.bytes.now.items a.place (viewed_shapes a.types.now ms) (viewed_names ms) (viewed_values ms) a.first c.loop-k.bytes.items c.loop-k.next c.loop-k.k c.loop-k.invariant.written a.types.now c.member_of-member.result c.member_of-member.ensures
           c.write_value.new.bytes.items c.in-Err.fault c.in-Err.ensures.writes;
     }
 
@@ -153,7 +153,7 @@ write_parts-loop-k-preserved t c =
     let a = c.args in
     let ms = a.members.now in
     record {
-      written = go_on a.bytes.now.items a.place (shapes_of a.types.now ms) (names_of ms) (values_of ms) a.first c.loop-k.bytes.items c.loop-k.next c.loop-k.k c.loop-k.invariant.written a.types.now c.member_of-member.result c.member_of-member.ensures
+      written = go_on a.bytes.now.items a.place (viewed_shapes a.types.now ms) (viewed_names ms) (viewed_values ms) a.first c.loop-k.bytes.items c.loop-k.next c.loop-k.k c.loop-k.invariant.written a.types.now c.member_of-member.result c.member_of-member.ensures
           c.write_value.new.bytes.items c.in-Ok.after c.if-not-member.false (omega (arith, c.in-Ok.ensures.writes.counted)) c.in-Ok.ensures.writes;
     }
 
@@ -161,9 +161,10 @@ pub write_parts-returns : goal.write_parts-returns
 write_parts-returns t c =
     let a = c.args in
     let ms = a.members.now in
-    let all : c.loop-k.k ≡ length (values_of ms) = omega (arith, c.loop-k-test.false, c.loop-k.auto.k-end, c.count_of-k-end.ensures) in
+    let all : c.loop-k.k ≡ length (viewed_values ms) = omega (arith, c.loop-k-test.false, c.loop-k.auto.k-end, c.count_of-k-end.ensures) in
     record {
-      writes = end a.bytes.now.items a.place (shapes_of a.types.now ms) (names_of ms) (values_of ms) a.first c.loop-k.bytes.items c.loop-k.next c.loop-k.k c.loop-k.invariant.written (all ∙ c.requires.count) (all ∙ sym (names_count ms)) all;
+      writes = end a.bytes.now.items a.place (viewed_shapes a.types.now ms) (viewed_names ms) (viewed_values ms) a.first c.loop-k.bytes.items c.loop-k.next c.loop-k.k c.loop-k.invariant.written (all ∙ c.requires.count)
+          (all ∙ sym (names_count ms)) all;
     }
 
 -- ---- a value
@@ -172,7 +173,7 @@ pub write_value-write_parts-requires : goal.write_value-write_parts-requires
 write_value-write_parts-requires t c =
     let s = shape_of c.args.types.now c.args.ty.now in
     let (known, lies, has, count) = rw c.in-Ok-Members.field-0-is at c.in-Ok-Members.ensures in
-    let ms = shapes_of c.args.types.now c.in-Ok-Members.members in
+    let ms = viewed_shapes c.args.types.now c.in-Ok-Members.members in
     (omega (arith, lies_depth s ms lies), (known, (lies_no_handle s ms lies c.requires.no_handle, count)))
 
 pub write_value-returns-in-Ok-Members : goal.write_value-returns-in-Ok-Members
@@ -182,8 +183,9 @@ write_value-returns-in-Ok-Members t c =
     let (known, lies, has, count) = rw c.in-Ok-Members.field-0-is at c.in-Ok-Members.ensures in
     let ms = c.in-Ok-Members.members in
     record {
-      writes = members_written a.bytes.now.items c.write_parts.new.bytes.items a.place s (shapes_of a.types.now ms) (names_of ms) (values_of ms) a.value.now c.write_parts.result (omega arith) lies has count
-          (parts_told a.bytes.now.items c.write_parts.new.bytes.items a.place c.saturating_add.result (shapes_of a.types.now ms) (names_of ms) (values_of ms) c.write_parts.result c.saturating_add.ensures c.write_parts.ensures.writes);
+      writes = members_written a.bytes.now.items c.write_parts.new.bytes.items a.place s (viewed_shapes a.types.now ms) (viewed_names ms) (viewed_values ms) a.value.now c.write_parts.result (omega arith) lies has count
+          (parts_told a.bytes.now.items c.write_parts.new.bytes.items a.place c.saturating_add.result (viewed_shapes a.types.now ms) (viewed_names ms) (viewed_values ms) c.write_parts.result c.saturating_add.ensures
+          c.write_parts.ensures.writes);
     }
 
 pub write_value-returns-in-Err : goal.write_value-returns-in-Err

@@ -5,7 +5,7 @@ use Rattle.canon_types.specs.Table.{shape_of}
 use Rattle.canon_types.specs.declared.types.InterfaceType.TheVariants as ty
 use Rattle.canon_plan.specs.Element.{list_shape}
 use Rattle.canon_value_parts.specs.Elements.{element_in}
-use Rattle.canon_value_parts.specs.View.{names_of, shapes_of, values_of}
+use Rattle.canon_value_parts.specs.View.{viewed_names, viewed_shapes, viewed_values}
 use Rattle.canon_image_parts.proofs.PairsWriting.{PairsAreWritten}
 use Rattle.canon_image_parts.proofs.Writing.{AreWritten}
 use Rattle.canon_image_parts.proofs.write.+write.Given as goal
@@ -14,7 +14,7 @@ abbrev pub decreases-write_value : goal.decreases-write_value
 decreases-write_value l = 4 * depth (shape_of l.types.now l.ty.now)
 
 abbrev pub decreases-write_parts : goal.decreases-write_parts
-decreases-write_parts l = 4 * deepest (shapes_of l.types.now l.members.now) + 1
+decreases-write_parts l = 4 * deepest (viewed_shapes l.types.now l.members.now) + 1
 
 abbrev pub decreases-write_list : goal.decreases-write_list
 decreases-write_list l = 4 * depth (list_shape l.types.now (element_in l.list.now)) - 1
@@ -33,7 +33,7 @@ decreases-write_case l = 4 * depth (shape_of l.types.now l.ty.now) - 1
 
 abbrev pub invariant-write_parts-loop-k : goal.invariant-write_parts-loop-k
 invariant-write_parts-loop-k l = record {
-  written : AreWritten l.fn.bytes.items l.place (shapes_of l.types l.members) (names_of l.members) (values_of l.members) l.first l.bytes.items l.next l.k;
+  written : AreWritten l.fn.bytes.items l.place (viewed_shapes l.types l.members) (viewed_names l.members) (viewed_values l.members) l.first l.bytes.items l.next l.k;
 }
 
 abbrev pub invariant-write_pairs-loop-key : goal.invariant-write_pairs-loop-key

@@ -2,7 +2,7 @@ use Rattle.std.proofs.Common.{◌+◌, ◌∷◌, [], ap, subst, sym}
 use Rattle.canon_context.specs.Core.{component_types}
 use Rattle.canon_model.specs.Shape.{tuple}
 use Rattle.canon_types.specs.Table.{Knows, shape_of}
-use Rattle.canon_typed.specs.Charges.{cap}
+use Rattle.canon_model.specs.Memory.{cap}
 use Rattle.canon_reading.specs.MapsOfTrees.{pairs_reading}
 use Rattle.canon_reading.specs.Reading.{Lifts, setting_in}
 use Rattle.canon_reading.specs.Spots.{stored}

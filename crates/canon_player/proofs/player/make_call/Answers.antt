@@ -1,5 +1,5 @@
 use Rattle.std.proofs.Common.{List, ap, drop, length, map, refl, rules, ◌∙◌}
-use Rattle.canon_func.specs.Call.{refusal}
+use Rattle.canon_func.specs.Call.{call_refusal}
 use Rattle.canon_func.specs.Stores.{callee_of}
 use Rattle.canon_literals.specs.Literals.{listed_resource, literals_view, replaced}
 use Rattle.canon_script.specs.Script.{call_item_view}
@@ -23,7 +23,7 @@ returns-clause-called c =
     (search rules)
     (taken_is left c.core_mut-2.result.now c.guest_mut-2.result.now c.take_journal-events.new.self c.core_mut-2.ensures.value c.guest_mut-2.ensures.value c.take_journal-events.ensures.left)
     (ap literals_view c.deref-2.ensures.value ∙ (c.in_ok-params.ensures ∙ ap (λ vs. map (replaced (listed_resource c.args.list.now)) (literals_view vs)) c.deref.ensures.value)) c.in_ok-results.ensures
-    (c.call-called.ensures.refused ∙ ap (λ vs. refusal (callee_of before c.unwrap-f.result) (length c.deref-2.result.now) (length vs) s.trapped) c.deref_mut.ensures.value)
+    (c.call-called.ensures.refused ∙ ap (λ vs. call_refusal (callee_of before c.unwrap-f.result) (length c.deref-2.result.now) (length vs) s.trapped) c.deref_mut.ensures.value)
     c.call-called.ensures.unchanged c.call-called.ensures.call c.call-called.ensures.runs c.call-called.ensures.trapped refl c.live_handles-live.ensures
     (c.take_journal-events.ensures.taken ∙ (ap (λ j. j.events) c.guest_mut-2.ensures.value ∙ ap (λ k. k.guest.events) c.core_mut-2.ensures.value))
     c.in_ok-answer.ensures.outcome (c.call-called.auto.results ∙ c.deref_mut.ensures.len) c.in_ok-answer.ensures.values c.in_ok-answer.ensures.memory_left c.in_ok-answer.ensures.played

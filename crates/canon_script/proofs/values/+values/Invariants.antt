@@ -2,7 +2,7 @@ use Rattle.std.proofs.Common.{◌≡◌, ◌+◌, ◌*◌, ◌++◌, drop, optio
 use Rattle.serde_json.specs.Data.{depth}
 use Rattle.serde_json.specs.View.{items_view, view}
 use Rattle.canon_literals.specs.Literals.{fields_view, literals_view, pairs_view}
-use Rattle.canon_script.specs.Values.{fields_in, pairs_in, values_of}
+use Rattle.canon_script.specs.Values.{named_literals, pairs_in, values_of}
 use Rattle.canon_script.proofs.Cases.{depth_of}
 use Rattle.canon_script.proofs.values.+values.Given as goal
 
@@ -46,7 +46,7 @@ invariant-values_of-loop-item l = option_map (λ xs. literals_view l.values.item
 
 -- the fields so far and those that are left are all of them
 abbrev pub invariant-record_of-loop-item : goal.invariant-record_of-loop-item
-invariant-record_of-loop-item l = option_map (λ fs. fields_view l.fields.items ++ fs) (fields_in (items_view (drop l.item-index l.item-items))) ≡ fields_in (items_view l.item-items)
+invariant-record_of-loop-item l = option_map (λ fs. fields_view l.fields.items ++ fs) (named_literals (items_view (drop l.item-index l.item-items))) ≡ named_literals (items_view l.item-items)
 
 -- the pairs so far and those that are left are all of them
 abbrev pub invariant-pairs_of-loop-item : goal.invariant-pairs_of-loop-item

@@ -9,7 +9,8 @@ use Rattle.canon_context.proofs.Told.{on_err}
 use Rattle.canon_context.specs.Told.{IsNoRefusal}
 use Rattle.canon_value_parts.proofs.LeavesAt.{flags_flat_leaves}
 use Rattle.canon_value_parts.proofs.Lifted.{lifts_nothing, no_refusal}
-use Rattle.canon_value_parts.specs.Resources.{resources, stop_of}
+use Rattle.canon_value_parts.specs.Resources.{resources}
+use Rattle.canon_context.specs.Faults.{stop_of}
 use Rattle.canon_value_parts.proofs.flags.lift_flags.Goals as goal
 
 pub flags_of-requires-clause-room : goal.flags_of-requires-clause-room

@@ -11,7 +11,8 @@ use Rattle.canon_context.proofs.Told.{on_err}
 use Rattle.canon_context.specs.Told.{IsNoRefusal}
 use Rattle.canon_value_parts.proofs.LeavesAt.{flags_leaves}
 use Rattle.canon_value_parts.proofs.Lifted.{lifts_nothing, no_refusal}
-use Rattle.canon_value_parts.specs.Resources.{resources, stop_of}
+use Rattle.canon_value_parts.specs.Resources.{resources}
+use Rattle.canon_context.specs.Faults.{stop_of}
 use Rattle.canon_value_parts.proofs.flags.load_flags.Goals as goal
 
 room : (c : After-flags-flags) → c.args.at + flags_size (length (flag_names c.args.source.now.types.now c.args.i)) ≤ length c.args.source.now.memory.now

@@ -3,7 +3,7 @@ use Rattle.canon_memory.specs.Memory.{written_over}
 use Rattle.canon_model.specs.Layout.{flags_size, size}
 use Rattle.canon_model.specs.Shape.{Name, flags}
 use Rattle.canon_types.specs.Keeps.{names_of}
-use Rattle.canon_types.specs.Table.{Table, shape_of}
+use Rattle.canon_types.specs.Table.{TypeTable, shape_of}
 use Rattle.canon_types.specs.declared.types.InterfaceType.TheVariants as ty
 use Rattle.canon_context.specs.Core.{Parts, component_types}
 use Rattle.canon_value_parts.specs.Flags.{flag_names}
@@ -25,11 +25,11 @@ bytes_many g c = flags_bytes (component_types c.args.cx.now.core.now) c.types.re
 
 bytes_room : (g : Over) (c : After-flags g) → c.args.at + c.flags.result.now.abi.size32 ≤ length c.args.cx.now.core.now.memory
 bytes_room g c =
-    let bytes : c.flags.result.now.abi.size32 ≡ size false (shape_of (component_types c.args.cx.now.core.now) (ty.Flags c.args.i)) = c.flags.ensures.abi.size ∙ ap (λ (t : Table). size false (shape_of t (ty.Flags c.args.i))) c.types.ensures in
+    let bytes : c.flags.result.now.abi.size32 ≡ size false (shape_of (component_types c.args.cx.now.core.now) (ty.Flags c.args.i)) = c.flags.ensures.abi.size ∙ ap (λ (t : TypeTable). size false (shape_of t (ty.Flags c.args.i))) c.types.ensures in
     omega (arith, c.requires.room, bytes)
 
 its_shape : (g : Over) (c : After-flags g) → shape_of (component_types c.args.cx.now.core.now) (ty.Flags c.args.i) ≡ flags (flag_names (component_types c.args.cx.now.core.now) c.args.i)
-its_shape g c = subst (λ (t : Table). shape_of t (ty.Flags c.args.i) ≡ flags (flag_names t c.args.i)) c.types.ensures (flags_are c.types.result.now c.args.i c.flags.result.now c.flags.ensures.entry)
+its_shape g c = subst (λ (t : TypeTable). shape_of t (ty.Flags c.args.i) ≡ flags (flag_names t c.args.i)) c.types.ensures (flags_are c.types.result.now c.args.i c.flags.result.now c.flags.ensures.entry)
 
 pub loop-name-init : goal.loop-name-init
 loop-name-init g c =

@@ -2,7 +2,7 @@ use Rattle.std.proofs.Common.{◌≡◌, ◌<◌, ◌+◌, ◌*◌, ◌∙◌, a
 use Rattle.std.proofs.lemmas.List.{length-set}
 use Rattle.canon_model.specs.Layout.{flat}
 use Rattle.canon_types.specs.Depth.{deepest, depth}
-use Rattle.canon_types.specs.Table.{Knows, Table, shape_of}
+use Rattle.canon_types.specs.Table.{Knows, TypeTable, shape_of}
 use Rattle.canon_model.specs.Shape.{Shape}
 use Rattle.canon_types.specs.declared.types.InterfaceType.{InterfaceType}
 use Rattle.canon_value_parts.proofs.HandleLifting.{handle_shape}
@@ -11,7 +11,7 @@ use Rattle.canon_val.specs.declared.val.Val.{Val}
 use Rattle.canon_val.specs.declared.val.Val.TheVariants as val
 use Rattle.canon_context.specs.Core.{component_types, encoding_by}
 use Rattle.canon_value_parts.specs.Elements.{element_in}
-use Rattle.canon_value_parts.specs.View.{IsMember, names_of, shapes_of, values_of}
+use Rattle.canon_value_parts.specs.View.{IsMember, viewed_names, viewed_shapes, viewed_values}
 use Rattle.canon_value_parts.specs.Words.{LowersTo, PartsLowerTo}
 use Rattle.canon_value_parts.specs.declared.spot.Spot.{Spot}
 use Rattle.canon_val.specs.declared.val.Val.{the_lemmas}
@@ -34,10 +34,10 @@ use Rattle.canon_walks.proofs.lower.+lower.Goals as goal
 
 -- the member by the table of the start
 here : (g : Over) (t0 : ℕ) (c : lower_parts-After-member_of-member g t0)
-    → IsMember (component_types c.args.cx.now.core.now) (shapes_of (component_types c.args.cx.now.core.now) c.args.members.now) (names_of c.args.members.now) (values_of c.args.members.now) c.loop-k.k c.member_of-member.result
+    → IsMember (component_types c.args.cx.now.core.now) (viewed_shapes (component_types c.args.cx.now.core.now) c.args.members.now) (viewed_names c.args.members.now) (viewed_values c.args.members.now) c.loop-k.k c.member_of-member.result
 here g t0 c =
     let ms = c.args.members.now in
-    subst (λ (x : Table). IsMember x (shapes_of x ms) (names_of ms) (values_of ms) c.loop-k.k c.member_of-member.result)
+    subst (λ (x : TypeTable). IsMember x (viewed_shapes x ms) (viewed_names ms) (viewed_values ms) c.loop-k.k c.member_of-member.result)
     (c.types.ensures ∙ handles_types c.args.cx.now.core.now c.loop-k.cx.core.now c.loop-k.invariant.lowered.same) c.member_of-member.ensures
 
 pub lower_parts-returns-then-not-member-clause-lowers : goal.lower_parts-returns-then-not-member-clause-lowers
@@ -53,9 +53,9 @@ lower_parts-lower_value-requires g t0 c =
     let L : GuestLaws _ = record { seen = g.G.Guest.seen; moves = g.G.Guest.moves; stays = g.met.G.Guest.stays; goes_on = g.met.G.Guest.goes_on } in
     let is = here g t0 (goal.at.lower_parts-lower_value-requires g t0 c).After-member_of-member in
     let fit = has_room L _ _ _ _ _ _ _ _ _ _ _ _ c.loop-k.invariant.lowered m is in
-    let shallow = member_shallow (shapes_of (component_types core) c.args.members.now) c.loop-k.k is.name (shape_of (component_types core) m.ty) _ is.shapes in
-    let same : depth (shape_of (component_types c.loop-k.cx.core.now) m.ty) ≡ depth (shape_of (component_types core) m.ty) = ap (λ (x : Table). depth (shape_of x m.ty)) (handles_types core c.loop-k.cx.core.now c.loop-k.invariant.lowered.same) in
-    let falls : 4 * depth (shape_of (component_types c.loop-k.cx.core.now) m.ty) < 4 * deepest (shapes_of (component_types core) c.args.members.now) + 1 = omega (arith, shallow, same) in
+    let shallow = member_shallow (viewed_shapes (component_types core) c.args.members.now) c.loop-k.k is.name (shape_of (component_types core) m.ty) _ is.shapes in
+    let same : depth (shape_of (component_types c.loop-k.cx.core.now) m.ty) ≡ depth (shape_of (component_types core) m.ty) = ap (λ (x : TypeTable). depth (shape_of x m.ty)) (handles_types core c.loop-k.cx.core.now c.loop-k.invariant.lowered.same) in
+    let falls : 4 * depth (shape_of (component_types c.loop-k.cx.core.now) m.ty) < 4 * deepest (viewed_shapes (component_types core) c.args.members.now) + 1 = omega (arith, shallow, same) in
     λ κs sub. (search (rules, the_lemmas, falls), (sub.0, (sub.1, (fit.known, (fit.small, fit.room)))))
 
 pub lower_parts-returns-in-Err-clause-lowers : goal.lower_parts-returns-in-Err-clause-lowers
@@ -80,7 +80,7 @@ pub lower_parts-returns-clause-lowers : goal.lower_parts-returns-clause-lowers
 lower_parts-returns-clause-lowers g t0 c =
     let ms = c.args.members.now in
     let L : GuestLaws _ = record { seen = g.G.Guest.seen; moves = g.G.Guest.moves; stays = g.met.G.Guest.stays; goes_on = g.met.G.Guest.goes_on } in
-    let all : c.loop-k.k ≡ length (values_of ms) = omega (arith, c.loop-k-test.false, c.loop-k.auto.k-end, c.count_of-k-end.ensures) in
+    let all : c.loop-k.k ≡ length (viewed_values ms) = omega (arith, c.loop-k-test.false, c.loop-k.auto.k-end, c.count_of-k-end.ensures) in
     end L _ _ _ _ _ _ _ _ _ _ _ _ c.loop-k.invariant.lowered (all ∙ c.requires.count) (all ∙ sym (names_count ms)) all
 
 -- ---- a value
@@ -122,7 +122,7 @@ pub lower_value-lower_parts-requires : goal.lower_value-lower_parts-requires
 lower_value-lower_parts-requires g t0 c =
     let t = component_types c.args.cx.now.core.now in
     let (known, lies, has, count) = rw c.in-Ok-Members.field-0-is at (rw c.types.ensures at c.in-Ok-Members.ensures) in
-    let ms = shapes_of t c.in-Ok-Members.members in
+    let ms = viewed_shapes t c.in-Ok-Members.members in
     let s = shape_of t c.args.ty in
     let falls : 4 * deepest ms + 1 < 4 * depth s = lies_depth s ms lies in
     λ κs sub. (
@@ -140,15 +140,15 @@ lower_value-returns-in-Ok-Members-clause-lowers g t0 c =
     let (known, lies, has, count) = seen in
     let ms = c.in-Ok-Members.members in
     let r = c.lower_parts in
-    members_lower L a.cx.now.options core r.new.cx.core.now a.dst.now r.new.dst a.from (shape_of t a.ty) (shapes_of t ms) (names_of ms) (values_of ms) a.value.now r.result (omega arith) lies has count (members_passes t a.ty a.value.now ms seen)
-    (subst (λ (x : Spot). PartsLowerTo L.seen L.moves a.cx.now.options core r.new.cx.core.now a.dst.now r.new.dst x r.result a.from.place (shapes_of t ms) (names_of ms) (values_of ms)) c.inside.ensures r.ensures.lowers)
+    members_lower L a.cx.now.options core r.new.cx.core.now a.dst.now r.new.dst a.from (shape_of t a.ty) (viewed_shapes t ms) (viewed_names ms) (viewed_values ms) a.value.now r.result (omega arith) lies has count (members_passes t a.ty a.value.now ms seen)
+    (subst (λ (x : Spot). PartsLowerTo L.seen L.moves a.cx.now.options core r.new.cx.core.now a.dst.now r.new.dst x r.result a.from.place (viewed_shapes t ms) (viewed_names ms) (viewed_values ms)) c.inside.ensures r.ensures.lowers)
 
 pub lower_value-lower_case-requires : goal.lower_value-lower_case-requires
 lower_value-lower_case-requires g t0 c =
     let t = component_types c.args.cx.now.core.now in
     let seen = rw c.in-Ok-Case.field-0-is at (rw c.types.ensures at c.in-Ok-Case.ensures) in
     let wants = case_wants t (shape_of t c.args.ty) c.args.value.now c.in-Ok-Case.case 0 seen in
-    let falls : 4 * deepest (shapes_of t c.in-Ok-Case.case.payload) + 2 < 4 * depth (shape_of t c.args.ty) = wants.falls in
+    let falls : 4 * deepest (viewed_shapes t c.in-Ok-Case.case.payload) + 2 < 4 * depth (shape_of t c.args.ty) = wants.falls in
     λ κs sub. (search (rules, the_lemmas, falls), (sub.0, (sub.1, (c.requires.known, (seen, (c.requires.small, c.requires.room))))))
 
 pub lower_value-returns-in-Err-clause-lowers : goal.lower_value-returns-in-Err-clause-lowers
@@ -163,8 +163,8 @@ lower_value-returns-in-Err-clause-lowers g t0 c =
 
 pub lower_case-word_after-end-requires : goal.lower_case-word_after-end-requires
 lower_case-word_after-end-requires g t0 c = record {
-  known = subst (λ (x : Table). Knows x c.args.ty.now) (sym c.types.ensures) c.requires.known;
-  room = omega (arith, c.requires.room, ap (λ (x : Table). flat (shape_of x c.args.ty.now)) c.types.ensures);
+  known = subst (λ (x : TypeTable). Knows x c.args.ty.now) (sym c.types.ensures) c.requires.known;
+  room = omega (arith, c.requires.room, ap (λ (x : TypeTable). flat (shape_of x c.args.ty.now)) c.types.ensures);
 }
 
 pub lower_case-bounds-dst-from : goal.lower_case-bounds-dst-from
@@ -176,7 +176,7 @@ lower_case-behind_tag-requires g t0 c =
       arith,
       c.word_after-end.ensures,
       c.word_after-end.type_inv,
-      ap (λ (x : Table). flat (shape_of x c.args.ty.now)) c.types.ensures,
+      ap (λ (x : TypeTable). flat (shape_of x c.args.ty.now)) c.types.ensures,
       case_room (component_types c.args.cx.now.core.now)
           (shape_of (component_types c.args.cx.now.core.now) c.args.ty.now) c.args.value.now c.args.case.now c.requires.seen,
     )
@@ -187,7 +187,7 @@ lower_case-lower_parts-requires g t0 c =
     let s = shape_of t c.args.ty.now in
     let wants = case_wants t s c.args.value.now c.args.case.now 0 c.requires.seen in
     let room = case_room t s c.args.value.now c.args.case.now c.requires.seen in
-    let falls : 4 * deepest (shapes_of t c.args.case.now.payload) + 1 < 4 * deepest (shapes_of t c.args.case.now.payload) + 2 = omega arith in
+    let falls : 4 * deepest (viewed_shapes t c.args.case.now.payload) + 1 < 4 * deepest (viewed_shapes t c.args.case.now.payload) + 2 = omega arith in
     λ κs sub. (
       search (rules, the_lemmas, falls),
       (
@@ -206,7 +206,7 @@ pub lower_case-clear_to-requires : goal.lower_case-clear_to-requires
 lower_case-clear_to-requires g t0 c =
     let t = component_types c.args.cx.now.core.now in
     let h = c.in-Ok.ensures.lowers in
-    let words = ap (λ (x : Table). flat (shape_of x c.args.ty.now)) c.types.ensures in
+    let words = ap (λ (x : TypeTable). flat (shape_of x c.args.ty.now)) c.types.ensures in
     record {
       later = omega (arith, h.passed, ap (λ (x : Spot). x.word) c.behind_tag.ensures, c.word_after-end.ensures, words, case_room t (shape_of t c.args.ty.now) c.args.value.now c.args.case.now c.requires.seen);
       room = omega (arith, h.stays.same_length, length-set c.args.dst.now c.args.from.word c.u32.result, c.requires.room, c.word_after-end.ensures, words);
@@ -219,7 +219,7 @@ lower_case-returns-in-Ok-clause-lowers g t0 c =
     let t = component_types core in
     let s = shape_of t a.ty.now in
     let L : GuestLaws _ = record { seen = g.G.Guest.seen; moves = g.G.Guest.moves; stays = g.met.G.Guest.stays; goes_on = g.met.G.Guest.goes_on } in
-    let end : c.word_after-end.result ≡ a.from.word + flat s = c.word_after-end.ensures ∙ ap (λ (x : Table). a.from.word + flat (shape_of x a.ty.now)) c.types.ensures in
+    let end : c.word_after-end.result ≡ a.from.word + flat s = c.word_after-end.ensures ∙ ap (λ (x : TypeTable). a.from.word + flat (shape_of x a.ty.now)) c.types.ensures in
     case_lowered L a.cx.now.options t core c.lower_parts.new.cx.core.now a.dst.now (set a.dst.now a.from.word c.u32.result) c.lower_parts.new.dst a.from c.behind_tag.result s a.case.now a.value.now c.requires.seen
     (ap (set a.dst.now a.from.word) c.u32.ensures) c.behind_tag.ensures (case_passes t a.ty.now a.value.now a.case.now c.requires.seen)
     c.clear_to.new.dst c.in-Ok.past c.clear_to.result c.word_after-end.result c.requires.room end c.clear_to.ensures.clears c.clear_to.ensures.spot c.in-Ok.ensures.lowers

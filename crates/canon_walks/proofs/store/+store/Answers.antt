@@ -6,7 +6,7 @@ use Rattle.canon_model.specs.Memory.{num}
 use Rattle.canon_model.specs.Layout.{begins, members_end, size}
 use Rattle.canon_model.specs.Shape.{Shape}
 use Rattle.canon_types.specs.Depth.{deepest, depth, element_shape}
-use Rattle.canon_types.specs.Table.{Knows, Table, shape_of}
+use Rattle.canon_types.specs.Table.{Knows, TypeTable, shape_of}
 use Rattle.canon_types.specs.declared.types.InterfaceType.{InterfaceType}
 use Rattle.canon_value_parts.proofs.HandleLifting.{handle_shape}
 use Rattle.canon_value_parts.proofs.HandleSteps.{handle_size}
@@ -20,7 +20,7 @@ use Rattle.canon_plan.specs.Element.{IsKnown, list_shape, row_of}
 use Rattle.canon_value_parts.specs.Elements.{element_in, list_length, list_value}
 use Rattle.canon_plan.specs.declared.element.Element.{Element}
 use Rattle.canon_context.specs.declared.fault.Fault.{Fault}
-use Rattle.canon_value_parts.specs.View.{IsMember, names_of, shapes_of, values_of}
+use Rattle.canon_value_parts.specs.View.{IsMember, viewed_names, viewed_shapes, viewed_values}
 use Rattle.canon_val.specs.declared.val.Val.{the_lemmas}
 use Rattle.canon_context.proofs.Cores.{same_types}
 use Rattle.canon_value_parts.proofs.Passing.{handles_types}
@@ -40,10 +40,10 @@ use Rattle.canon_walks.proofs.store.+store.Goals as goal
 
 -- the member by the table of the start
 here : (g : Over) (t0 : ℕ) (c : store_parts-After-member_of-member g t0)
-    → IsMember (component_types c.args.cx.now.core.now) (shapes_of (component_types c.args.cx.now.core.now) c.args.members.now) (names_of c.args.members.now) (values_of c.args.members.now) c.loop-k.k c.member_of-member.result
+    → IsMember (component_types c.args.cx.now.core.now) (viewed_shapes (component_types c.args.cx.now.core.now) c.args.members.now) (viewed_names c.args.members.now) (viewed_values c.args.members.now) c.loop-k.k c.member_of-member.result
 here g t0 c =
     let ms = c.args.members.now in
-    subst (λ (x : Table). IsMember x (shapes_of x ms) (names_of ms) (values_of ms) c.loop-k.k c.member_of-member.result)
+    subst (λ (x : TypeTable). IsMember x (viewed_shapes x ms) (viewed_names ms) (viewed_values ms) c.loop-k.k c.member_of-member.result)
     (c.types-types.ensures ∙ handles_types c.args.cx.now.core.now c.loop-k.cx.core.now c.loop-k.invariant.stored.same) c.member_of-member.ensures
 
 -- where it begins, and where it ends
@@ -88,9 +88,9 @@ store_parts-store_value-requires g t0 c =
     let is = here g t0 at.After-member_of-member in
     let fit = stands L _ _ _ _ _ _ _ _ _ _ _ _ c.loop-k.invariant.stored m is in
     let start = begins_at g t0 at.After-next_field32_size-start in
-    let shallow = member_shallow (shapes_of (component_types core) c.args.members.now) c.loop-k.k is.name (shape_of (component_types core) m.ty) _ is.shapes in
-    let same : depth (shape_of (component_types c.loop-k.cx.core.now) m.ty) ≡ depth (shape_of (component_types core) m.ty) = ap (λ (x : Table). depth (shape_of x m.ty)) (handles_types core c.loop-k.cx.core.now c.loop-k.invariant.stored.same) in
-    let falls : 4 * depth (shape_of (component_types c.loop-k.cx.core.now) m.ty) < 4 * deepest (shapes_of (component_types core) c.args.members.now) + 1 = omega (arith, shallow, same) in
+    let shallow = member_shallow (viewed_shapes (component_types core) c.args.members.now) c.loop-k.k is.name (shape_of (component_types core) m.ty) _ is.shapes in
+    let same : depth (shape_of (component_types c.loop-k.cx.core.now) m.ty) ≡ depth (shape_of (component_types core) m.ty) = ap (λ (x : TypeTable). depth (shape_of x m.ty)) (handles_types core c.loop-k.cx.core.now c.loop-k.invariant.stored.same) in
+    let falls : 4 * depth (shape_of (component_types c.loop-k.cx.core.now) m.ty) < 4 * deepest (viewed_shapes (component_types core) c.args.members.now) + 1 = omega (arith, shallow, same) in
     λ κs sub. (search (rules, the_lemmas, falls), (sub.0, (sub.1, (fit.known, (fit.small, omega (arith, start, fit.room))))))
 
 pub store_parts-returns-in-Err-clause-stores : goal.store_parts-returns-in-Err-clause-stores
@@ -121,7 +121,7 @@ pub store_parts-returns-clause-stores : goal.store_parts-returns-clause-stores
 store_parts-returns-clause-stores g t0 c =
     let ms = c.args.members.now in
     let L : GuestLaws _ = record { seen = g.G.Guest.seen; moves = g.G.Guest.moves; stays = g.met.G.Guest.stays; goes_on = g.met.G.Guest.goes_on } in
-    let all : c.loop-k.k ≡ length (values_of ms) = omega (arith, c.loop-k-test.false, c.loop-k.auto.k-end, c.count_of-k-end.ensures) in
+    let all : c.loop-k.k ≡ length (viewed_values ms) = omega (arith, c.loop-k-test.false, c.loop-k.auto.k-end, c.count_of-k-end.ensures) in
     end L _ _ _ _ _ _ _ _ _ _ _ _ c.loop-k.invariant.stored (all ∙ c.requires.count) (all ∙ sym (names_count ms)) all
 
 -- ---- a list
@@ -163,14 +163,14 @@ place_list-store_parts-requires g t0 c =
     let given = c.in-Ok.ensures.asked in
     let now = component_types asked in
     let eT : now ≡ t = same_types core asked given.same in
-    let known : IsKnown now e = subst (λ (x : Table). IsKnown x e) (sym eT) c.requires.known in
+    let known : IsKnown now e = subst (λ (x : TypeTable). IsKnown x e) (sym eT) c.requires.known in
     let r = row now e known n in
     let ms = c.members_in-members.result in
-    let shapes : shapes_of now ms ≡ row_of (list_shape now e) n = c.members_in-members.ensures.shapes now in
+    let shapes : viewed_shapes now ms ≡ row_of (list_shape now e) n = c.members_in-members.ensures.shapes now in
     let are_known = c.members_in-members.ensures.known now known in
-    let falls : 4 * deepest (shapes_of now ms) + 1 < 4 * depth (list_shape t e) - 2 = omega (arith, r.shallow, ap deepest shapes, ap (λ (x : Table). depth (list_shape x e)) eT) in
+    let falls : 4 * deepest (viewed_shapes now ms) + 1 < 4 * depth (list_shape t e) - 2 = omega (arith, r.shallow, ap deepest shapes, ap (λ (x : TypeTable). depth (list_shape x e)) eT) in
     let bytes : c.element_count-length.result * size false (element_shape (list_shape t c.element_of-element.result)) ≡ n * size false (element_shape (list_shape now e)) =
-    ap₂ (λ (j : ℕ) (s : Shape). j * size false s) c.element_count-length.ensures (ap₂ (λ (x : Table) (y : Element). element_shape (list_shape x y)) (sym eT) c.element_of-element.ensures) in
+    ap₂ (λ (j : ℕ) (s : Shape). j * size false s) c.element_count-length.ensures (ap₂ (λ (x : TypeTable) (y : Element). element_shape (list_shape x y)) (sym eT) c.element_of-element.ensures) in
     let room = r.room c.in-Ok.pointer asked.memory (omega (arith, given.does.inside, bytes)) in
     λ κs sub. (search (rules, the_lemmas, falls), (sub.0, (sub.1, (are_known, (values_count now ms are_known, (given.small, omega (arith, room, ap (members_end false 0) shapes)))))))
 
@@ -187,7 +187,7 @@ place_list-returns-in-Ok-store_parts-clause-places g t0 c =
     let L : GuestLaws _ = record { seen = g.G.Guest.seen; moves = g.G.Guest.moves; stays = g.met.G.Guest.stays; goes_on = g.met.G.Guest.goes_on } in
     let ask = asked_for L core asked e c.element_of-element.result k (Ok c.in-Ok.pointer) c.element_of-element.ensures given.asked in
     let ms = c.members_in-members in
-    let shapes = ms.ensures.shapes now ∙ ap (λ (x : Table). row_of (list_shape x e) (list_length a.list.now)) (same_types core asked given.asked.same) in
+    let shapes = ms.ensures.shapes now ∙ ap (λ (x : TypeTable). row_of (list_shape x e) (list_length a.list.now)) (same_types core asked given.asked.same) in
     let bytes = element_size t c.types.result.now e c.element_of-element.result c.element_abi.result.now c.types.ensures c.element_of-element.ensures c.element_abi.ensures in
     list_placed _ _ _ _ _ (listed t a.list.now c.requires.known) (listed_passes t a.list.now c.requires.known) L a.cx.now.options core asked c.store_parts.new.cx.core.now a.place k c.in-Ok.pointer c.element_count-length.ensures c.in-Some.ensures.some.1
     (omega (arith, c.in-Some.ensures.some.0, c.in-Some.ensures.some.2, ap (λ (x : ℕ). k * x) bytes)) ask c.in-Ok-store_parts.next
@@ -207,7 +207,7 @@ place_list-returns-in-Err-store_parts-clause-places g t0 c =
     let L : GuestLaws _ = record { seen = g.G.Guest.seen; moves = g.G.Guest.moves; stays = g.met.G.Guest.stays; goes_on = g.met.G.Guest.goes_on } in
     let ask = asked_for L core asked e c.element_of-element.result k (Ok c.in-Ok.pointer) c.element_of-element.ensures given.asked in
     let ms = c.members_in-members in
-    let shapes = ms.ensures.shapes now ∙ ap (λ (x : Table). row_of (list_shape x e) (list_length a.list.now)) (same_types core asked given.asked.same) in
+    let shapes = ms.ensures.shapes now ∙ ap (λ (x : TypeTable). row_of (list_shape x e) (list_length a.list.now)) (same_types core asked given.asked.same) in
     let bytes = element_size t c.types.result.now e c.element_of-element.result c.element_abi.result.now c.types.ensures c.element_of-element.ensures c.element_abi.ensures in
     list_broken _ _ _ _ _ (listed t a.list.now c.requires.known) (listed_passes t a.list.now c.requires.known) L a.cx.now.options core asked c.store_parts.new.cx.core.now a.place k c.in-Ok.pointer c.element_count-length.ensures c.in-Some.ensures.some.1
     (omega (arith, c.in-Some.ensures.some.0, c.in-Some.ensures.some.2, ap (λ (x : ℕ). k * x) bytes)) ask c.in-Err-store_parts.fault
@@ -278,7 +278,7 @@ pub store_value-store_parts-requires : goal.store_value-store_parts-requires
 store_value-store_parts-requires g t0 c =
     let t = component_types c.args.cx.now.core.now in
     let (known, lies, has, count) = rw c.in-Ok-Members.field-0-is at (rw c.types.ensures at c.in-Ok-Members.ensures) in
-    let ms = shapes_of t c.in-Ok-Members.members in
+    let ms = viewed_shapes t c.in-Ok-Members.members in
     let falls : 4 * deepest ms + 1 < 4 * depth (shape_of t c.args.ty) = lies_depth (shape_of t c.args.ty) ms lies in
     λ κs sub. (
       search (rules, the_lemmas, falls),
@@ -294,8 +294,9 @@ store_value-returns-in-Ok-Members-clause-stores g t0 c =
     let seen = rw c.in-Ok-Members.field-0-is at (rw c.types.ensures at c.in-Ok-Members.ensures) in
     let (known, lies, has, count) = seen in
     let ms = c.in-Ok-Members.members in
-    members_store L a.cx.now.options core c.store_parts.new.cx.core.now a.place (shape_of t a.ty) (shapes_of t ms) a.at (names_of ms) (values_of ms) a.value.now c.store_parts.result c.requires.room (omega arith) lies has count
-    (members_passes t a.ty a.value.now ms seen) (subst (λ (n : ℕ). PartsStoreTo L.seen L.moves a.cx.now.options core c.store_parts.new.cx.core.now a.place (shapes_of t ms) 0 a.at (names_of ms) (values_of ms) n c.store_parts.result)
+    members_store L a.cx.now.options core c.store_parts.new.cx.core.now a.place (shape_of t a.ty) (viewed_shapes t ms) a.at (viewed_names ms) (viewed_values ms) a.value.now c.store_parts.result c.requires.room (omega arith) lies has count
+    (members_passes t a.ty a.value.now ms seen) (subst (λ (n : ℕ). PartsStoreTo L.seen L.moves a.cx.now.options core c.store_parts.new.cx.core.now a.place (viewed_shapes t ms) 0 a.at (viewed_names ms) (viewed_values ms) n
+    c.store_parts.result)
     c.saturating_add.ensures c.store_parts.ensures.stores)
 
 pub store_value-overflow_add-inner : goal.store_value-overflow_add-inner
@@ -317,7 +318,7 @@ store_value-store_parts-requires-in-Ok-Case g t0 c =
     let core = c.args.cx.now.core.now in
     let wants = case_wants (component_types core) (shape_of (component_types core) c.args.ty) c.args.value.now c.in-Ok-Case.case c.args.at (rw c.in-Ok-Case.field-0-is at (rw c.types.ensures at c.in-Ok-Case.ensures)) in
     let long = written_length core.memory c.as_slice_mut.result.now c.put_low_bytes.new.memory _ c.as_slice_mut.ensures.value c.put_low_bytes.ensures.writes in
-    let falls : 4 * deepest (shapes_of (component_types core) c.in-Ok-Case.case.payload) + 1 < 4 * depth (shape_of (component_types core) c.args.ty) = omega (arith, wants.falls) in
+    let falls : 4 * deepest (viewed_shapes (component_types core) c.in-Ok-Case.case.payload) + 1 < 4 * depth (shape_of (component_types core) c.args.ty) = omega (arith, wants.falls) in
     λ κs sub. (search (rules, the_lemmas, falls), (sub.0, (sub.1, (wants.known, (wants.count, (omega (arith, long, c.requires.small), omega (arith, long, c.requires.room, wants.room, c.from.ensures)))))))
 
 pub store_value-returns-in-Ok-Case-clause-stores : goal.store_value-returns-in-Ok-Case-clause-stores

@@ -5,7 +5,7 @@ use Rattle.canon_types.specs.Table.{shape_of}
 use Rattle.canon_context.specs.Core.{component_types}
 use Rattle.canon_value_parts.specs.Elements.{element_in}
 use Rattle.canon_plan.specs.Element.{list_shape}
-use Rattle.canon_value_parts.specs.View.{names_of, shapes_of, values_of}
+use Rattle.canon_value_parts.specs.View.{viewed_names, viewed_shapes, viewed_values}
 use Rattle.canon_value_parts.proofs.WalkLoops.{PartsAreStored}
 use Rattle.canon_walks.proofs.store.+store.Given as goal
 
@@ -13,7 +13,7 @@ abbrev pub decreases-store_value : goal.decreases-store_value
 decreases-store_value g l = 4 * depth (shape_of (component_types l.cx.now.core.now) l.ty)
 
 abbrev pub decreases-store_parts : goal.decreases-store_parts
-decreases-store_parts g l = 4 * deepest (shapes_of (component_types l.cx.now.core.now) l.members.now) + 1
+decreases-store_parts g l = 4 * deepest (viewed_shapes (component_types l.cx.now.core.now) l.members.now) + 1
 
 abbrev pub decreases-store_list : goal.decreases-store_list
 decreases-store_list g l = 4 * depth (list_shape (component_types l.cx.now.core.now) (element_in l.list.now)) - 1
@@ -23,7 +23,7 @@ decreases-place_list g l = 4 * depth (list_shape (component_types l.cx.now.core.
 
 abbrev pub invariant-store_parts-loop-k : goal.invariant-store_parts-loop-k
 invariant-store_parts-loop-k g l = record {
-  stored : PartsAreStored g.G.Guest.seen g.G.Guest.moves l.fn.cx.options l.place (shapes_of (component_types l.fn.cx.core.now) l.members) (names_of l.members) (values_of l.members)
+  stored : PartsAreStored g.G.Guest.seen g.G.Guest.moves l.fn.cx.options l.place (viewed_shapes (component_types l.fn.cx.core.now) l.members) (viewed_names l.members) (viewed_values l.members)
       l.fn.cx.core.now l.at l.first l.cx.core.now l.next l.end l.k;
   options : l.cx.options ≡ l.fn.cx.options;
   reference : l.cx.core.ghost_name ≡ l.fn.cx.core.ghost_name;

@@ -4,7 +4,7 @@ use Rattle.canon_context.proofs.Moves.{GuestLaws}
 use Rattle.canon_context.specs.Core.{component_types}
 use Rattle.canon_model.specs.Flat.{max_params}
 use Rattle.canon_model.specs.Shape.{Members, of_places, product}
-use Rattle.canon_types.specs.Table.{Table, tuple_members}
+use Rattle.canon_types.specs.Table.{TypeTable, tuple_members}
 use Rattle.canon_func.proofs.Lowered.{params_are, written}
 use Rattle.canon_func.proofs.TupleLowered.{tuple_done, tuple_refused}
 use Rattle.canon_func.specs.Call.{words_within}
@@ -24,7 +24,7 @@ returns-in-Ok-clause-lowered g c =
     let are = params_are (component_types before) c.types-types.result.now e.ty f same c.func.ensures.found in
     let all = written c.in_ok-words.words.items c.lower_into.new.words c.in_ok-words.words.len (omega (arith, c.deref_mut.ensures.len, c.lower_into.ensures.count)) in
     let counted : words_within max_params (tuple_members c.types-types.result.now f.params) ≡ words_within max_params callee.params =
-    ap (λ (t : Table). words_within max_params (tuple_members t f.params)) same ∙ ap (words_within max_params) are in
+    ap (λ (t : TypeTable). words_within max_params (tuple_members t f.params)) same ∙ ap (words_within max_params) are in
     tuple_done L e.options before after callee.params (g.P.ComponentType.walks v) (g.P.Lower.gives before.component.types (product of_places callee.params) v) _ c.lower_into.new.words all
     (omega (arith, ap length all, c.lower_into.ensures.count, c.deref_mut.ensures.len, c.in_ok-words.ensures.len, c.word_count.ensures, counted))
     (subst (λ (ms : Members). TypedParams L.seen L.moves e.options before after ms c.lower_into.new.words (g.P.ComponentType.walks v) (g.P.Lower.gives before.component.types (product of_places ms) v) (Ok tt)) are c.in-Ok.ensures.lowers)

@@ -2,7 +2,7 @@ use Rattle.std.proofs.Common.{List, [], ap, arith, refl, subst, ◌++◌, ◌∙
 use Rattle.std.specs.Prelude.{IfSome, slice_get}
 use Rattle.canon_context.specs.declared.component.Component.{Component}
 use Rattle.canon_model.specs.Shape.{member_count}
-use Rattle.canon_types.specs.Table.{Table, param_members}
+use Rattle.canon_types.specs.Table.{TypeTable, param_members}
 use Rattle.canon_host.proofs.Importing.{faults, logs, refuses, wants}
 use Rattle.canon_script.specs.Imports.{answers_view}
 use Rattle.canon_imports.specs.Imports.{GivesAnswers, entries_of}
@@ -37,7 +37,7 @@ returns-clause-serves g c =
     let s = c.args.self.now in
     let next = next_is s.answers.items s.lines.items c.reserve.new.self.items c.args.n _ c.next.ensures c.reserve.ensures.items in
     let types = c.types.ensures ∙ ap (λ (x : Component). x.types.types) c.component.ensures.component in
-    let count = subst (λ (t : Table). IfSome (slice_get t.funcs c.args.cx.ty) (λ f. c.param_count-given.result ≡ member_count (param_members t f))) types c.param_count-given.ensures in
+    let count = subst (λ (t : TypeTable). IfSome (slice_get t.funcs c.args.cx.ty) (λ f. c.param_count-given.result ≡ member_count (param_members t f))) types c.param_count-given.ensures in
     let line : Line = record { index = c.args.n; given = c.param_count-given.result; values = c.in-Ok.values } in
     logs (GivesAnswers (answers_view s.answers.items)) (log_of s.lines.items) (log_of c.push_reserved.new.self.items) c.args.n g.G.Guest.seen g.G.Guest.moves c.args.cx.ty c.args.cx.options s.refusals s.refusals c.args.cx.core.now _ c.args.storage.now _ _
     c.in-Ok.values c.param_count-given.result (c.in-Ok.ensures.serves (answers_view s.answers.items) (entries_of s.lines.items) c.args.n next) count

@@ -3,7 +3,7 @@ use Rattle.canon_context.specs.Core.{component_types}
 use Rattle.canon_model.specs.Reach.{word}
 use Rattle.canon_model.specs.Shape.{of_items}
 use Rattle.canon_types.specs.Table.{shape_of}
-use Rattle.canon_typed.specs.Charges.{cap}
+use Rattle.canon_model.specs.Memory.{cap}
 use Rattle.canon_reading.specs.Reading.{setting_in}
 use Rattle.canon_reading.specs.Spots.{flat_in}
 use Rattle.canon_lift_parts.proofs.Lookups.{list_element, list_fits, list_known, list_shape}

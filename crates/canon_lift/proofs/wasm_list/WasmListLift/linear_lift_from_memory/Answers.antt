@@ -2,9 +2,8 @@ use Rattle.std.proofs.Common.{◌+◌, ◌∙◌, ap, arith, refl}
 use Rattle.canon_context.specs.Core.{component_types}
 use Rattle.canon_context.specs.declared.fault.At.TheVariants as place
 use Rattle.canon_lowering.specs.Storing.{narrow}
-use Rattle.canon_model.specs.Memory.{num}
+use Rattle.canon_model.specs.Memory.{cap, num}
 use Rattle.canon_types.specs.Table.{shape_of}
-use Rattle.canon_typed.specs.Charges.{cap}
 use Rattle.canon_reading.specs.Reading.{setting_in}
 use Rattle.canon_reading.specs.Spots.{stored}
 use Rattle.canon_lift_parts.proofs.Lookups.{list_element, list_fits, list_known, list_shape}

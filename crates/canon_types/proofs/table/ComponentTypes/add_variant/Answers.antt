@@ -11,14 +11,14 @@ use Rattle.canon_types.specs.declared.types.InterfaceType.{InterfaceType}
 use Rattle.canon_types.specs.declared.types.InterfaceType.TheVariants as ty
 use Rattle.canon_types.specs.Measured.{IsMeasured}
 use Rattle.canon_types.specs.Refusal.{is_empty, names, names_refusal, refusal, with_definition}
-use Rattle.canon_types.specs.Table.{cases_in, Definition, Knows, Table, all_shapes, defined_shape, is_variant, parts}
+use Rattle.canon_types.specs.Table.{cases_in, Definition, Knows, TypeTable, all_shapes, defined_shape, is_variant, parts}
 use Rattle.canon_types.proofs.Adding.{Before, adds, before, deep_refused, has_new, large_refused, passed_parts, refused_by_parts}
 use Rattle.canon_types.proofs.Laid.{variant_bytes, variant_laid, variant_told}
 use Rattle.canon_types.proofs.Made.{caused, case_names, case_parts, case_payload_list, cases_empty, names_apart, names_refused, payloads_known}
 use Rattle.canon_types.proofs.Measured.{measured_by}
 use Rattle.canon_types.proofs.table.ComponentTypes.add_variant.Goals as goal
 
-bytes_same : {Z : Type 0} (t : Table) (cases : List (String Z × Option InterfaceType)) (ps : List (Option InterfaceType)) → ps ≡ map (λ (x : Name × Option InterfaceType). x.1) (map (λ x. (string_bytes x.0, x.1)) cases)
+bytes_same : {Z : Type 0} (t : TypeTable) (cases : List (String Z × Option InterfaceType)) (ps : List (Option InterfaceType)) → ps ≡ map (λ (x : Name × Option InterfaceType). x.1) (map (λ x. (string_bytes x.0, x.1)) cases)
     → size false (variant of_option (unnamed_cases (all_shapes t) ps)) ≡ size false (variant of_cases (cases_in (all_shapes t) (map (λ x. (string_bytes x.0, x.1)) cases)))
 bytes_same {Z} t cases ps whole =
     ap (λ (xs : List (Option InterfaceType)). size false (variant of_option (unnamed_cases (all_shapes t) xs))) whole

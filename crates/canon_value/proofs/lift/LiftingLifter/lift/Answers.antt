@@ -3,7 +3,7 @@ use Rattle.canon_context.specs.Lifter.{origin_of}
 use Rattle.canon_indices.specs.Options.{encoding_of}
 use Rattle.canon_lowering.specs.Storing.{narrow}
 use Rattle.canon_model.specs.Leaves.{flat_leaves}
-use Rattle.canon_types.specs.Table.{Table, shape_of}
+use Rattle.canon_types.specs.Table.{TypeTable, shape_of}
 use Rattle.canon_value_parts.specs.Lifts.{LiftsWords}
 use Rattle.canon_value_parts.specs.Resources.{resources}
 use Rattle.canon_value_parts.proofs.LiftSteps.{lift_err, lift_ok}
@@ -18,7 +18,7 @@ returns-clause-gives c =
     let l = c.args.self.now in
     let t = s.types.now in
     let lift = c.lift_value in (
-      subst (λ (x : Table). LiftsWords (origin_of s) l.src.now (shape_of x l.ty) l.at c.args.ledger.now c.args.fuel.now lift.result lift.new.ledger lift.new.fuel) c.requires.one_origin (record {
+      subst (λ (x : TypeTable). LiftsWords (origin_of s) l.src.now (shape_of x l.ty) l.at c.args.ledger.now c.args.fuel.now lift.result lift.new.ledger lift.new.fuel) c.requires.one_origin (record {
         ok = lift_ok enc m l.src.now (shape_of t l.ty) l.at lift.new.at c.args.fuel.now lift.new.fuel lift.result lift.ensures.lifts;
         err = lift_err enc m l.src.now (shape_of t l.ty) l.at lift.new.at c.args.fuel.now lift.new.fuel lift.result lift.ensures.lifts;
         falls = lift.ensures.falls;

@@ -8,7 +8,7 @@ use Rattle.canon_model.specs.Reach.{values_reach}
 use Rattle.canon_model.specs.Shape.{of_places, product}
 use Rattle.canon_types.specs.declared.types.InterfaceType.{InterfaceType}
 use Rattle.canon_types.specs.declared.types.InterfaceType.TheVariants as ty
-use Rattle.canon_types.specs.Table.{Table, members_of, shape_of, tuple_members}
+use Rattle.canon_types.specs.Table.{TypeTable, members_of, shape_of, tuple_members}
 use Rattle.canon_value_parts.specs.Lifts.{HaveWords, LiftsValues}
 use Rattle.canon_value_parts.specs.Resources.{all_resources}
 use Rattle.canon_value_parts.proofs.LiftedSteps.{lifted_after}
@@ -24,7 +24,7 @@ words c =
 
 -- there are as many words as the values take, by the table that they were looked up in
 counted : (c : After-tuple) → HaveWords c.args.self.now.most (tuple_members c.args.source.now.types.now c.args.self.now.ty) c.args.self.now.src.now
-counted c = subst (λ (t : Table). HaveWords c.args.self.now.most (tuple_members t c.args.self.now.ty) c.args.self.now.src.now) (sym c.requires.one_origin) c.requires.ready.2
+counted c = subst (λ (t : TypeTable). HaveWords c.args.self.now.most (tuple_members t c.args.self.now.ty) c.args.self.now.src.now) (sym c.requires.one_origin) c.requires.ready.2
 
 pub lift_values_near-requires-clause-words : goal.lift_values_near-requires-clause-words
 lift_values_near-requires-clause-words c =
@@ -48,7 +48,7 @@ returns-in-Some-clause-gives c =
     let flat_is = words (goal.at.returns-in-Some-clause-gives c).After-tuple in
     let near : members_flat ms ≤ most = omega (arith, flat_is, c.from-most.ensures, (c.in-Some.ensures.words _ c.tuple.ensures.abi).0) in
     let lift = c.lift_values_near in
-    subst (λ (t : Table). LiftsValues most (origin_of s) ws (tuple_members t c.args.self.now.ty) c.args.ledger.now c.args.fuel.now lift.result lift.new.ledger lift.new.fuel) c.requires.one_origin (record {
+    subst (λ (t : TypeTable). LiftsValues most (origin_of s) ws (tuple_members t c.args.self.now.ty) c.args.ledger.now c.args.fuel.now lift.result lift.new.ledger lift.new.fuel) c.requires.one_origin (record {
       ok = lift.ensures.ok most near;
       err = near_err enc m ws most ms (c.args.fuel.now < values_reach enc m ws most ms) lift.result c.requires.ready.1 near (lift.ensures.cause most near);
       falls = lift.ensures.falls;
@@ -65,7 +65,7 @@ returns-in-None-clause-gives c =
     let passed = passes_most _ _ (omega (arith, c.from-most.ensures, c.requires.ready.1)) (c.in-None.ensures.words _ c.tuple.ensures.abi) in
     let far : most < members_flat ms = omega (arith, flat_is, c.from-most.ensures, passed) in
     let lift = c.load_values in
-    subst (λ (t : Table). LiftsValues most (origin_of s) ws (tuple_members t c.args.self.now.ty) c.args.ledger.now c.args.fuel.now lift.result lift.new.ledger lift.new.fuel) c.requires.one_origin (record {
+    subst (λ (t : TypeTable). LiftsValues most (origin_of s) ws (tuple_members t c.args.self.now.ty) c.args.ledger.now c.args.fuel.now lift.result lift.new.ledger lift.new.fuel) c.requires.one_origin (record {
       ok = lift.ensures.ok most far;
       err = lift.ensures.err most far;
       falls = lift.ensures.falls;

@@ -23,7 +23,8 @@ use Rattle.canon_value_parts.proofs.HandleLifting.{handle_flat_lifts, handle_lif
 use Rattle.canon_value_parts.proofs.LeavesAt.{no_flat_left, scalar_flat_leaves, text_flat_leaves}
 use Rattle.canon_value_parts.proofs.Lifted.{lifts_nothing, no_refusal, parts_of_leaves, put_together, refused_after, refused_before, stops_before, taking_ends, taking_goes_on, taking_stops_first, taking_stops_here}
 use Rattle.canon_value_parts.proofs.LiftSteps.{lifted_scalar_none, lifted_text_none}
-use Rattle.canon_value_parts.specs.Resources.{all_resources, resources, stop_of}
+use Rattle.canon_value_parts.specs.Resources.{all_resources, resources}
+use Rattle.canon_context.specs.Faults.{stop_of}
 use Rattle.canon_walks.proofs.lift.+lift.Goals as goal
 
 pub lift_parts-returns-in_err-values-clause-handles : goal.lift_parts-returns-in_err-values-clause-handles

@@ -1,11 +1,11 @@
 use Rattle.std.proofs.Common.{◌≡◌, ◌≢◌, Some, subst}
 use Rattle.std.specs.Prelude.{IfErr}
 use Rattle.canon_types.specs.declared.error.TypeError.TheVariants.{OutOfMemory}
-use Rattle.canon_types.specs.Table.{Table}
+use Rattle.canon_types.specs.Table.{TypeTable}
 use Rattle.canon_types.specs.Keeps.{cases_type}
 use Rattle.canon_types.specs.Refusal.{refusal}
 use Rattle.canon_types.proofs.table.builder.TypeBuilder.add_variant.Goals as goal
 
 pub returns-clause-cause : goal.returns-clause-cause
 returns-clause-cause c =
-    subst (λ (t : Table). IfErr c.add_variant.result (λ e. e ≢ OutOfMemory → refusal t (cases_type c.args.cases.items) ≡ Some e)) c.self.view_is c.add_variant.ensures.cause
+    subst (λ (t : TypeTable). IfErr c.add_variant.result (λ e. e ≢ OutOfMemory → refusal t (cases_type c.args.cases.items) ≡ Some e)) c.self.view_is c.add_variant.ensures.cause
