@@ -1,5 +1,5 @@
 -- What the program reads, and what it answers.
-use Rattle.std.specs.Prelude.{◌≡◌, ℕ, ◌^◌, ◌<◌, ◌≤◌, ◌⊎◌, List, [], ◌∷◌, length, nat_eq, codes, if◌then◌else◌, IfSome, Option, None, Some, option_map, String, string_bytes, IsUtf8}
+use Rattle.std.specs.Prelude.{◌≡◌, ℕ, ◌+◌, ◌^◌, ◌<◌, ◌≤◌, ◌⊎◌, List, [], ◌∷◌, length, nat_eq, codes, if◌then◌else◌, IfSome, Option, None, Some, option_map, String, string_bytes, IsUtf8}
 use lib.Pointwise.{pointwise}
 use Rattle.std.specs.declared.alloc.Global.{Global}
 use Rattle.std.specs.Io.KnownBytes.{Consumes, IsAtEnd}
@@ -52,6 +52,10 @@ TaskLeaves (listing l) records text = (records ≡ []) × (text ≡ layout_text 
 -- the most bytes of an input
 abbrev pub max_input : ℕ
 max_input = 2 ^ 24
+
+-- the most that are taken of a source: those of an input, and of one read more
+abbrev pub most_taken : ℕ
+most_taken = max_input + 4096
 
 -- the bytes read as this JSON value
 pub record IsJson (bytes : List ℕ) (tree : Data) : Type 0 where

@@ -8,7 +8,7 @@ ghost use Rattle.canon_memory.specs.Counts.{Rose};
 ghost use Rattle.canon_player.specs.Session.{Session};
 ghost use Rattle.canon_script.specs.Script.{Play, play_of, script_of};
 ghost use Rattle.canon_transcript.specs.Text.{transcript_text};
-ghost use Rattle.canon_cli.specs.Program.{AnswersInput, TaskLeaves, IsJson, IsNoJson, IsPerformed, IsRefusedStatus, IsStatus, IsTask, OnTold, Performed, ReadsJson, ReadsNoJson, ReadsNoTask, ReadsTask, ReadsTooMuch, Task, command_of, max_input, task_of};
+ghost use Rattle.canon_cli.specs.Program.{AnswersInput, TaskLeaves, IsJson, IsNoJson, IsPerformed, IsRefusedStatus, IsStatus, IsTask, OnTold, Performed, ReadsJson, ReadsNoJson, ReadsNoTask, ReadsTask, ReadsTooMuch, Task, command_of, max_input, most_taken, task_of};
 ghost use Rattle.canon_gen.specs.Lines.{Generated};
 ghost use Rattle.canon_cli.specs.Gen.{IsGenStatus, gen_of};
 ghost use Rattle.canon_cli.specs.Streams.{AppendsPrefix, TakesAtMost};
@@ -67,15 +67,21 @@ pub fn run<S: Source, K: Sink>(
     ensures bad_script { result ≡ Status.BAD_SCRIPT → IfSome (command_of words.now) (λ asked. ReadsNoTask (task_of asked) (S.left source.old) (S.left source.new)) }
 
     // A command whose reads don't fail answers an input for what it is, or runs out of memory; it takes no more of it
-    // than an input may have, or answers so.
+    // than an input may have, or answers so, and then no more than one read beyond.
     ensures answers { IfSome (command_of words.now) (λ asked. ¬ Rose (S.faults source.old) (S.faults source.new)
         → OnTold (S.left source.old) (λ input. AnswersInput (task_of asked) input result)) }
     ensures taken { ¬ (result ≡ Status.TOO_LONG) → ¬ (result ≡ Status.MEMORY) → TakesAtMost max_input (S.left source.old) (S.left source.new) }
+    ensures most { TakesAtMost most_taken (S.left source.old) (S.left source.new) }
 
     // A task is done and its text written whole, or memory ran out, where nothing failed.
     ensures complete { IfSome (command_of words.now) (λ asked. ¬ Rose (S.faults source.old) (S.faults source.new) → ¬ Rose (K.faults sink.old) (K.faults sink.new)
         → OnTold (S.left source.old) (λ input. IsTask (task_of asked) input → (result.0 ≡ 0) ⊎ (result.0 ≡ 5))) }
     ensures no_other { IsStatus result }
+
+    // Each status is its number.
+    ensures numbers { (result ≡ Status.DONE → result.0 ≡ 0) × (result ≡ Status.USAGE → result.0 ≡ 2) × (result ≡ Status.READ_FAULT → result.0 ≡ 3)
+        × (result ≡ Status.WRITE_FAULT → result.0 ≡ 4) × (result ≡ Status.MEMORY → result.0 ≡ 5) × (result ≡ Status.TOO_LONG → result.0 ≡ 6)
+        × (result ≡ Status.NOT_JSON → result.0 ≡ 7) × (result ≡ Status.BAD_SCRIPT → result.0 ≡ 8) }
 
     // `gen N` reads nothing and answers 0, 4 or 5.
     ensures gen_answers { IfSome (gen_of words.now) (λ n. (source.new ≡ source.old) × IsGenStatus result) }
@@ -138,6 +144,7 @@ fn run_command<S: Source, K: Sink>(
     ensures not_json { result ≡ Status.NOT_JSON → ReadsNoJson (S.left source.old) (S.left source.new) }
     ensures bad_script { result ≡ Status.BAD_SCRIPT → ReadsNoTask (task_of asked) (S.left source.old) (S.left source.new) }
     ensures taken { ¬ (result ≡ Status.TOO_LONG) → ¬ (result ≡ Status.MEMORY) → TakesAtMost max_input (S.left source.old) (S.left source.new) }
+    ensures most { TakesAtMost most_taken (S.left source.old) (S.left source.new) }
     ensures no_other { IsStatus result }
     ensures used { ¬ (result ≡ Status.USAGE) }
 {
@@ -169,6 +176,7 @@ fn perform_input<S: Source>(
     ensures not_json { result ≡ Err Status.NOT_JSON → ReadsNoJson (S.left source.old) (S.left source.new) }
     ensures bad_script { result ≡ Err Status.BAD_SCRIPT → ReadsNoTask (task_of asked) (S.left source.old) (S.left source.new) }
     ensures taken { result ≡ Err Status.READ_FAULT → TakesAtMost max_input (S.left source.old) (S.left source.new) }
+    ensures most { TakesAtMost most_taken (S.left source.old) (S.left source.new) }
     ensures no_other { IfErr result (λ s. (s ≡ Status.READ_FAULT) ⊎ ((s ≡ Status.MEMORY) ⊎ ((s ≡ Status.TOO_LONG) ⊎ ((s ≡ Status.NOT_JSON) ⊎ (s ≡ Status.BAD_SCRIPT))))) }
 {
     let tree = match read_json(alloc, source) {
@@ -251,6 +259,7 @@ fn perform_layout(alloc: Global, tree: &Value) -> Result<String, ScriptError>
 pub fn read_json<S: Source>(alloc: Global, source: &mut S) -> Result<Value, Status>
     ensures json { IfOk result (λ tree. ReadsJson (S.left source.old) (S.left source.new) (view tree)) }
     ensures taken { result ≡ Err Status.READ_FAULT → TakesAtMost max_input (S.left source.old) (S.left source.new) }
+    ensures most { TakesAtMost most_taken (S.left source.old) (S.left source.new) }
     ensures read_fault { result ≡ Err Status.READ_FAULT → Rose (S.faults source.old) (S.faults source.new) }
     ensures no_read_fault { ¬ (result ≡ Err Status.READ_FAULT) → S.faults source.new ≡ S.faults source.old }
     ensures too_long { result ≡ Err Status.TOO_LONG → ReadsTooMuch (S.left source.old) (S.left source.new) }
@@ -286,6 +295,7 @@ pub fn read_all<S: Source>(alloc: Global, source: &mut S) -> Result<Vec<u8>, Sta
     ensures bytes { IfOk result (λ bytes. Consumes (S.left source.old) (S.left source.new) bytes.items × IsAtEnd (S.left source.new)) }
     ensures short { IfOk result (λ bytes. length bytes.items ≤ max_input) }
     ensures taken { result ≡ Err Status.READ_FAULT → TakesAtMost max_input (S.left source.old) (S.left source.new) }
+    ensures most { TakesAtMost most_taken (S.left source.old) (S.left source.new) }
     ensures read_fault { result ≡ Err Status.READ_FAULT → Rose (S.faults source.old) (S.faults source.new) }
     ensures no_read_fault { ¬ (result ≡ Err Status.READ_FAULT) → S.faults source.new ≡ S.faults source.old }
     ensures later { S.faults source.old ≤ S.faults source.new }

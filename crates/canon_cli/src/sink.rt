@@ -81,6 +81,8 @@ impl Sink for MemorySink {
         ensures fails { Contains self.old.fails (next_call self.old.calls) → IsErr result }
         ensures given { IfOk result (λ n. n ≡ min (length piece.now) self.old.chunk) }
         ensures counted { self.new.calls ≡ next_call self.old.calls }
+        ensures once { IsErr result → self.new.faults ≡ next_call self.old.faults }
+        ensures same { (self.new.chunk ≡ self.old.chunk) × (self.new.fails ≡ self.old.fails) }
     {
         self.calls = self.calls.saturating_add(1);
         if self.fails.contains(&self.calls) {

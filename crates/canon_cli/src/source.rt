@@ -75,6 +75,8 @@ impl Source for MemorySource {
         ensures fails { IsErr result ↔ Contains self.old.fails (next_call self.old.calls) }
         ensures given { IfOk result (λ n. n ≡ min (min (length self.old.left) (length buf.old)) self.old.chunk) }
         ensures counted { self.new.calls ≡ next_call self.old.calls }
+        ensures once { IsErr result → self.new.faults ≡ next_call self.old.faults }
+        ensures same { (self.new.chunk ≡ self.old.chunk) × (self.new.fails ≡ self.old.fails) }
     {
         self.calls = self.calls.saturating_add(1);
         if self.fails.contains(&self.calls) {

@@ -3,7 +3,7 @@
 ghost use Rattle.std.specs.Prelude.{◌≡◌, ◌⊎◌, ◌↔◌, ◌≤◌, ◌<◌, ◌^◌, [], List, ℕ, None, IfErr, IfOk, Err, length, string_bytes};
 ghost use Rattle.std.specs.Io.KnownBytes.{Appends};
 ghost use Rattle.canon_memory.specs.Counts.{Rose};
-ghost use Rattle.canon_cli.specs.Program.{AnswersInput, IsRefusedStatus, IsStatus, IsTask, OnTold, ReadsNoJson, ReadsNoTask, ReadsTooMuch, max_input};
+ghost use Rattle.canon_cli.specs.Program.{AnswersInput, IsRefusedStatus, IsStatus, IsTask, OnTold, ReadsNoJson, ReadsNoTask, ReadsTooMuch, max_input, most_taken};
 ghost use Rattle.canon_cli.specs.Streams.{AppendsPrefix, TakesAtMost};
 ghost use Rattle.canon_image_cli.specs.Program.{IsAnswered};
 ghost use Rattle.canon_image_cli.specs.Task.{image_task_of};
@@ -44,15 +44,21 @@ pub fn image_run<S: Source, K: Sink>(
     ensures bad_script { result ≡ Status.BAD_SCRIPT → ReadsNoTask image_task_of (S.left source.old) (S.left source.new) }
 
     // Where no read fails an input is answered for what it is, or memory runs out; no more of it is taken than an input may
-    // have, or the answer says so.
+    // have, or the answer says so, and then no more than one read beyond.
     ensures answers { words.now ≡ [] → ¬ Rose (S.faults source.old) (S.faults source.new)
         → OnTold (S.left source.old) (λ input. AnswersInput image_task_of input result) }
     ensures taken { ¬ (result ≡ Status.TOO_LONG) → ¬ (result ≡ Status.MEMORY) → TakesAtMost max_input (S.left source.old) (S.left source.new) }
+    ensures most { TakesAtMost most_taken (S.left source.old) (S.left source.new) }
 
     // A line is written whole, or memory ran out, where nothing failed.
     ensures complete { words.now ≡ [] → ¬ Rose (S.faults source.old) (S.faults source.new) → ¬ Rose (K.faults sink.old) (K.faults sink.new)
         → OnTold (S.left source.old) (λ input. IsTask image_task_of input → (result.0 ≡ 0) ⊎ (result.0 ≡ 5)) }
     ensures no_other { IsStatus result }
+
+    // Each status is its number.
+    ensures numbers { (result ≡ Status.DONE → result.0 ≡ 0) × (result ≡ Status.USAGE → result.0 ≡ 2) × (result ≡ Status.READ_FAULT → result.0 ≡ 3)
+        × (result ≡ Status.WRITE_FAULT → result.0 ≡ 4) × (result ≡ Status.MEMORY → result.0 ≡ 5) × (result ≡ Status.TOO_LONG → result.0 ≡ 6)
+        × (result ≡ Status.NOT_JSON → result.0 ≡ 7) × (result ≡ Status.BAD_SCRIPT → result.0 ≡ 8) }
 {
     if !words.is_empty() {
         return Status::USAGE;
@@ -76,6 +82,7 @@ fn answer_input<S: Source, K: Sink>(alloc: Global, source: &mut S, sink: &mut K)
     ensures not_json { result ≡ Status.NOT_JSON → ReadsNoJson (S.left source.old) (S.left source.new) }
     ensures bad_script { result ≡ Status.BAD_SCRIPT → ReadsNoTask image_task_of (S.left source.old) (S.left source.new) }
     ensures taken { ¬ (result ≡ Status.TOO_LONG) → ¬ (result ≡ Status.MEMORY) → TakesAtMost max_input (S.left source.old) (S.left source.new) }
+    ensures most { TakesAtMost most_taken (S.left source.old) (S.left source.new) }
     ensures no_other { IsStatus result }
     ensures used { ¬ (result ≡ Status.USAGE) }
 {
@@ -93,6 +100,7 @@ fn answer_input<S: Source, K: Sink>(alloc: Global, source: &mut S, sink: &mut K)
 fn line_of_input<S: Source>(alloc: Global, source: &mut S) -> Result<String, Status>
     ensures done { IfOk result (λ line. IsAnswered (S.left source.old) (S.left source.new) (string_bytes line)) }
     ensures taken { result ≡ Err Status.READ_FAULT → TakesAtMost max_input (S.left source.old) (S.left source.new) }
+    ensures most { TakesAtMost most_taken (S.left source.old) (S.left source.new) }
     ensures read_fault { result ≡ Err Status.READ_FAULT → Rose (S.faults source.old) (S.faults source.new) }
     ensures no_read_fault { ¬ (result ≡ Err Status.READ_FAULT) → S.faults source.new ≡ S.faults source.old }
     ensures too_long { result ≡ Err Status.TOO_LONG → ReadsTooMuch (S.left source.old) (S.left source.new) }

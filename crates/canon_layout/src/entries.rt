@@ -16,7 +16,7 @@ use canon_types::{InterfaceType, TypeBuilder, TypeError, TypeResourceTableIndex}
 use serde_json::Value;
 use std::alloc::Global;
 
-/// Adds the types of these entries, each over those before it.
+/// Adds the types of these entries, each over those before it. After an error the table may hold those of the first of them.
 pub fn add_entries(
     alloc: Global,
     builder: &mut TypeBuilder,

@@ -23,7 +23,7 @@ pub struct Signature {
     pub has_post: bool,
 }
 
-/// Adds these functions over types, and says for each whether it has a post-return function.
+/// Adds these functions over types, and says for each whether it has a post-return function. After an error the table may hold the first of them.
 pub fn add_funcs(
     alloc: Global,
     builder: &mut TypeBuilder,

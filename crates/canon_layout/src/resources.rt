@@ -12,7 +12,7 @@ use canon_json::{ScriptError, bool_or, has_len, there, u32_of};
 use canon_types::{ResourceKind, RuntimeInstance, TypeBuilder, TypeResourceTable};
 use serde_json::Value;
 
-/// Adds these resources.
+/// Adds these resources. After an error the table may hold the first of them.
 pub fn add_resources(builder: &mut TypeBuilder, items: &[Value]) -> Result<(), ScriptError>
     ensures { Gives (λ _. builder.new) result (onward spec.add_resource builder.old (items_view items.now)) }
 {
