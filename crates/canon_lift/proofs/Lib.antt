@@ -5,3 +5,6 @@ pub mod MapLifting
 pub mod TextViews
 pub mod IntegerRows
 pub mod Cases
+pub mod CaseLookups
+pub mod MemberLifting
+pub mod Stays

@@ -94,7 +94,8 @@ module _ {D G A : Type 0} (bytes : ℕ) (R : Reading A) (Fit : Instance → Inte
         (λ stops. subst (λ (ps : List (List Part)). LeavesStop (stop_of e) core.ledger ps after) (sym (steps_are bytes R w at s its_good)) stops) (omega (arith, charged)) h
 
     pub vec_lifts : (now : Parts D G) (o2 : ℕ) (r : Result (Vec A Global) Fault) → now ≡ record core { ledger = now.ledger } → now.ledger ≡ core.ledger → o2 ≡ o
-        → Lifts (vec_reading v.count R) (setting_in now o2) (stored v.pointer) (shape_of (component_types now) v.element) now.ledger mid r after left → Lifts (read_as (λ x. x.items) (list_reading bytes R)) w at s core.ledger fuel r after left
+        → Lifts (vec_reading v.count R) (setting_in now o2) (stored v.pointer) (shape_of (component_types now) v.element) now.ledger mid r after left
+        → Lifts (read_as (λ x. x.items) (list_reading bytes R)) w at s core.ledger fuel r after left
     vec_lifts now o2 r same kept eo h =
         of_items_read r
         (subst (λ (z : Shape). Lifts (vec_reading (length_in w.memory at) R) w (stored (pointer_in w.memory at)) z core.ledger mid r after left) there.shape

@@ -95,7 +95,8 @@ module _ (bytes : ℕ) (w : Setting) (e : Shape) (at : Spot) (s : Shape) (p n : 
   not_aligned : ¬ (p % align w.memory.wide e ≡ 0) → ¬ (pointer_in w.memory at % align w.memory.wide (element_shape s) ≡ 0)
   not_aligned wrong h = wrong (subst (λ k. k % align w.memory.wide e ≡ 0) (sym pointer) (subst (λ (z : Shape). pointer_in w.memory at % align w.memory.wide z ≡ 0) (sym shape) h))
 
-  module _ {A : Type 0} (Fit : Instance → InterfaceType → Type 0) (place : Place) (fuel : ℕ) (named : (F : Kind → reach.At → Type 0) (k : Kind) → F k (at_of at) → NamedBy at F k place) (before after : LedgerState) (kept : after ≡ before) where
+  module _ {A : Type 0} (Fit : Instance → InterfaceType → Type 0) (place : Place) (fuel : ℕ) (named : (F : Kind → reach.At → Type 0) (k : Kind) → F k (at_of at) → NamedBy at F k place)
+      (before after : LedgerState) (kept : after ≡ before) where
     abbrev whole : Reading (WasmList A)
     whole = wasm_list_reading Fit bytes
 

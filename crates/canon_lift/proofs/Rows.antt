@@ -1,12 +1,15 @@
 -- Values of one type in a row, lifted one after another.
-use Rattle.std.proofs.Common.{◌≡◌, ◌<◌, ◌+◌, ◌-◌, ◌*◌, ◌++◌, ◌∙◌, ◌≤◌, List, None, [], ◌∷◌, ap, append_assoc, arith, false, length, mul-le-mul_right, refl, Result, subst, suc, suc-mul, sym, zero, ℕ}
+use Rattle.std.proofs.Common.{◌≡◌, ◌<◌, ◌+◌, ◌-◌, ◌*◌, ◌++◌, ◌∙◌, ◌≤◌, Err, List, None, Ok, Result, Vec, [], ◌∷◌, ap, append_assoc, arith, length, length-append}
+use Rattle.std.proofs.Common.{mul-le-mul_right, refl, subst, suc, suc-mul, sym, zero, ℕ}
 use Rattle.std.proofs.Math.Nat.{add-mul, one-mul}
+use Rattle.std.specs.declared.alloc.Global.{Global}
 use Rattle.canon_context.specs.Core.{Parts, component_types}
 use Rattle.canon_context.specs.declared.fault.At.{At as Place}
 use Rattle.canon_context.specs.declared.fault.Fault.{Fault}
 use Rattle.canon_context.specs.declared.fault.Fault.TheVariants as fault
 use Rattle.canon_leaves.specs.Parts.{LeavesStop, Part}
 use Rattle.canon_ledger.specs.Ledger.{LedgerState}
+use Rattle.canon_lowering.specs.Storing.{narrow}
 use Rattle.canon_model.specs.Layout.{flat, size}
 use Rattle.canon_model.specs.Memory.{Memory}
 use Rattle.canon_model.specs.Reach as reach
@@ -29,7 +32,7 @@ use Rattle.canon_lift_parts.proofs.Settings.{same_setting, same_shape}
 -- ---- where items stand
 
 module _ (m : Memory) (s : Shape) where
-  pub item_zero : (at : Spot) → item_spot m s at 0 ≡ at
+  item_zero : (at : Spot) → item_spot m s at 0 ≡ at
   item_zero (stored a) = ap stored (omega arith)
   item_zero (flat_in ws i) = ap (λ j. flat_in ws j) (omega arith)
 
@@ -44,14 +47,15 @@ module _ (m : Memory) (s : Shape) where
 
 module _ {A : Type 0} (R : Reading A) (w : Setting) (s : Shape) where
   -- one more at the end
-  pub each_more : (at : Spot) (before mid after : LedgerState) (xs : List A) (x : A) → EachReads R w s at before xs mid → R.reads w (item_spot w.memory s at (length xs)) s mid x after → EachReads R w s at before (xs ++ x ∷ []) after
+  each_more : (at : Spot) (before mid after : LedgerState) (xs : List A) (x : A) → EachReads R w s at before xs mid → R.reads w (item_spot w.memory s at (length xs)) s mid x after
+      → EachReads R w s at before (xs ++ x ∷ []) after
   each_more at before mid after [] x same h =
       (after, subst (λ (l : LedgerState). R.reads w at s l x after) same (subst (λ p. R.reads w p s mid x after) (item_zero w.memory s at) h), refl)
   each_more at before mid after (y ∷ ys) x (l, first, rest) h =
       (l, first, each_more (behind w.memory s at) l mid after ys x rest (subst (λ p. R.reads w p s mid x after) (sym (item_next w.memory s at (length ys))) h))
 
   -- so many, and those behind them
-  pub reach_split : (k j : ℕ) (at : Spot) → each_reach R w s at (k + j) ≡ each_reach R w s at k + each_reach R w s (item_spot w.memory s at k) j
+  reach_split : (k j : ℕ) (at : Spot) → each_reach R w s at (k + j) ≡ each_reach R w s at k + each_reach R w s (item_spot w.memory s at k) j
   reach_split zero j at =
       let all : 0 + j ≡ j = omega arith in
       omega (arith, ap (λ i. each_reach R w s at i) all, ap (λ p. each_reach R w s p j) (item_zero w.memory s at))
@@ -59,7 +63,7 @@ module _ {A : Type 0} (R : Reading A) (w : Setting) (s : Shape) where
       let all : suc k + j ≡ suc (k + j) = omega arith in
       omega (arith, ap (λ i. each_reach R w s at i) all, reach_split k j (behind w.memory s at), ap (λ p. each_reach R w s p j) (item_next w.memory s at k))
 
-  pub steps_split : (k j : ℕ) (at : Spot) → each_steps R w s at (k + j) ≡ each_steps R w s at k ++ each_steps R w s (item_spot w.memory s at k) j
+  steps_split : (k j : ℕ) (at : Spot) → each_steps R w s at (k + j) ≡ each_steps R w s at k ++ each_steps R w s (item_spot w.memory s at k) j
   steps_split zero j at =
       let all : 0 + j ≡ j = omega arith in
       ap (λ i. each_steps R w s at i) all ∙ ap (λ p. each_steps R w s p j) (sym (item_zero w.memory s at))
@@ -69,42 +73,71 @@ module _ {A : Type 0} (R : Reading A) (w : Setting) (s : Shape) where
       ∙ ap (λ ps. R.steps w at s ++ ps) (steps_split k j (behind w.memory s at) ∙ ap (λ p. each_steps R w s (behind w.memory s at) k ++ each_steps R w s p j) (item_next w.memory s at k))
       ∙ sym (append_assoc (R.steps w at s) (each_steps R w s (behind w.memory s at) k) (each_steps R w s (item_spot w.memory s at (suc k)) j))
 
-  pub reach_more : (k : ℕ) (at : Spot) → each_reach R w s at (k + 1) ≡ each_reach R w s at k + R.reach w (item_spot w.memory s at k) s
+  reach_more : (k : ℕ) (at : Spot) → each_reach R w s at (k + 1) ≡ each_reach R w s at k + R.reach w (item_spot w.memory s at k) s
   reach_more k at = omega (arith, reach_split k 1 at)
 
   -- what is left behind item k of n
-  behind_reach : (k n : ℕ) (at : Spot) → k < n → each_reach R w s at n ≡ each_reach R w s at k + (R.reach w (item_spot w.memory s at k) s + each_reach R w s (behind w.memory s (item_spot w.memory s at k)) (n - suc k))
+  behind_reach : (k n : ℕ) (at : Spot) → k < n
+      → each_reach R w s at n ≡ each_reach R w s at k + (R.reach w (item_spot w.memory s at k) s + each_reach R w s (behind w.memory s (item_spot w.memory s at k)) (n - suc k))
   behind_reach k n at few =
       let whole : n ≡ k + suc (n - suc k) = omega (arith, few) in
       ap (λ i. each_reach R w s at i) whole ∙ reach_split k (suc (n - suc k)) at
 
-  behind_steps : (k n : ℕ) (at : Spot) → k < n → each_steps R w s at n ≡ each_steps R w s at k ++ (R.steps w (item_spot w.memory s at k) s ++ each_steps R w s (behind w.memory s (item_spot w.memory s at k)) (n - suc k))
+  behind_steps : (k n : ℕ) (at : Spot) → k < n
+      → each_steps R w s at n ≡ each_steps R w s at k ++ (R.steps w (item_spot w.memory s at k) s ++ each_steps R w s (behind w.memory s (item_spot w.memory s at k)) (n - suc k))
   behind_steps k n at few =
       let whole : n ≡ k + suc (n - suc k) = omega (arith, few) in
       ap (λ i. each_steps R w s at i) whole ∙ steps_split k (suc (n - suc k)) at
 
-  -- item k was not lifted
-  pub item_refused : (taken : AreTaken R) (n k : ℕ) (at : Spot) (before mid after : LedgerState) (xs : List A) (fuel now left : ℕ) (e : Fault) → k < n → length xs ≡ k → EachReads R w s at before xs mid → fuel ≡ now + each_reach R w s at k
-      → Refused R w (item_spot w.memory s at k) s mid now e after left → Refused (vec_reading n R) w at s before fuel e after left
-  item_refused taken n k at before mid after xs fuel now left e few count each spent r =
-      refused_by R (vec_reading n R) w (item_spot w.memory s at k) at s s mid before after now fuel left e
-      (λ l x h. item_named w.memory s (EachFault R w s at n) at k l x (named_by (item_spot w.memory s at k) (R.faults w (item_spot w.memory s at k) s) (EachFault R w s at n) (λ j y f. (k, few, f)) l x h))
-      (λ low. omega (arith, low, spent, behind_reach k n at few))
-      (λ is. refl)
-      (λ stops. subst (λ (ps : List (List Part)). LeavesStop (stop_of e) before ps after) (sym (behind_steps k n at few))
-      (stops_second (stop_of e) before mid after _ _ (each_counted R taken w s at k before mid xs count each) (stops_first (stop_of e) mid after _ _ stops)))
-      (omega (arith, spent)) r
+  -- the first k items were lifted
+  pub record IsSoFar (at : Spot) (before mid : LedgerState) (xs : List A) (k fuel now : ℕ) : Type 0 where
+    pub count : length xs ≡ k
+    pub each : EachReads R w s at before xs mid
+    pub spent : fuel ≡ now + each_reach R w s at k
 
-  -- there was no room for it
-  pub item_lost : (taken : AreTaken R) (n k : ℕ) (at : Spot) (before mid after : LedgerState) (xs : List A) (x : A) (fuel now left : ℕ) → k < n → length xs ≡ k → EachReads R w s at before xs mid → fuel ≡ now + each_reach R w s at k
-      → R.reads w (item_spot w.memory s at k) s mid x after → now ≡ left + R.reach w (item_spot w.memory s at k) s → Refused (vec_reading n R) w at s before fuel fault.OutOfMemory after left
-  item_lost taken n k at before mid after xs x fuel now left few count each spent read cost = record {
-    cause = tt;
-    memory = λ is. refl;
-    stops = subst (λ (ps : List (List Part)). LeavesStop None before ps after) (sym (behind_steps k n at few))
-        (stops_second None before mid after _ _ (each_counted R taken w s at k before mid xs count each)
-        (stops_first None mid after _ _ (stops_after mid after _ None refl (taken w (item_spot w.memory s at k) s mid after x read))));
-    falls = omega (arith, spent, cost);
+  module _ {at : Spot} {before mid : LedgerState} {xs : List A} {k fuel now : ℕ} (h : IsSoFar at before mid xs k fuel now) (after : LedgerState) (left : ℕ) where
+    -- one more was
+    pub one_more : (x : A) → Lifts R w (item_spot w.memory s at k) s mid now (Ok x) after left → IsSoFar at before after (xs ++ x ∷ []) (k + 1) fuel left
+    one_more x (read, spent) = record {
+      count = length-append xs (x ∷ []) ∙ ap (λ n. n + 1) h.count;
+      each = each_more at before mid after xs x h.each (subst (λ n. R.reads w (item_spot w.memory s at n) s mid x after) (sym h.count) read);
+      spent = omega (arith, h.spent, spent, reach_more k at);
+    }
+
+    module _ (taken : AreTaken R) (n : ℕ) (few : k < n) where
+      -- it was not
+      pub item_refused : (e : Fault) → Lifts R w (item_spot w.memory s at k) s mid now (Err e) after left → Refused (vec_reading n R) w at s before fuel e after left
+      item_refused e r =
+          refused_by R (vec_reading n R) w (item_spot w.memory s at k) at s s mid before after now fuel left e
+          (λ l x f. item_named w.memory s (EachFault R w s at n) at k l x
+          (named_by (item_spot w.memory s at k) (R.faults w (item_spot w.memory s at k) s) (EachFault R w s at n) (λ j y g. (k, few, g)) l x f))
+          (λ low. omega (arith, low, h.spent, behind_reach k n at few))
+          (λ is. refl)
+          (λ stops. subst (λ (ps : List (List Part)). LeavesStop (stop_of e) before ps after) (sym (behind_steps k n at few))
+          (stops_second (stop_of e) before mid after _ _ (each_counted R taken w s at k before mid xs h.count h.each) (stops_first (stop_of e) mid after _ _ stops)))
+          (omega (arith, h.spent)) r
+
+      -- there was no room for it
+      pub item_lost : (x : A) → Lifts R w (item_spot w.memory s at k) s mid now (Ok x) after left → Refused (vec_reading n R) w at s before fuel fault.OutOfMemory after left
+      item_lost x (read, spent) = record {
+        cause = tt;
+        memory = λ is. refl;
+        stops = subst (λ (ps : List (List Part)). LeavesStop None before ps after) (sym (behind_steps k n at few))
+            (stops_second None before mid after _ _ (each_counted R taken w s at k before mid xs h.count h.each)
+            (stops_first None mid after _ _ (stops_after mid after _ None refl (taken w (item_spot w.memory s at k) s mid after x read))));
+        falls = omega (arith, h.spent, spent);
+      }
+
+  -- all were, or none yet
+  pub all_lifted : {at : Spot} {before after : LedgerState} {k fuel left : ℕ} (v : Vec A Global) → IsSoFar at before after v.items k fuel left → (n : ℕ) → k ≡ n
+      → Lifts (vec_reading n R) w at s before fuel (Ok v) after left
+  all_lifted {at} {before} {after} {k} {fuel} {left} v h n all = ((h.count ∙ all, h.each), h.spent ∙ ap (λ j. left + each_reach R w s at j) all)
+
+  pub none_lifted : (at : Spot) (before : LedgerState) (xs : List A) (fuel : ℕ) → xs ≡ [] → IsSoFar at before before xs 0 fuel fuel
+  none_lifted at before xs fuel none = record {
+    count = ap length none;
+    each = subst (λ ys. EachReads R w s at before ys before) (sym none) refl;
+    spent = omega arith;
   }
 
 -- ---- as a list of fixed length
@@ -123,23 +156,18 @@ row_room p k count step size n few is room =
     let here : k * step ≡ k * size = ap (λ j. k * j) is in
     omega (arith, all, one, here, room)
 
--- ---- items of a list in memory
+-- ---- items in memory and in words
 
-module _ {D G A : Type 0} (R : Reading A) (core : Parts D G) (o : ℕ) (type : InterfaceType) where
-  abbrev w : Setting
-  w = setting_in core o
-
-  abbrev s : Shape
-  s = shape_of (component_types core) type
-
-  -- what lifting an item answered, where only the ledger changed
-  pub item_lifts : (now : Parts D G) (o2 p k step at : ℕ) (before after : LedgerState) (fuel left : ℕ) (r : Result A Fault) → now ≡ record core { ledger = now.ledger } → o2 ≡ o → step ≡ size false s → at ≡ p + k * step
-      → Lifts R (setting_in now o2) (stored at) (shape_of (component_types now) type) before fuel r after left → Lifts R w (item_spot w.memory s (stored p) k) s before fuel r after left
-  item_lifts now o2 p k step at before after fuel left r same eo es place h =
-      let there : stored at ≡ item_spot w.memory s (stored p) k = ap stored (place ∙ ap (λ n. p + k * n) es) in
-      subst (λ x. Lifts R w x s before fuel r after left) there
-      (subst (λ (z : Shape). Lifts R w (stored at) z before fuel r after left) (same_shape core now same type)
-      (subst (λ (v : Setting). Lifts R v (stored at) (shape_of (component_types now) type) before fuel r after left) (same_setting core now same o o2 eo) h))
+-- what lifting item k answered, where only the ledger changed
+pub item_lifts : {D G A : Type 0} (R : Reading A) (core now : Parts D G) (o o2 : ℕ) (type : InterfaceType) (row at : Spot) (k : ℕ) (before after : LedgerState) (fuel left : ℕ) (r : Result A Fault)
+    → now ≡ record core { ledger = now.ledger } → o2 ≡ o → at ≡ item_spot (narrow core.memory) (shape_of (component_types core) type) row k
+    → Lifts R (setting_in now o2) at (shape_of (component_types now) type) before fuel r after left
+    → Lifts R (setting_in core o) (item_spot (narrow core.memory) (shape_of (component_types core) type) row k) (shape_of (component_types core) type) before fuel r after left
+item_lifts R core now o o2 type row at k before after fuel left r same eo place h =
+    let s = shape_of (component_types core) type in
+    subst (λ (x : Spot). Lifts R (setting_in core o) x s before fuel r after left) place
+    (subst (λ (z : Shape). Lifts R (setting_in core o) at z before fuel r after left) (same_shape core now same type)
+    (subst (λ (v : Setting). Lifts R v at (shape_of (component_types now) type) before fuel r after left) (same_setting core now same o o2 eo) h))
 
 -- ---- a row that was made of its parts
 
@@ -152,26 +180,10 @@ module _ {A : Type 0} (w : Setting) (element : InterfaceType) (p n : ℕ) (v : W
         (subst (λ k. IsGoodList w.memory (shape_of w.types.types element) k v.count) (sym is.pointer) (subst (λ k. IsGoodList w.memory (shape_of w.types.types element) p k) (sym is.count) good));
   }
 
-  pub row_refused : (R : Reading A) (before after : LedgerState) (fuel left : ℕ) (e : Fault) → Refused (vec_reading v.count R) w (stored v.pointer) (shape_of w.types.types v.element) before fuel e after left
+  pub row_refused : (R : Reading A) (before after : LedgerState) (fuel left : ℕ) (e : Fault)
+      → Refused (vec_reading v.count R) w (stored v.pointer) (shape_of w.types.types v.element) before fuel e after left
       → Refused (vec_reading n R) w (stored p) (shape_of w.types.types element) before fuel e after left
   row_refused R before after fuel left e r =
       subst (λ k. Refused (vec_reading k R) w (stored p) (shape_of w.types.types element) before fuel e after left) is.count
       (subst (λ k. Refused (vec_reading v.count R) w (stored k) (shape_of w.types.types element) before fuel e after left) is.pointer
       (subst (λ t. Refused (vec_reading v.count R) w (stored v.pointer) (shape_of w.types.types t) before fuel e after left) is.element_is r))
-
--- ---- items in words
-
-module _ {D G A : Type 0} (R : Reading A) (core : Parts D G) (o : ℕ) (type : InterfaceType) (ws : List ℕ) where
-  abbrev in_words : Setting
-  in_words = setting_in core o
-
-  -- what lifting an item answered, where only the ledger changed
-  pub word_lifts : (now : Parts D G) (o2 p k step at : ℕ) (before after : LedgerState) (fuel left : ℕ) (r : Result A Fault) → now ≡ record core { ledger = now.ledger } → o2 ≡ o → step ≡ flat (shape_of (component_types core) type) → at ≡ p + k * step
-      → Lifts R (setting_in now o2) (flat_in ws at) (shape_of (component_types now) type) before fuel r after left
-      → Lifts R in_words (item_spot in_words.memory (shape_of (component_types core) type) (flat_in ws p) k) (shape_of (component_types core) type) before fuel r after left
-  word_lifts now o2 p k step at before after fuel left r same eo es place h =
-      let one : Shape = shape_of (component_types core) type in
-      let there : flat_in ws at ≡ item_spot in_words.memory one (flat_in ws p) k = ap (λ n. flat_in ws n) (place ∙ ap (λ n. p + k * n) es) in
-      subst (λ x. Lifts R in_words x one before fuel r after left) there
-      (subst (λ (z : Shape). Lifts R in_words (flat_in ws at) z before fuel r after left) (same_shape core now same type)
-      (subst (λ (v : Setting). Lifts R v (flat_in ws at) (shape_of (component_types now) type) before fuel r after left) (same_setting core now same o o2 eo) h))

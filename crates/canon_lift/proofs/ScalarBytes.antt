@@ -76,7 +76,8 @@ scalar_refused Means core o type k at fuel bytes is same none =
     none_refused Means w (stored at) (shape_of (component_types core) type) core.ledger fuel (place.Address at)
     (subst (λ (s : Shape). Faulty w.memory w.encoding (stored at) s no_scalar (reach.address at)) (sym is) (fault_of_none k (reach.address at) (num w.memory at (scalar_size k)) here))
 
-pub word_refused : {D G A : Type 0} (Means : A → Tree → Type 0) (core : Parts D G) (o : ℕ) (type : InterfaceType) (k : Scalar) (ws : List ℕ) (i fuel : ℕ) (x : Place) → shape_of (component_types core) type ≡ scalar k → IsPlace x (reach.word i)
+pub word_refused : {D G A : Type 0} (Means : A → Tree → Type 0) (core : Parts D G) (o : ℕ) (type : InterfaceType) (k : Scalar) (ws : List ℕ) (i fuel : ℕ) (x : Place)
+    → shape_of (component_types core) type ≡ scalar k → IsPlace x (reach.word i)
     → StandsForNone k (slice_index ws i % 2 ^ flat_bits k) → Refused (scalar_reading Means) (setting_in core o) (flat_in ws i) (shape_of (component_types core) type) core.ledger fuel (fault.InvalidChar x) core.ledger fuel
 word_refused Means core o type k ws i fuel x is there none =
     let w : Setting = setting_in core o in

@@ -13,7 +13,8 @@ use Rattle.canon_indices.specs.declared.options.CanonicalOptions.{CanonicalOptio
 use Rattle.canon_lift.specs.Views.{IsDecodedText, TextLost, text_in}
 use Rattle.canon_lift.specs.declared.wasm_str.WasmStr.{WasmStr}
 
-module _ (view : MemoryView) (v : WasmStr) (o : CanonicalOptions) (is : slice_get view.component.now.options.items v.options ≡ Some o) (memory : List ℕ) (same : memory ≡ view.bytes.now) (n : ℕ) (count : n ≡ text_bytes (encoding_of o.string_encoding) v.count) where
+module _ (view : MemoryView) (v : WasmStr) (o : CanonicalOptions) (is : slice_get view.component.now.options.items v.options ≡ Some o) (memory : List ℕ) (same : memory ≡ view.bytes.now) (n : ℕ)
+    (count : n ≡ text_bytes (encoding_of o.string_encoding) v.count) where
   encoding_here : encoding_of o.string_encoding ≡ encoding_at view.component.now v.options
   encoding_here = sym (ap encoding_in is)
 

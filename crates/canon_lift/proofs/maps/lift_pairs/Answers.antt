@@ -1,4 +1,4 @@
-use Rattle.std.proofs.Common.{rules, ◌≡◌, ◌+◌, ◌*◌, ◌%◌, ◌++◌, ◌∙◌, ◌∷◌, Err, Ok, [], ap, arith, false, length, length-append, refl, subst, sym}
+use Rattle.std.proofs.Common.{rules, ◌≡◌, ◌+◌, ◌*◌, ◌%◌, ◌++◌, ◌∙◌, ◌∷◌, Err, Ok, [], false, refl, subst, sym}
 use Rattle.canon_context.specs.Core.{Parts, component_types}
 use Rattle.canon_context.specs.declared.fault.Fault.TheVariants as fault
 use Rattle.canon_model.specs.Layout.{align}
@@ -6,10 +6,10 @@ use Rattle.canon_model.specs.Shape.{tuple}
 use Rattle.canon_types.specs.Table.{shape_of}
 use Rattle.canon_reading.specs.MapsOfTrees.{pair_reading}
 use Rattle.canon_reading.specs.Reading.{setting_in}
-use Rattle.canon_reading.specs.Readings.{item_spot}
 use Rattle.canon_reading.specs.Spots.{stored}
 use Rattle.canon_lift_parts.proofs.PairLifting.{pair_item, pair_law, pairs_refused}
-use Rattle.canon_lift.proofs.Rows.{each_more, item_lost, item_refused, reach_more}
+use Rattle.canon_lift.proofs.Rows.{IsSoFar, item_lost, item_refused, one_more}
+use Rattle.canon_lift.proofs.Stays.{only_ledger}
 use Rattle.canon_lift_parts.proofs.Settings.{element_aligned}
 use Rattle.canon_lift.proofs.maps.lift_pairs.Goals as goal
 
@@ -18,7 +18,9 @@ lift_pair-requires-clause-aligned g c =
     let core = c.args.cx.now.core.now in
     let pair = c.args.pair.now in
     let s = tuple (shape_of (component_types core) pair.key ∷ shape_of (component_types core) pair.value ∷ []) in
-    subst (λ (z : Parts g.row.U.Denot g.row.G.Denot). (c.args.at + c.loop-k.k * c.args.step) % align false (tuple (shape_of (component_types z) pair.key ∷ shape_of (component_types z) pair.value ∷ [])) ≡ 0) (sym c.loop-k.invariant.same_core)
+    subst (λ (z : Parts g.row.U.Denot g.row.G.Denot). (c.args.at + c.loop-k.k * c.args.step) % align false
+    (tuple (shape_of (component_types z) pair.key ∷ shape_of (component_types z) pair.value ∷ [])) ≡ 0)
+    (sym c.loop-k.invariant.same_core)
     (subst (λ n. (c.args.at + c.loop-k.k * n) % align false s ≡ 0) (sym c.requires.step) (element_aligned s c.args.at c.loop-k.k c.requires.aligned))
 
 pub returns-in-Err-clause-lifts : goal.returns-in-Err-clause-lifts
@@ -35,9 +37,11 @@ returns-in-Err-clause-lifts g c =
     let mid = c.loop-k.cx.core.now.ledger in
     let after = c.lift_pair.new.cx in
     let (pairs, count, each, filled) = i.read in
+    let h : IsSoFar R w s p core.ledger mid pairs c.loop-k.k cx.fuel c.loop-k.cx.fuel = record { count = count; each = each; spent = i.spent } in
     pairs_refused g.K.PartialEq.eq c.args.count g.K.Lift.reading g.V.Lift.reading w p s core.ledger after.core.now.ledger cx.fuel after.fuel c.in-Err.fault
-    (item_refused R w s taken c.args.count c.loop-k.k p core.ledger mid after.core.now.ledger pairs cx.fuel c.loop-k.cx.fuel after.fuel c.in-Err.fault (search rules) count each i.spent
-    (pair_item g.K.Lift.reading g.V.Lift.reading core cx.options pair.key pair.value c.loop-k.cx.core.now c.loop-k.cx.options c.args.at c.loop-k.k c.args.step (c.args.at + c.loop-k.k * c.args.step) mid after.core.now.ledger
+    (item_refused _ _ _ h after.core.now.ledger after.fuel taken c.args.count (search rules) c.in-Err.fault
+    (pair_item g.K.Lift.reading g.V.Lift.reading core cx.options pair.key pair.value c.loop-k.cx.core.now c.loop-k.cx.options c.args.at c.loop-k.k c.args.step (c.args.at + c.loop-k.k * c.args.step)
+    mid after.core.now.ledger
     c.loop-k.cx.fuel after.fuel (Err c.in-Err.fault) i.same_core i.same_options c.requires.step refl c.in-Err.ensures.lifts))
 
 pub returns-in-Err-put-clause-lifts : goal.returns-in-Err-put-clause-lifts
@@ -54,10 +58,12 @@ returns-in-Err-put-clause-lifts g c =
     let mid = c.loop-k.cx.core.now.ledger in
     let after = c.lift_pair.new.cx in
     let (pairs, count, each, filled) = i.read in
-    let (read, spent) = pair_item g.K.Lift.reading g.V.Lift.reading core cx.options pair.key pair.value c.loop-k.cx.core.now c.loop-k.cx.options c.args.at c.loop-k.k c.args.step (c.args.at + c.loop-k.k * c.args.step) mid after.core.now.ledger
+    let h : IsSoFar R w s p core.ledger mid pairs c.loop-k.k cx.fuel c.loop-k.cx.fuel = record { count = count; each = each; spent = i.spent } in
+    let lifts = pair_item g.K.Lift.reading g.V.Lift.reading core cx.options pair.key pair.value c.loop-k.cx.core.now c.loop-k.cx.options c.args.at c.loop-k.k c.args.step
+    (c.args.at + c.loop-k.k * c.args.step) mid after.core.now.ledger
     c.loop-k.cx.fuel after.fuel (Ok (c.in-Ok.key, c.in-Ok.value)) i.same_core i.same_options c.requires.step refl c.in-Ok.ensures.lifts in
     pairs_refused g.K.PartialEq.eq c.args.count g.K.Lift.reading g.V.Lift.reading w p s core.ledger after.core.now.ledger cx.fuel after.fuel fault.OutOfMemory
-    (item_lost R w s taken c.args.count c.loop-k.k p core.ledger mid after.core.now.ledger pairs (c.in-Ok.key, c.in-Ok.value) cx.fuel c.loop-k.cx.fuel after.fuel (search rules) count each i.spent read spent)
+    (item_lost _ _ _ h after.core.now.ledger after.fuel taken c.args.count (search rules) (c.in-Ok.key, c.in-Ok.value) lifts)
 
 pub loop-k-preserved : goal.loop-k-preserved
 loop-k-preserved g c =
@@ -73,19 +79,15 @@ loop-k-preserved g c =
     let mid = c.loop-k.cx.core.now.ledger in
     let after = c.lift_pair.new.cx in
     let (pairs, count, each, filled) = i.read in
-    let (read, spent) = pair_item g.K.Lift.reading g.V.Lift.reading core cx.options pair.key pair.value c.loop-k.cx.core.now c.loop-k.cx.options c.args.at c.loop-k.k c.args.step (c.args.at + c.loop-k.k * c.args.step) mid after.core.now.ledger
+    let h : IsSoFar R w s p core.ledger mid pairs c.loop-k.k cx.fuel c.loop-k.cx.fuel = record { count = count; each = each; spent = i.spent } in
+    let lifts = pair_item g.K.Lift.reading g.V.Lift.reading core cx.options pair.key pair.value c.loop-k.cx.core.now c.loop-k.cx.options c.args.at c.loop-k.k c.args.step
+    (c.args.at + c.loop-k.k * c.args.step) mid after.core.now.ledger
     c.loop-k.cx.fuel after.fuel (Ok (c.in-Ok.key, c.in-Ok.value)) i.same_core i.same_options c.requires.step refl c.in-Ok.ensures.lifts in
-    let there = subst (λ k. R.reads w (item_spot w.memory s p k) s mid (c.in-Ok.key, c.in-Ok.value) after.core.now.ledger) (sym count) read in
-    let more : length (pairs ++ (c.in-Ok.key, c.in-Ok.value) ∷ []) ≡ c.loop-k.k + 1 = length-append pairs ((c.in-Ok.key, c.in-Ok.value) ∷ []) ∙ ap (λ n. n + 1) count in
+    let more = one_more _ _ _ h after.core.now.ledger after.fuel (c.in-Ok.key, c.in-Ok.value) lifts in
     record {
-      read = (
-        pairs ++ (c.in-Ok.key, c.in-Ok.value) ∷ [],
-        more,
-        each_more R w s p core.ledger mid after.core.now.ledger pairs (c.in-Ok.key, c.in-Ok.value) each there,
-        c.in-Ok-put.ensures.last pairs filled,
-      );
-      spent = omega (arith, i.spent, spent, reach_more R w s c.loop-k.k p);
-      same_core = c.in-Ok.ensures.same_core ∙ ap (λ (z : Parts g.row.U.Denot g.row.G.Denot). record z { ledger = after.core.now.ledger }) i.same_core;
+      read = (pairs ++ (c.in-Ok.key, c.in-Ok.value) ∷ [], more.count, more.each, c.in-Ok-put.ensures.last pairs filled);
+      spent = more.spent;
+      same_core = only_ledger core c.loop-k.cx.core.now after.core.now i.same_core c.in-Ok.ensures.same_core;
       same_reference = c.in-Ok.ensures.same_reference ∙ i.same_reference;
       same_options = c.in-Ok.ensures.same_options ∙ i.same_options;
     }

@@ -11,5 +11,6 @@ returns-in-Err-clause-lifts g c =
     let cx = c.args.cx.now in
     let core = cx.core.now in
     let after = c.linear_lift_from_memory.new.cx in
-    range_refused g.T.ComponentType.fits (cap g.T.ComponentType.host_bytes) g.T.Lift.reading (λ v. v.items) (setting_in core cx.options) (stored c.args.at) (shape_of (component_types core) c.args.ty) core.ledger after.core.now.ledger cx.fuel after.fuel
+    range_refused g.T.ComponentType.fits (cap g.T.ComponentType.host_bytes) g.T.Lift.reading (λ v. v.items) (setting_in core cx.options) (stored c.args.at) (shape_of (component_types core) c.args.ty)
+    core.ledger after.core.now.ledger cx.fuel after.fuel
     c.in-Err.fault c.in-Err.ensures.lifts

@@ -24,4 +24,5 @@ pub returns-in-None-clause-lifts : goal.returns-in-None-clause-lifts
 returns-in-None-clause-lifts g c =
     let core = c.args._cx.now.core.now in
     word_refused g.S.ComponentType.lifts core c.args._cx.now.options c.args._ty g.S.ScalarType.kind c.args.src.now c.args.at c.args._cx.now.fuel c.word_at.result
-    (g.met.S.ScalarType.is_scalar.shape core.component.types c.args._ty c.requires.fits) c.word_at.ensures (subst (λ (w : ℕ). StandsForNone g.S.ScalarType.kind (w % 2 ^ flat_bits g.S.ScalarType.kind)) c.word_of.ensures (c.in-None.ensures.none refl))
+    (g.met.S.ScalarType.is_scalar.shape core.component.types c.args._ty c.requires.fits) c.word_at.ensures
+    (subst (λ (w : ℕ). StandsForNone g.S.ScalarType.kind (w % 2 ^ flat_bits g.S.ScalarType.kind)) c.word_of.ensures (c.in-None.ensures.none refl))

@@ -27,4 +27,5 @@ returns-clause-lifts g c =
     text_lifts w (flat_in c.args.src.now c.args.at) (shape_of (component_types core) c.args._ty) c.from-pointer.result c.from-length.result (ap (shape_of (component_types core)) c.requires.fits)
     (c.from-pointer.ensures ∙ c.word_u32.ensures) (c.from-length.ensures ∙ c.word_u32-2.ensures)
     c.word_at.result cx.fuel core.ledger c.text_of.new.cx.core.now.ledger (ap (λ z. z.core.now.ledger) c.text_of.ensures.same) c.text_of.result c.text_of.new.cx.fuel
-    (λ k x f. text_told c.word_at.result (word c.args.at) c.word_at.ensures w.encoding w.memory c.from-pointer.result c.from-length.result k x f) tt c.text_of.ensures.ok c.text_of.ensures.err c.text_of.ensures.unrefused c.text_of.ensures.falls
+    (λ k x f. text_told c.word_at.result (word c.args.at) c.word_at.ensures w.encoding w.memory c.from-pointer.result c.from-length.result k x f) tt c.text_of.ensures.ok c.text_of.ensures.err
+    c.text_of.ensures.unrefused c.text_of.ensures.falls
