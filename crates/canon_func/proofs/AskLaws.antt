@@ -1,10 +1,9 @@
 -- What is asked of what is said of an ask of a function of the host, and of the steps of its form.
 use Rattle.std.proofs.Common.{Err, List, None, Ok, Option, Result, Some, length, ℕ, ◌++◌, ◌≡◌, ◌⊎◌}
 use Rattle.std.specs.Prelude.{IfErr, OnOk, take}
-use Rattle.canon_model.specs.Memory.{Block}
 use Rattle.canon_model.specs.Layout.{members_flat}
 use Rattle.canon_memory.specs.declared.event.Event.{Event}
-use Rattle.canon_memory.specs.Guest.{Goes, GuestIn, Seen}
+use Rattle.canon_memory.specs.Guest.{Goes, GuestIn, Moment, Seen}
 use Rattle.canon_ledger.specs.Ledger.{LedgerState}
 use Rattle.canon_leaves.specs.Parts.{LeavesStop, LeavesTake}
 use Rattle.canon_lowering.specs.Lowering.{AllLawful, Answer, Trap, events_of, marks_of}
@@ -41,12 +40,12 @@ pub record AskSound {T : Type 0} (its : AskForm T) : Type 0 where
   pub lift_excluded : (store : ℕ) (callee : Callee) (fuel : ℕ) (asked : Asked) (words memory : List ℕ) (l n : LedgerState) (index : ℕ) (f : Fault) → its.liftable store callee fuel asked words memory l → its.lifts store callee fuel asked words memory l (Err f) n
       → asked_error index f ≡ error.Fault fault.OutOfMemory
   -- lowering goes through the handles, or up to some step; and where the guest trapped, the last request did
-  pub given : (callee : Callee) (asked : Asked) (at : ℕ) (live : List Block) (memory memory2 : List ℕ) (results : its.Results) (low : List ℕ) (answers : List Answer) (trap : Option Trap) (l n : LedgerState)
-      → its.lowers callee asked at live memory memory2 results low answers trap l n (Ok tt) → (hs : List ℕ) × LeavesTake l (its.gives callee asked results) hs n
-  pub ungiven : (callee : Callee) (asked : Asked) (at : ℕ) (live : List Block) (memory memory2 : List ℕ) (results : its.Results) (low : List ℕ) (answers : List Answer) (trap : Option Trap) (l n : LedgerState) (f : Fault)
-      → its.lowers callee asked at live memory memory2 results low answers trap l n (Err f) → LeavesStop (stop_of f) l (its.gives callee asked results) n
-  pub traps : (callee : Callee) (asked : Asked) (at : ℕ) (live : List Block) (memory memory2 : List ℕ) (results : its.Results) (low : List ℕ) (answers : List Answer) (trap : Option Trap) (l n : LedgerState)
-      → its.lowers callee asked at live memory memory2 results low answers trap l n (Err fault.GuestTrap) → (t : Trap) × (trap ≡ Some t)
+  pub given : (callee : Callee) (asked : Asked) (at : ℕ) (from to : Moment) (results : its.Results) (low : List ℕ) (answers : List Answer) (trap : Option Trap) (l n : LedgerState)
+      → its.lowers callee asked at from to results low answers trap l n (Ok tt) → (hs : List ℕ) × LeavesTake l (its.gives callee asked results) hs n
+  pub ungiven : (callee : Callee) (asked : Asked) (at : ℕ) (from to : Moment) (results : its.Results) (low : List ℕ) (answers : List Answer) (trap : Option Trap) (l n : LedgerState) (f : Fault)
+      → its.lowers callee asked at from to results low answers trap l n (Err f) → LeavesStop (stop_of f) l (its.gives callee asked results) n
+  pub traps : (callee : Callee) (asked : Asked) (at : ℕ) (from to : Moment) (results : its.Results) (low : List ℕ) (answers : List Answer) (trap : Option Trap) (l n : LedgerState)
+      → its.lowers callee asked at from to results low answers trap l n (Err fault.GuestTrap) → (t : Trap) × (trap ≡ Some t)
 
 -- of each form that is lawful
 pub record AskLawful {T : Type 0} (its : AskForm T) : Type 0 where
@@ -54,8 +53,8 @@ pub record AskLawful {T : Type 0} (its : AskForm T) : Type 0 where
   pub taken : (store : ℕ) (callee : Callee) (fuel : ℕ) (asked : Asked) (words memory : List ℕ) (l n : LedgerState) (params : its.Params) → its.lifts store callee fuel asked words memory l (Ok params) n
       → (hs : List ℕ) × LeavesTake l (its.parts store callee asked words memory) hs n
   -- lowering isn't refused where nothing but memory is wanting
-  pub lower_excluded : (callee : Callee) (asked : Asked) (at : ℕ) (live : List Block) (memory memory2 : List ℕ) (results : its.Results) (low : List ℕ) (answers : List Answer) (trap : Option Trap) (l n : LedgerState) (f : Fault)
-      → its.lowerable callee asked memory results l → its.lowers callee asked at live memory memory2 results low answers trap l n (Err f) → AllLawful answers → trap ≡ None → f ≡ fault.OutOfMemory
+  pub lower_excluded : (callee : Callee) (asked : Asked) (at : ℕ) (from to : Moment) (results : its.Results) (low : List ℕ) (answers : List Answer) (trap : Option Trap) (l n : LedgerState) (f : Fault)
+      → its.lowerable callee asked from.bytes results l → its.lowers callee asked at from to results low answers trap l n (Err f) → AllLawful answers → trap ≡ None → f ≡ fault.OutOfMemory
 
 -- what is answered to a lowering
 abbrev pub asked_answer : ℕ → Result (Unit {0}) Fault → Result (Unit {0}) Error
@@ -67,7 +66,7 @@ pub record LowersAs {T G : Type 0} (its : AskForm T) (seen : G → Seen) (moves 
     (r : Result (Unit {0}) Fault) : Type 0 where
   pub answers : List Answer
   pub trap : Option Trap
-  pub lowers : its.lowers callee asked at (seen a.guest).live a.memory b.memory results (take (members_flat (asked_results callee asked)) storage2) answers trap l b.ledger r
+  pub lowers : its.lowers callee asked at (moment_of seen a) (moment_of seen b) results (take (members_flat (asked_results callee asked)) storage2) answers trap l b.ledger r
   pub goes : Goes (moment_of seen a) (moment_of seen b) (marks_of answers) (events_of answers trap)
   pub done : OnOk r (trap ≡ None)
   pub late : TrapsLate (length a.memory) trap

@@ -28,6 +28,7 @@ use Rattle.canon_host.specs.declared.asked.Asked.{Asked}
 use Rattle.canon_func.specs.Asks.{AskStops, IsAskOf, IsServed, Limits, ask_step, builtin_of, host_words, import_words}
 use Rattle.canon_host.specs.Asked.{row_words}
 use Rattle.canon_func.specs.AskForms.{ask_at}
+use Rattle.canon_func.specs.Call.{Advances}
 use Rattle.canon_func.specs.HostAsks.{HostStops, IsHostAsk, IsHostServed, NothingAsked, asked_error}
 use Rattle.canon_func.specs.AskValues.{asked_results}
 use Rattle.canon_func.specs.Runs.{Leg, answers_in}
@@ -38,15 +39,16 @@ use Rattle.canon_func.specs.declared.error.Error.{Error}
 use Rattle.canon_func.specs.declared.error.Error.TheVariants as error
 use Rattle.canon_func.proofs.FormLaws.{form_sound}
 use Rattle.canon_func.proofs.HostStopped.{host_tells}
-use Rattle.canon_func.proofs.Turns.{asked_none, done_is, marks_then, ran_exhausted, ran_refused, ran_returned, told_after}
+use Rattle.canon_func.proofs.Turns.{asked_none, counts_first, done_is, goes_advance, marks_then, ran_exhausted, ran_refused, ran_returned, told_after}
 
 module _ {T : Type 0} (gives : Giving T) (callee : Callee) (limits : Limits) (Lives : List Leg → List Event → Type 0) (words : List ℕ) (before : Moment) (host : HostSide T) where
   -- it wasn't started, or trapped at once
-  start_failed : (now : Moment) (e : Error) (events : List Event) → length before.bytes ≤ length now.bytes → (IsSome before.guest.journal → Lives [] events) → Started callee.func words before now (Err e) events → MayRun gives callee limits Lives words before now host host (Err e) [] events
-  start_failed now (error.Fault fault.OutOfMemory) events longer moves h = inl (refl, h, refl, refl)
-  start_failed now (error.Fault fault.GuestTrap) events longer moves (rose, are) = inr (record {
+  start_failed : (now : Moment) (e : Error) (events : List Event) → Advances before now → (IsSome before.guest.journal → Lives [] events) → Started callee.func words before now (Err e) events → MayRun gives callee limits Lives words before now host host (Err e) [] events
+  start_failed now (error.Fault fault.OutOfMemory) events on moves h = inl (refl, h, refl, refl)
+  start_failed now (error.Fault fault.GuestTrap) events on moves (rose, are) = inr (record {
     turns = [];
-    late_live = [];
+    late_guest = before.guest;
+    late_counts = counts_first before now on;
     late = [];
     late_trap = None;
     answers_are = refl;
@@ -55,12 +57,12 @@ module _ {T : Type 0} (gives : Giving T) (callee : Callee) (limits : Limits) (Li
     tail = trap_event (length before.bytes) ∷ [];
     asked = asked_none gives callee limits.fuel before host;
     few = omega arith;
-    longer = longer;
+    longer = on.no_shorter;
     is = are;
     stopped = (rose, refl, (refl, refl, refl));
     lived = λ told. subst (λ es. Lives [] es) are (moves told);
   })
-  start_failed now e events longer moves h = absurd h
+  start_failed now e events on moves h = absurd h
 
   pub not_started : (now : Moment) (left : HostSide T) (e : Error) (M : List Event → Type 0) → ((es : List Event) → M es → Lives [] es) → left ≡ host
       → Proceeds before now M (Started callee.func words before now (Err e)) → Serving before now (Lives []) (MayRun gives callee limits Lives words before now host left (Err e))
@@ -69,7 +71,7 @@ module _ {T : Type 0} (gives : Giving T) (callee : Callee) (limits : Limits) (Li
     events = h.events;
     goes = h.goes;
     moves = λ told. f h.events h.moves;
-    so = subst (λ l. MayRun gives callee limits Lives words before now host l (Err e) [] h.events) (sym same) (start_failed now e h.events h.goes.no_shorter (λ told. f h.events h.moves) h.so);
+    so = subst (λ l. MayRun gives callee limits Lives words before now host l (Err e) [] h.events) (sym same) (start_failed now e h.events (goes_advance before now _ _ h.goes) (λ told. f h.events h.moves) h.so);
   }
 
   module _ (now : Moment) (served : HostSide T) (count : ℕ) where
@@ -121,7 +123,7 @@ none_asked bytes = (refl, refl, refl)
 -- the guest was resumed once an ask was served in the memory that it had left
 module _ {T : Type 0} (gives : Giving T) (callee : Callee) (fuel index : ℕ) (words : List ℕ) (a m b : Moment) (l n : HostSide T) (answers : List Answer) (longer : length a.bytes ≤ length m.bytes) where
   pub resumed_so : (resumed : List ℕ) (result : Result Step Error) (xs ys : List Event) → IsServed gives callee fuel (ask_turn index words a.guest.live a.bytes answers resumed m.bytes) l n → xs ≡ events_of answers None
-      → Goes a m (marks_of answers) xs → Goes m b [] ys → (AskStops gives callee fuel (error.Fault fault.OutOfMemory) index words a.guest.live a.bytes b.bytes answers None l n)
+      → Goes a m (marks_of answers) xs → Goes m b [] ys → (AskStops gives callee fuel (error.Fault fault.OutOfMemory) index words a b answers None l n)
       → Resumed resumed m b result ys → Serves gives callee fuel index words a b l n result answers (xs ++ ys)
   resumed_so resumed (Ok next) xs ys served is first goes short are =
       let r : Resumes gives callee fuel index words a b l n answers = record { resumed = resumed; memory = m.bytes; served = served; longer = longer; shorter = goes.no_shorter } in
@@ -150,12 +152,12 @@ builtin_resumed gives callee fuel index words a b l n called is answer result M 
 -- ---- an ask of a function of the host
 
 module _ {T : Type 0} (gives : Giving T) (callee : Callee) (fuel : ℕ) (asked : Asked) (index : ℕ) (words : List ℕ) where
-  stops_so : (a b : Moment) (l n : HostSide T) (e : Error) (answers : List Answer) (es : List Event) (trap : Option Trap) → HostStops gives callee fuel asked index words a.guest.live a.bytes b.bytes answers trap l n e → es ≡ events_of answers trap → TrapsLate (length a.bytes) trap → RisesAt e a b
+  stops_so : (a b : Moment) (l n : HostSide T) (e : Error) (answers : List Answer) (es : List Event) (trap : Option Trap) → HostStops gives callee fuel asked index words a b answers trap l n e → es ≡ events_of answers trap → TrapsLate (length a.bytes) trap → RisesAt e a b
       → Serves gives callee fuel index words a b l n (Err e) answers es
-  stops_so a b l n (error.ImportFault k f) answers es trap h are late rises = (trap, (host_tells (ask_at gives index) (form_sound (gives.form index)) gives.answers callee fuel asked index words a.guest.live a.bytes b.bytes answers trap l n (error.ImportFault k f) h, inr (asked, h)), are, late, rises)
-  stops_so a b l n (error.HostRefused k) answers es trap h are late rises = (trap, (host_tells (ask_at gives index) (form_sound (gives.form index)) gives.answers callee fuel asked index words a.guest.live a.bytes b.bytes answers trap l n (error.HostRefused k) h, (asked, h)), are, late, rises)
+  stops_so a b l n (error.ImportFault k f) answers es trap h are late rises = (trap, (host_tells (ask_at gives index) (form_sound (gives.form index)) gives.answers callee fuel asked index words a b answers trap l n (error.ImportFault k f) h, inr (asked, h)), are, late, rises)
+  stops_so a b l n (error.HostRefused k) answers es trap h are late rises = (trap, (host_tells (ask_at gives index) (form_sound (gives.form index)) gives.answers callee fuel asked index words a b answers trap l n (error.HostRefused k) h, (asked, h)), are, late, rises)
   stops_so a b l n (error.Fault fault.OutOfMemory) answers es trap h are late rises = (trap, inr (inl (asked, h)), are, late, rises)
-  stops_so a b l n e answers es trap h are late rises = absurd (host_tells (ask_at gives index) (form_sound (gives.form index)) gives.answers callee fuel asked index words a.guest.live a.bytes b.bytes answers trap l n e h)
+  stops_so a b l n e answers es trap h are late rises = absurd (host_tells (ask_at gives index) (form_sound (gives.form index)) gives.answers callee fuel asked index words a b answers trap l n e h)
 
   -- there was no room for its storage
   pub no_storage : (s : Seen) (bytes : List ℕ) (l : HostSide T) (M : List Event → Type 0) → M [] → IsHostAsk callee index words asked → Serving (moment s bytes) (moment s bytes) M (Serves gives callee fuel index words (moment s bytes) (moment s bytes) l l (Err (error.Fault fault.OutOfMemory)))

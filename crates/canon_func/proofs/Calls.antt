@@ -10,7 +10,7 @@ use Rattle.canon_model.specs.Tree.{Trees}
 use Rattle.canon_model.proofs.Frames.{blocks_are_read}
 use Rattle.canon_memory.specs.declared.event.Event.{Event}
 use Rattle.canon_memory.specs.declared.event.Event.TheVariants as event
-use Rattle.canon_memory.specs.Guest.{Goes, Mark, Moment}
+use Rattle.canon_memory.specs.Guest.{Moment}
 use Rattle.canon_ledger.specs.Ledger.{enter}
 use Rattle.canon_leaves.proofs.Leaves.{leaves_same}
 use Rattle.canon_leaves.specs.Parts.{LeavesTake}
@@ -29,7 +29,7 @@ use Rattle.canon_func.specs.Stores.{Callee}
 use Rattle.canon_func.specs.declared.error.Error.{Error}
 use Rattle.canon_func.specs.declared.error.Error.TheVariants as error
 use Rattle.canon_func.proofs.Legs.{asks_after}
-use Rattle.canon_func.proofs.Turns.{err_same, marks_then, not_ok}
+use Rattle.canon_func.proofs.Turns.{counts_earlier, err_same, marks_then, not_ok}
 use Rattle.canon_func.proofs.Prefixes.{IsEarly, answers_are, answers_early, asks_answers, each_after, each_answer, each_then, ends_after, grows_answers, grows_from, post_then, prefix_after, return_then, run_after}
 
 pub advances_then : (a b c : Moment) → Advances a b → Advances b c → Advances a c
@@ -38,9 +38,6 @@ advances_then a b c f g = record {
   traps_later = omega (arith, f.traps_later, g.traps_later);
   shortages_later = omega (arith, f.shortages_later, g.shortages_later);
 }
-
-pub goes_advance : (a b : Moment) (marks : List Mark) (events : List Event) → Goes a b marks events → Advances a b
-goes_advance a b marks events h = record { no_shorter = h.no_shorter; traps_later = h.traps_later; shortages_later = h.shortages_later }
 
 -- ---- the start
 
@@ -191,12 +188,13 @@ module _ {T R : Type 0} (args : Arguments) (its : ReturnedValues R) (gives : Giv
     later = later;
     in_parts = refl;
     turns = rest.turns;
-    late_live = rest.late_live;
+    late_guest = rest.late_guest;
+    late_counts = counts_earlier entry mid after rest.late_guest goes rest.late_counts;
     late = rest.late;
     late_trap = rest.late_trap;
     tail = rest.tail;
     starts = rest.starts;
-    lived = λ told. let (there, ends, goes) = earlier told in asks_after P Q first ends goes rest.turns rest.late_live rest.tail later (rest.lived there);
+    lived = λ told. let (there, ends, goes) = earlier told in asks_after P Q first ends goes rest.turns rest.late_guest.live rest.tail later (rest.lived there);
     asks = λ none. at_most (asks_in (first ++ later)) (asks_in later) limits.turns asks_later (rest.asks (λ is. not_ok results error.TurnsExhausted is));
     accepted = good_later (length mid.bytes) (length after.bytes) answers on.no_shorter low.start.good;
     marks = all_marks more low.marks marks ∙ ap (λ xs. entry.guest.marks ++ marks_of (answers ++ xs)) rest.answers_are;
@@ -223,12 +221,13 @@ module _ {T R : Type 0} (args : Arguments) (its : ReturnedValues R) (gives : Giv
     later = later;
     in_parts = refl;
     turns = rest.turns;
-    late_live = rest.late_live;
+    late_guest = rest.late_guest;
+    late_counts = counts_earlier entry mid after rest.late_guest goes rest.late_counts;
     late = rest.late;
     late_trap = rest.late_trap;
     tail = rest.tail;
     starts = rest.starts;
-    lived = λ told. let (there, ends, goes) = earlier told in asks_after P Q first ends goes rest.turns rest.late_live rest.tail later (rest.lived there);
+    lived = λ told. let (there, ends, goes) = earlier told in asks_after P Q first ends goes rest.turns rest.late_guest.live rest.tail later (rest.lived there);
     asks = λ none. at_most (asks_in (first ++ later)) (asks_in later) limits.turns asks_later (rest.asks (λ is. none (ap Err (err_same {T = R} e error.TurnsExhausted is))));
     accepted = accepted_after its callee limits mid after later rest.tail answers e rest.cause (good_later (length mid.bytes) (length after.bytes) answers on.no_shorter low.start.good);
     marks = all_marks more low.marks marks ∙ ap (λ xs. entry.guest.marks ++ marks_of (answers ++ xs)) rest.answers_are;

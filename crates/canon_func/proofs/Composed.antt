@@ -1,5 +1,5 @@
 -- One step of a call after another.
-use Rattle.std.proofs.Common.{Err, List, None, Ok, Result, Some, Vec, Global, [], ap, append_assoc, arith, inl, inr, length, refl, subst, sym, ℕ, ◌++◌, ◌∙◌, ◌∷◌, ◌≡◌, ◌≤◌}
+use Rattle.std.proofs.Common.{Err, List, None, Ok, Result, Some, Vec, Global, [], ap, append_assoc, arith, inl, inr, length, refl, subst, sym, ℕ, ◌++◌, ◌∙◌, ◌∷◌, ◌≡◌}
 use Rattle.std.specs.Prelude.{IfErr, IsSome, false}
 use Rattle.std.proofs.lemmas.List.{append-nil}
 use Rattle.canon_memory.specs.declared.error.GuestFault.{GuestFault}
@@ -19,20 +19,20 @@ use Rattle.canon_context.specs.declared.fault.Fault.TheVariants as fault
 use Rattle.canon_host.specs.Forms.{IsLawful}
 use Rattle.canon_host.specs.HostSide.{Giving, HostSide}
 use Rattle.canon_func.specs.Asks.{Limits}
-use Rattle.canon_func.specs.Call.{Adding, IsCallOf, Left, OnAnswered}
+use Rattle.canon_func.specs.Call.{Adding, Advances, IsCallOf, Left, OnAnswered}
 use Rattle.canon_func.specs.Runs.{AskTurn, AsksFrom, Leg, answers_in, events_in, posts}
 use Rattle.canon_func.specs.Passing.{Arguments, ReturnedValues}
 use Rattle.canon_func.specs.Steps.{Concluded, Ended, Proceeds, IsLate, IsRest, Lifted, LoweredArgs, MayRun, Posted, RunsOut, RunsToEnd, RunsUntil, RestCause, Serving, so_far}
 use Rattle.canon_func.specs.Stores.{Callee}
 use Rattle.canon_func.specs.declared.error.Error.{Error}
 use Rattle.canon_func.specs.declared.error.Error.TheVariants as error
-use Rattle.canon_func.proofs.Calls.{goes_advance, joined, ready}
+use Rattle.canon_func.proofs.Calls.{joined, ready}
 use Rattle.canon_func.proofs.Legs.{from_so, returned_more}
 use Rattle.canon_func.specs.Passed.{BlamesRightly, ReadsRightly}
 use Rattle.canon_func.proofs.Refusals.{refused_call, short_call}
 use Rattle.canon_func.proofs.Rests.{returned_rest, unended_tail}
 use Rattle.canon_func.proofs.Tails.{IsTail, rest_of_none, rest_of_tail}
-use Rattle.canon_func.proofs.Turns.{err_same, not_ok, same_le}
+use Rattle.canon_func.proofs.Turns.{counts_first, err_same, goes_advance, not_ok, same_le}
 use Rattle.canon_func.proofs.Unserved.{stopped_rest}
 
 -- what follows from a fact for every answer except out of memory
@@ -63,16 +63,17 @@ module _ {T R : Type 0} (its : ReturnedValues R) (gives : Giving T) (callee : Ca
 
   -- a rest from what came after the turns, which is said of the host as the guest left it
   rest_of_ran : (P : List Leg → List Event → Type 0) (a b c : Moment) (l m l2 : HostSide T) (returned : List ℕ) (answer : Result R Error) (answers : List Answer) (xs later : List Event) (ran : RunsUntil gives callee limits P words a b l m (Ok returned) answers xs)
-      → ((legs : List Leg) (es : List Event) → P legs es → Lives legs (es ++ later)) → IsTail its gives callee limits Leaves a c (length ran.turns) ran.len m l2 answer [] [] None (event.Return returned b.bytes ∷ later) → IsRest its gives callee limits Lives Leaves words a c l l2 answer answers (xs ++ later)
-  rest_of_ran P a b c l m l2 returned answer answers xs later ran f h =
+      → Advances a c → ((legs : List Leg) (es : List Event) → P legs es → Lives legs (es ++ later))
+      → IsTail its gives callee limits Leaves a c (length ran.turns) ran.len m l2 answer a.guest [] None (event.Return returned b.bytes ∷ later) → IsRest its gives callee limits Lives Leaves words a c l l2 answer answers (xs ++ later)
+  rest_of_ran P a b c l m l2 returned answer answers xs later ran on f h =
       let tail : List Event = event.Return returned b.bytes ∷ later in
       let events : xs ++ later ≡ so_far callee words a ran.turns tail =
       ap (λ es. es ++ later) (ran.is ∙ ap (λ es. so_far callee words a ran.turns es) ran.stopped.0) ∙ joined_run a ran.turns (event.Return returned b.bytes) later in
       let none : answers ≡ answers_in ran.turns ++ [] = ran.answers_are ∙ ap (λ ys. answers_in ran.turns ++ ys) ran.stopped.1.0 in
       subst (λ es. IsRest its gives callee limits Lives Leaves words a c l l2 answer answers es) (sym events)
-      (rest_of_tail its gives callee limits Lives Leaves words a c l ran.served l2 ran.turns ran.len ran.asked answer [] answers [] None tail none
-      (λ told. returned_more P Lives later f (event.Start callee.func words a.bytes ∷ []) ran.turns ran.late_live returned b.bytes (subst (λ es. AsksFrom P (event.Start callee.func words a.bytes ∷ []) ran.turns ran.late_live es) ran.stopped.0 (ran.lived told)))
-      (subst (λ (k : HostSide T). IsTail its gives callee limits Leaves a c (length ran.turns) ran.len k l2 answer [] [] None tail) ran.stopped.1.2 h))
+      (rest_of_tail its gives callee limits Lives Leaves words a c l ran.served l2 ran.turns ran.len ran.asked answer a.guest (counts_first a c on) answers [] None tail none
+      (λ told. returned_more P Lives later f (event.Start callee.func words a.bytes ∷ []) ran.turns ran.late_guest.live returned b.bytes (subst (λ es. AsksFrom P (event.Start callee.func words a.bytes ∷ []) ran.turns ran.late_guest.live es) ran.stopped.0 (ran.lived told)))
+      (subst (λ (k : HostSide T). IsTail its gives callee limits Leaves a c (length ran.turns) ran.len k l2 answer a.guest [] None tail) ran.stopped.1.2 h))
 
   -- the guest returned, and the scope ended
   pub run_returned : (a b c : Moment) (l m l2 : HostSide T) → l2 ≡ record m { ledger = l2.ledger } → (returned : List ℕ) (answer : Result R Error) (P : List Leg → List Event → Type 0) (N : List Event → Type 0) → ((legs : List Leg) (xs ys : List Event) → P legs xs → N ys → Lives legs (xs ++ ys))
@@ -86,31 +87,32 @@ module _ {T R : Type 0} (its : ReturnedValues R) (gives : Giving T) (callee : Ca
         events = first.events ++ second.events;
         goes = subst (λ ms. Goes a c ms (first.events ++ second.events)) (append-nil (marks_of first.answers)) (goes_then a b c (marks_of first.answers) [] first.events second.events first.goes second.goes);
         moves = λ told. f [] first.events second.events (first.moves told) second.moves;
-        so = rest_of_ran P a b c l out.ran l2 returned answer first.answers first.events second.events out.run (λ legs es h. f legs es second.events h second.moves)
+        so = rest_of_ran P a b c l out.ran l2 returned answer first.answers first.events second.events out.run
+            (goes_advance a c _ _ (goes_then a b c (marks_of first.answers) [] first.events second.events first.goes second.goes)) (λ legs es h. f legs es second.events h second.moves)
             (returned_rest its gives callee limits Leaves law a b c (length out.run.turns) out.run.len out.ran l2 whole returned out.run.few out.run.longer (goes_advance a b _ _ first.goes) (goes_advance b c _ _ second.goes)
             m.ledger out.ends.0 out.ends.1 answer second.events second.so);
       }
 
   -- the guest stopped
   module _ (lawful_forms : (n : ℕ) → IsLawful (gives.form n)) (P : List Leg → List Event → Type 0) (f : (legs : List Leg) (es : List Event) → P legs es → Lives legs es) where
-    rest_stopped : (a b : Moment) (l l2 : HostSide T) (e : Error) (answers : List Answer) (xs : List Event) → length a.bytes ≤ length b.bytes → (IsSome a.guest.journal → P [] xs) → MayRun gives callee limits P words a b l l2 (Err e) answers xs
+    rest_stopped : (a b : Moment) (l l2 : HostSide T) (e : Error) (answers : List Answer) (xs : List Event) → Advances a b → (IsSome a.guest.journal → P [] xs) → MayRun gives callee limits P words a b l l2 (Err e) answers xs
         → IsRest its gives callee limits Lives Leaves words a b l l2 (Err e) answers xs
-    rest_stopped a b l l2 e answers xs longer moves (inl (is, none, quiet, same)) =
+    rest_stopped a b l l2 e answers xs on moves (inl (is, none, quiet, same)) =
         subst (λ k. IsRest its gives callee limits Lives Leaves words a b l k (Err e) answers xs) (sym same) (subst (λ es. IsRest its gives callee limits Lives Leaves words a b l l (Err e) answers es) (sym none)
         (subst (λ ys. IsRest its gives callee limits Lives Leaves words a b l l (Err e) ys []) (sym quiet)
-        (subst (λ r. IsRest its gives callee limits Lives Leaves words a b l l (Err r) [] []) (sym (err_same {T = List ℕ} e (error.Fault fault.OutOfMemory) is)) (rest_of_none its gives callee limits Lives Leaves words a b l longer (λ told. f [] [] (subst (λ es. P [] es) none (moves told)))))))
-    rest_stopped a b l l2 e answers xs longer moves (inr ran) = subst (λ es. IsRest its gives callee limits Lives Leaves words a b l l2 (Err e) answers es) (sym ran.is)
-        (rest_of_tail its gives callee limits Lives Leaves words a b l ran.served l2 ran.turns ran.len ran.asked (Err e) ran.late_live answers ran.late ran.late_trap ran.tail ran.answers_are
-        (λ told. from_so P Lives f (event.Start callee.func words a.bytes ∷ []) ran.turns ran.late_live ran.tail (ran.lived told))
-        (stopped_rest its gives lawful_forms callee limits Leaves a b (length ran.turns) ran.len ran.served l2 e ran.late_live ran.late ran.late_trap ran.tail ran.longer ran.few ran.stopped))
+        (subst (λ r. IsRest its gives callee limits Lives Leaves words a b l l (Err r) [] []) (sym (err_same {T = List ℕ} e (error.Fault fault.OutOfMemory) is)) (rest_of_none its gives callee limits Lives Leaves words a b l on (λ told. f [] [] (subst (λ es. P [] es) none (moves told)))))))
+    rest_stopped a b l l2 e answers xs on moves (inr ran) = subst (λ es. IsRest its gives callee limits Lives Leaves words a b l l2 (Err e) answers es) (sym ran.is)
+        (rest_of_tail its gives callee limits Lives Leaves words a b l ran.served l2 ran.turns ran.len ran.asked (Err e) ran.late_guest ran.late_counts answers ran.late ran.late_trap ran.tail ran.answers_are
+        (λ told. from_so P Lives f (event.Start callee.func words a.bytes ∷ []) ran.turns ran.late_guest.live ran.tail (ran.lived told))
+        (stopped_rest its gives lawful_forms callee limits Leaves a b (length ran.turns) ran.len ran.served l2 e ran.late_guest ran.late ran.late_trap ran.tail ran.longer ran.few ran.stopped))
 
     -- the guest stopped, or it returned and the scope didn't end
-    rest_refused : (a b : Moment) (l l2 : HostSide T) (e : Error) (answers : List Answer) (xs : List Event) → length a.bytes ≤ length b.bytes → (IsSome a.guest.journal → P [] xs) → RunsToEnd gives callee limits P words a b l l2 (Err e) answers xs
+    rest_refused : (a b : Moment) (l l2 : HostSide T) (e : Error) (answers : List Answer) (xs : List Event) → Advances a b → (IsSome a.guest.journal → P [] xs) → RunsToEnd gives callee limits P words a b l l2 (Err e) answers xs
         → IsRest its gives callee limits Lives Leaves words a b l l2 (Err e) answers xs
-    rest_refused a b l l2 e answers xs longer moves (inl ran) = rest_stopped a b l l2 e answers xs longer moves ran
-    rest_refused a b l l2 e answers xs longer moves (inr (returned, out)) =
+    rest_refused a b l l2 e answers xs on moves (inl ran) = rest_stopped a b l l2 e answers xs on moves ran
+    rest_refused a b l l2 e answers xs on moves (inr (returned, out)) =
         subst (λ es. IsRest its gives callee limits Lives Leaves words a b l l2 (Err e) answers es) (append-nil xs)
-        (rest_of_ran P a b b l out.ran l2 returned (Err e) answers xs [] out.run (λ legs es h. subst (λ ys. Lives legs ys) (sym (append-nil es)) (f legs es h))
+        (rest_of_ran P a b b l out.ran l2 returned (Err e) answers xs [] out.run on (λ legs es h. subst (λ ys. Lives legs ys) (sym (append-nil es)) (f legs es h))
         (unended_tail its gives callee limits Leaves law a b (length out.run.turns) out.run.len out.ran l2 out.kept returned b.bytes out.run.few out.run.longer (same_le (length b.bytes)) refl e out.ends))
 
     pub run_refused : (a b : Moment) (l l2 : HostSide T) (e : Error) → Serving a b (P []) (RunsToEnd gives callee limits P words a b l l2 (Err e))
@@ -120,7 +122,7 @@ module _ {T R : Type 0} (its : ReturnedValues R) (gives : Giving T) (callee : Ca
       events = first.events;
       goes = first.goes;
       moves = λ told. f [] first.events (first.moves told);
-      so = rest_refused a b l l2 e first.answers first.events first.goes.no_shorter first.moves first.so;
+      so = rest_refused a b l l2 e first.answers first.events (goes_advance a b _ _ first.goes) first.moves first.so;
     }
 
 -- ---- the end of the scope
@@ -131,7 +133,8 @@ module _ {T : Type 0} (gives : Giving T) (callee : Callee) (limits : Limits) (Li
       → RunsUntil gives callee limits Q words a b l m r answers es
   run_so Q f r answers es h = record {
     turns = h.turns;
-    late_live = h.late_live;
+    late_guest = h.late_guest;
+    late_counts = h.late_counts;
     late = h.late;
     late_trap = h.late_trap;
     answers_are = h.answers_are;
@@ -143,7 +146,7 @@ module _ {T : Type 0} (gives : Giving T) (callee : Callee) (limits : Limits) (Li
     longer = h.longer;
     is = h.is;
     stopped = h.stopped;
-    lived = λ told. from_so Lives Q f (event.Start callee.func words a.bytes ∷ []) h.turns h.late_live h.tail (h.lived told);
+    lived = λ told. from_so Lives Q f (event.Start callee.func words a.bytes ∷ []) h.turns h.late_guest.live h.tail (h.lived told);
   }
 
   -- the guest returned, and the scope ended so, which changes nothing but the ledger

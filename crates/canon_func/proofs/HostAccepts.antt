@@ -2,9 +2,10 @@
 use Rattle.std.proofs.Common.{List, None, Ok, Option, Some, ap, arith, inl, inr, subst, ℕ, ◌%◌, ◌∙◌, ◌≡◌, ◌⊎◌}
 use Rattle.std.specs.Prelude.{false, slice_get, slice_index}
 use Rattle.canon_model.specs.Layout.{members_align}
-use Rattle.canon_model.specs.Memory.{Block, low}
+use Rattle.canon_model.specs.Memory.{low}
 use Rattle.canon_model.specs.Shape.{Members}
 use Rattle.canon_ledger.specs.Ledger.{LedgerState, enter, leave}
+use Rattle.canon_memory.specs.Guest.{Moment}
 use Rattle.canon_lowering.specs.Lowering.{AllLawful, Answer, Trap}
 use Rattle.canon_types.specs.declared.types.TypeFunc.{TypeFunc}
 use Rattle.canon_context.specs.declared.component.Import.{Import}
@@ -47,18 +48,18 @@ area_excludes bytes ms ws k at f area (inr (e, aligned, past)) = let same : at �
 told_short : (index : ℕ) (f : Fault) → f ≡ fault.OutOfMemory → asked_error index f ≡ error.Fault fault.OutOfMemory
 told_short index f is = ap (asked_error index) is
 
-module _ {T : Type 0} (its : AskForm T) (sound : AskSound its) (lawful : AskLawful its) (answers_so : Answering T) (callee : Callee) (fuel : ℕ) (asked : Asked) (index : ℕ) (words : List ℕ) (live : List Block) (memory memory2 : List ℕ) (answers : List Answer) (trap : Option Trap) (before after : HostSide T)
+module _ {T : Type 0} (its : AskForm T) (sound : AskSound its) (lawful : AskLawful its) (answers_so : Answering T) (callee : Callee) (fuel : ℕ) (asked : Asked) (index : ℕ) (words : List ℕ) (from to : Moment) (answers : List Answer) (trap : Option Trap) (before after : HostSide T)
     (kept : AllLawful answers) (none : trap ≡ None) where
-  given_excluded : (results : its.Results) (called : LedgerState) (e : Error) → AcceptsGiven its answers_so callee fuel asked words memory results called
-      → StopsGiven its answers_so callee fuel asked index words live memory memory2 answers trap before after e results called → e ≡ error.Fault fault.OutOfMemory
-  given_excluded results called e ok (inl (f, told, (far, bad), left, quiet)) = absurd (area_excludes memory (asked_results callee asked) words _ ok.at f (ok.place far) bad)
+  given_excluded : (results : its.Results) (called : LedgerState) (e : Error) → AcceptsGiven its answers_so callee fuel asked words from.bytes results called
+      → StopsGiven its answers_so callee fuel asked index words from to answers trap before after e results called → e ≡ error.Fault fault.OutOfMemory
+  given_excluded results called e ok (inl (f, told, (far, bad), left, quiet)) = absurd (area_excludes from.bytes (asked_results callee asked) words _ ok.at f (ok.place far) bad)
   given_excluded results called e ok (inr (at, place, inl (x, told, exit, quiet))) = absurd (not_both called after.ledger ok.ended x exit ok.ends)
   given_excluded results called e ok (inr (at, place, inr (ended, f, low, ends, told, lowers))) =
-      let lowerable : its.lowerable callee asked memory results (leave ended) = subst (λ k. its.lowerable callee asked memory results (leave k)) (same_end called ok.ended ended ok.ends ends) ok.lowerable in
-      told ∙ told_short index f (lawful.lower_excluded callee asked at live memory memory2 results low answers trap (leave ended) after.ledger f lowerable lowers kept none)
+      let lowerable : its.lowerable callee asked from.bytes results (leave ended) = subst (λ k. its.lowerable callee asked from.bytes results (leave k)) (same_end called ok.ended ended ok.ends ends) ok.lowerable in
+      told ∙ told_short index f (lawful.lower_excluded callee asked at from to results low answers trap (leave ended) after.ledger f lowerable lowers kept none)
 
-  called_excluded : (params : its.Params) (lifted : LedgerState) (e : Error) → AcceptsHostBy its answers_so callee fuel asked index words memory before → its.lifts before.store callee fuel asked words memory (enter before.ledger) (Ok params) lifted
-      → IsUnrefused e → StopsCalled its answers_so callee fuel asked index words live memory memory2 answers trap before after e params lifted → e ≡ error.Fault fault.OutOfMemory
+  called_excluded : (params : its.Params) (lifted : LedgerState) (e : Error) → AcceptsHostBy its answers_so callee fuel asked index words from.bytes before → its.lifts before.store callee fuel asked words from.bytes (enter before.ledger) (Ok params) lifted
+      → IsUnrefused e → StopsCalled its answers_so callee fuel asked index words from to answers trap before after e params lifted → e ≡ error.Fault fault.OutOfMemory
   called_excluded params lifted e ok lift unrefused (inl (wants, left, same, quiet)) = wants
   called_excluded params lifted e ok lift unrefused (inr (inl (stop.Refused, told, steps, gave, quiet))) = absurd (unrefused index told)
   called_excluded params lifted e ok lift unrefused (inr (inl (stop.OutOfMemory, told, steps, gave, quiet))) = told
@@ -69,12 +70,12 @@ module _ {T : Type 0} (its : AskForm T) (sound : AskSound its) (lawful : AskLawf
   declined_excluded e unrefused (inl is) = is
   declined_excluded e unrefused (inr is) = absurd (unrefused index is)
 
-  ends_so : (e : Error) → AcceptsHostBy its answers_so callee fuel asked index words memory before → IsUnrefused e
-      → StopsAt its answers_so callee fuel asked index words live memory memory2 answers trap before after e → e ≡ error.Fault fault.OutOfMemory
+  ends_so : (e : Error) → AcceptsHostBy its answers_so callee fuel asked index words from.bytes before → IsUnrefused e
+      → StopsAt its answers_so callee fuel asked index words from to answers trap before after e → e ≡ error.Fault fault.OutOfMemory
   ends_so e ok unrefused (inl (wants, left, same, quiet)) = declined_excluded e unrefused (sound.declined callee asked index before.log e wants)
-  ends_so e ok unrefused (inr (inl (f, told, lift, same, quiet))) = told ∙ sound.lift_excluded before.store callee fuel asked words memory (enter before.ledger) after.ledger index f ok.liftable lift
+  ends_so e ok unrefused (inr (inl (f, told, lift, same, quiet))) = told ∙ sound.lift_excluded before.store callee fuel asked words from.bytes (enter before.ledger) after.ledger index f ok.liftable lift
   ends_so e ok unrefused (inr (inr (params, lifted, lift, stops))) = called_excluded params lifted e ok lift unrefused stops
 
-  pub asked_excluded : (e : Error) → HostStopsBy its answers_so callee fuel asked index words live memory memory2 answers trap before after e → AcceptsHostBy its answers_so callee fuel asked index words memory before → IsUnrefused e
+  pub asked_excluded : (e : Error) → HostStopsBy its answers_so callee fuel asked index words from to answers trap before after e → AcceptsHostBy its answers_so callee fuel asked index words from.bytes before → IsUnrefused e
       → e ≡ error.Fault fault.OutOfMemory
   asked_excluded e h ok unrefused = ends_so e ok unrefused h.stops

@@ -58,7 +58,7 @@ pub record AskLowered (callee : Callee) (asked : Asked) (at : ℕ) (a b : Moment
   pub trap : Option Trap
   pub ending : Ending
   pub ends : EndsAs (have_handle (asked_results callee asked)) (all_passes (asked_results callee asked) results) r ending
-  pub lowers : AskLowers callee asked at a.guest.live a.bytes b.bytes results words answers trap l n r
+  pub lowers : AskLowers callee asked at a b results words answers trap l n r
   pub goes : Goes a b (marks_of answers) (events_of answers trap)
   pub cause : CauseOf a b answers trap ending
 
@@ -181,7 +181,7 @@ module _ {T G : Type 0} (seen : G → Seen) (moves : GuestIn G → List Event �
   lowered_as (Ok x) by moved = record {
     answers = by.answers;
     trap = by.trap;
-    lowers = subst (λ ws. AskLowers callee asked at (seen a.guest).live a.memory b.memory results ws by.answers by.trap l b.ledger (Ok tt)) are by.lowers;
+    lowers = subst (λ ws. AskLowers callee asked at (moment_of seen a) (moment_of seen b) results ws by.answers by.trap l b.ledger (Ok tt)) are by.lowers;
     goes = by.goes;
     done = subst (λ e. CauseOf (moment_of seen a) (moment_of seen b) by.answers by.trap e) by.ends by.cause;
     late = traps_late (moment_of seen a) (moment_of seen b) by.answers by.trap by.ending by.cause;
@@ -191,7 +191,7 @@ module _ {T G : Type 0} (seen : G → Seen) (moves : GuestIn G → List Event �
   lowered_as (Err f) by moved = record {
     answers = by.answers;
     trap = by.trap;
-    lowers = subst (λ ws. AskLowers callee asked at (seen a.guest).live a.memory b.memory results ws by.answers by.trap l b.ledger (Err f)) are by.lowers;
+    lowers = subst (λ ws. AskLowers callee asked at (moment_of seen a) (moment_of seen b) results ws by.answers by.trap l b.ledger (Err f)) are by.lowers;
     goes = by.goes;
     done = tt;
     late = traps_late (moment_of seen a) (moment_of seen b) by.answers by.trap by.ending by.cause;

@@ -99,10 +99,10 @@ module _ {T G P S : Type 0} (its : AskForm T) (sound : AskSound its) (seen : G �
   Ends r = Out its seen moves answers_so log log2 refusals refusals2 index a b export asked words storage2 r
 
   abbrev Stops : List Answer → Option Trap → Error → Type 0
-  Stops answers trap e = HostStopsBy its answers_so callee a.fuel asked index words (seen a.guest).live a.memory b.memory answers trap before after e
+  Stops answers trap e = HostStopsBy its answers_so callee a.fuel asked index words (moment_of seen a) (moment_of seen b) answers trap before after e
 
   abbrev At : List Answer → Option Trap → Error → Type 0
-  At answers trap e = StopsAt its answers_so callee a.fuel asked index words (seen a.guest).live a.memory b.memory answers trap before after e
+  At answers trap e = StopsAt its answers_so callee a.fuel asked index words (moment_of seen a) (moment_of seen b) answers trap before after e
 
   called_core : (s : T) (l : LedgerState) (lifted called : Parts T G) → lifted ≡ record (with_host s l) { ledger = lifted.ledger } → called ≡ record lifted { state = called.state; ledger = called.ledger } → called ≡ with_host called.state called.ledger
   called_core s l lifted called first second = second ∙ ap (λ (k : Parts T G). record k { state = called.state; ledger = called.ledger }) first
@@ -162,7 +162,10 @@ module _ {T G P S : Type 0} (its : AskForm T) (sound : AskSound its) (seen : G �
             gave = gave_so params (Ok told.results) lifted called.ledger called.state lifting.1 (sym (concluded_state called.state called.ledger told.results (Ok tt) ended_so)) gave.2;
             place = place at placed;
             ends = exit_is called.ledger ended.ledger (Ok tt) ends.0;
-            lowers = subst (λ o. its.lowers callee asked at (seen a.guest).live a.memory b.memory told.results (take (members_flat (asked_results callee asked)) storage2) by.answers o (leave ended.ledger) b.ledger (Ok tt)) none by.lowers;
+            asking = seen a.guest;
+            answered = seen b.guest;
+            lives = refl;
+            lowers = subst (λ o. its.lowers callee asked at (moment_of seen a) (moment_of seen b) told.results (take (members_flat (asked_results callee asked)) storage2) by.answers o (leave ended.ledger) b.ledger (Ok tt)) none by.lowers;
             resumed = row_is (members_flat (asked_results callee asked)) storage2;
             count = length-take-le (row_words (asked_results callee asked)) storage2 room;
             told = logs ∙ law.logs params told same;
@@ -200,7 +203,7 @@ module _ {T G P S : Type 0} (its : AskForm T) (sound : AskSound its) (seen : G �
 
     -- after the call
     stopped_given : (s : T) (l : LedgerState) (results : its.Results) (x : Fault) → refusals2 ≡ refusals
-        → (from : (answers : List Answer) (trap : Option Trap) → StopsGiven its answers_so callee a.fuel asked index words (seen a.guest).live a.memory b.memory answers trap before after (asked_error index x) results l → At answers trap (asked_error index x))
+        → (from : (answers : List Answer) (trap : Option Trap) → StopsGiven its answers_so callee a.fuel asked index words (moment_of seen a) (moment_of seen b) answers trap before after (asked_error index x) results l → At answers trap (asked_error index x))
         → ConcludesBy how.lowers asked (with_host s l) results (words ++ pad) (Err x) b storage2 → Ends (Err (asked_error index x))
     stopped_given s l results x none_refused from (inl (none, same, words_same)) =
         quiet s l (asked_error index x) (fault_counted index x none_refused) same (no_rise index x (moment_of seen a) (moment_of seen b) (no_trap_there x _ _ _ _ none.1))

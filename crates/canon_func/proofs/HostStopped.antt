@@ -1,8 +1,8 @@
 -- What an ask of a function of the host leaves that isn't resumed.
 use Rattle.std.proofs.Common.{Err, List, None, Option, Some, [], inl, inr, refl, subst, sym, ℕ, ◌∙◌, ◌≡◌, ◌⊎◌}
-use Rattle.canon_model.specs.Memory.{Block}
 use Rattle.canon_ledger.specs.Ledger.{LedgerState, enter, leave}
 use Rattle.canon_ledger.specs.declared.fault.ResourceFault.TheVariants as resource
+use Rattle.canon_memory.specs.Guest.{Moment}
 use Rattle.canon_lowering.specs.Lowering.{Answer, Trap, events_of}
 use Rattle.canon_context.specs.declared.fault.Fault.{Fault}
 use Rattle.canon_context.specs.declared.fault.Fault.TheVariants as fault
@@ -56,15 +56,15 @@ stopped_told index stop.OutOfMemory = tt
 pub none_more : (answers : List Answer) (trap : Option Trap) → answers ≡ [] → trap ≡ None → events_of answers trap ≡ []
 none_more answers trap none quiet = rw (none, quiet) refl
 
-module _ {T : Type 0} (its : AskForm T) (sound : AskSound its) (answers_so : Answering T) (callee : Callee) (fuel : ℕ) (asked : Asked) (index : ℕ) (words : List ℕ) (live : List Block) (memory memory2 : List ℕ) (answers : List Answer) (trap : Option Trap) (before after : HostSide T) where
+module _ {T : Type 0} (its : AskForm T) (sound : AskSound its) (answers_so : Answering T) (callee : Callee) (fuel : ℕ) (asked : Asked) (index : ℕ) (words : List ℕ) (from to : Moment) (answers : List Answer) (trap : Option Trap) (before after : HostSide T) where
   abbrev Given : Error → its.Results → LedgerState → Type 0
-  Given e results called = StopsGiven its answers_so callee fuel asked index words live memory memory2 answers trap before after e results called
+  Given e results called = StopsGiven its answers_so callee fuel asked index words from to answers trap before after e results called
 
   abbrev At : Error → Type 0
-  At e = StopsAt its answers_so callee fuel asked index words live memory memory2 answers trap before after e
+  At e = StopsAt its answers_so callee fuel asked index words from to answers trap before after e
 
   abbrev Stops : Error → Type 0
-  Stops e = HostStopsBy its answers_so callee fuel asked index words live memory memory2 answers trap before after e
+  Stops e = HostStopsBy its answers_so callee fuel asked index words from to answers trap before after e
 
   told_as : (e d : Error) → e ≡ d → IsTold index d → IsTold index e
   told_as e d is told = subst (λ x. IsTold index x) (sym is) told
@@ -119,12 +119,12 @@ module _ {T : Type 0} (its : AskForm T) (sound : AskSound its) (answers_so : Ans
   trapped_given n results called (inl (f, told, (far, inr bad), left, quiet)) = let w = sym bad.0 ∙ trap_fault n index f told in cc
   trapped_given n results called (inr (at, place, inl (x, told, exit, quiet))) = let w = trap_fault n index (fault.Resource x) told in cc
   trapped_given n results called (inr (at, place, inr (ended, f, low, ends, told, lowers))) =
-      sound.traps callee asked at live memory memory2 results low answers trap (leave ended) after.ledger
-      (subst (λ g. its.lowers callee asked at live memory memory2 results low answers trap (leave ended) after.ledger (Err g)) (trap_fault n index f told) lowers)
+      sound.traps callee asked at from to results low answers trap (leave ended) after.ledger
+      (subst (λ g. its.lowers callee asked at from to results low answers trap (leave ended) after.ledger (Err g)) (trap_fault n index f told) lowers)
 
   trapped_so : (n : ℕ) → At (error.ImportFault n fault.GuestTrap) → Traps
   trapped_so n (inl (wants, left, same, quiet)) = absurd (trap_no_decline n (sound.declined callee asked index before.log (error.ImportFault n fault.GuestTrap) wants))
-  trapped_so n (inr (inl (f, told, lift, same, quiet))) = absurd (sound.calm before.store callee fuel asked words memory (enter before.ledger) after.ledger f lift (trap_fault n index f told))
+  trapped_so n (inr (inl (f, told, lift, same, quiet))) = absurd (sound.calm before.store callee fuel asked words from.bytes (enter before.ledger) after.ledger f lift (trap_fault n index f told))
   trapped_so n (inr (inr (params, lifted, lift, inl (none, left, same, quiet)))) = cc
   trapped_so n (inr (inr (params, lifted, lift, inr (inl (why, told, steps, gave, quiet))))) = absurd (trap_no_stop n index why told)
   trapped_so n (inr (inr (params, lifted, lift, inr (inr (results, called, steps, gave, given))))) = trapped_given n results called given

@@ -1,4 +1,5 @@
 pub mod AskLaws
+pub mod AskStands
 pub mod AskedExactly
 pub mod Asking
 pub mod Calls

@@ -1,6 +1,6 @@
 -- The ledger of a call that is refused, up to some step.
 use Rattle.std.proofs.Common.{Err, List, Ok, Option, Result, Some, [], ap, inl, inr, refl, subst, sym, ℕ, ⊎_elim, ◌++◌, ◌∷◌, ◌≡◌, ◌⊎◌}
-use Rattle.canon_model.specs.Memory.{Block}
+use Rattle.canon_memory.specs.Guest.{Moment, Seen, moment}
 use Rattle.canon_memory.specs.declared.event.Event.{Event}
 use Rattle.canon_memory.specs.declared.event.Event.TheVariants as event
 use Rattle.canon_ledger.specs.Handles.{top_scope}
@@ -65,22 +65,22 @@ ended_partway_of l ended n steps ends rest = inr (inr (0, ap (λ (d : Done (Unit
 
 -- ---- an ask of a function of the host
 
-module _ {T : Type 0} (its : AskForm T) (sound : AskSound its) (lawful : AskLawful its) (answers_so : Answering T) (callee : Callee) (fuel : ℕ) (asked : Asked) (index : ℕ) (words : List ℕ) (live : List Block) (memory memory2 : List ℕ) (answers : List Answer) (trap : Option Trap) (before after : HostSide T) (e : Error)
+module _ {T : Type 0} (its : AskForm T) (sound : AskSound its) (lawful : AskLawful its) (answers_so : Answering T) (callee : Callee) (fuel : ℕ) (asked : Asked) (index : ℕ) (words : List ℕ) (from to : Moment) (answers : List Answer) (trap : Option Trap) (before after : HostSide T) (e : Error)
     (is : IsHostAsk callee index words asked) where
   abbrev FirstSteps : List LedgerStep
-  FirstSteps = host_asked_steps its before.store callee asked words memory before.ledger
+  FirstSteps = host_asked_steps its before.store callee asked words from.bytes before.ledger
 
   abbrev Stopped : Type 0
-  Stopped = HostPartway its answers_so callee fuel index words memory before e after.ledger
+  Stopped = HostPartway its answers_so callee fuel index words from.bytes before e after.ledger
 
   abbrev Called : its.Params → LedgerState → LedgerState → Type 0
-  Called = HostCalled its answers_so callee fuel index words memory before asked
+  Called = HostCalled its answers_so callee fuel index words from.bytes before asked
 
   -- it stopped after the parameters were lifted
   whole_first : (lifted : LedgerState) → Through before.ledger FirstSteps lifted → after.ledger ≡ lifted → Partway before.ledger FirstSteps after.ledger
   whole_first lifted first same = through_partway before.ledger after.ledger FirstSteps (subst (λ k. Through before.ledger FirstSteps k) (sym same) first)
 
-  given_partway : (results : its.Results) (called : LedgerState) → StopsGiven its answers_so callee fuel asked index words live memory memory2 answers trap before after e results called
+  given_partway : (results : its.Results) (called : LedgerState) → StopsGiven its answers_so callee fuel asked index words from to answers trap before after e results called
       → Partway called (host_given_steps its callee asked results called) after.ledger
   given_partway results called (inl (f, told, bad, left, quiet)) = inl left
   given_partway results called (inr (at, place, inl (x, told, refused, quiet))) =
@@ -89,27 +89,27 @@ module _ {T : Type 0} (its : AskForm T) (sound : AskSound its) (lawful : AskLawf
       subst (λ k. Partway called (ExitScope (top_scope called.handles) ∷ Leave ∷ leaves_steps (leave k) (its.gives callee asked results)) after.ledger) (ended_is called ended ends)
       (ended_partway_of called ended after.ledger (Leave ∷ leaves_steps (leave ended) (its.gives callee asked results)) ends
       (compose_parts ended (leave ended) after.ledger (Leave ∷ []) (leaves_steps (leave ended) (its.gives callee asked results)) (left_through ended (leave ended) (ended_can_leave called ended ends) refl)
-      (leaves_partway (stop_of f) (leave ended) after.ledger (its.gives callee asked results) (sound.ungiven callee asked at live memory memory2 results low answers trap (leave ended) after.ledger f lowers))))
+      (leaves_partway (stop_of f) (leave ended) after.ledger (its.gives callee asked results) (sound.ungiven callee asked at from to results low answers trap (leave ended) after.ledger f lowers))))
 
-  after_lifting : (params : its.Params) (lifted : LedgerState) → its.lifts before.store callee fuel asked words memory (enter before.ledger) (Ok params) lifted → Through before.ledger FirstSteps lifted
-      → StopsCalled its answers_so callee fuel asked index words live memory memory2 answers trap before after e params lifted → Stopped
+  after_lifting : (params : its.Params) (lifted : LedgerState) → its.lifts before.store callee fuel asked words from.bytes (enter before.ledger) (Ok params) lifted → Through before.ledger FirstSteps lifted
+      → StopsCalled its answers_so callee fuel asked index words from to answers trap before after e params lifted → Stopped
   after_lifting params lifted lift first (inl (short, left, same, quiet)) = (asked, is, inl (whole_first lifted first left))
   after_lifting params lifted lift first (inr (inl (why, told, steps, gave, quiet))) = (asked, is, inr (inl (params, lifted, why, after.state, told, record { lifts = lift; first = first; steps = steps }, gave)))
   after_lifting params lifted lift first (inr (inr (results, called, steps, gave, given))) =
       (asked, is, inr (inr (params, results, lifted, called, after.state, record { lifts = lift; first = first; steps = steps }, gave, given_partway results called given)))
 
-  called_partway : (params : its.Params) (lifted : LedgerState) → its.lifts before.store callee fuel asked words memory (enter before.ledger) (Ok params) lifted
-      → StopsCalled its answers_so callee fuel asked index words live memory memory2 answers trap before after e params lifted → Stopped
+  called_partway : (params : its.Params) (lifted : LedgerState) → its.lifts before.store callee fuel asked words from.bytes (enter before.ledger) (Ok params) lifted
+      → StopsCalled its answers_so callee fuel asked index words from to answers trap before after e params lifted → Stopped
   called_partway params lifted lift stops =
-      let taken = lawful.taken before.store callee fuel asked words memory (enter before.ledger) lifted params lift in
-      let first : Through before.ledger FirstSteps lifted = (0, refl, leaves_through (enter before.ledger) lifted (its.parts before.store callee asked words memory) taken.0 taken.1) in
+      let taken = lawful.taken before.store callee fuel asked words from.bytes (enter before.ledger) lifted params lift in
+      let first : Through before.ledger FirstSteps lifted = (0, refl, leaves_through (enter before.ledger) lifted (its.parts before.store callee asked words from.bytes) taken.0 taken.1) in
       after_lifting params lifted lift first stops
 
-  host_partway : StopsAt its answers_so callee fuel asked index words live memory memory2 answers trap before after e → (after.ledger ≡ before.ledger) ⊎ Stopped
+  host_partway : StopsAt its answers_so callee fuel asked index words from to answers trap before after e → (after.ledger ≡ before.ledger) ⊎ Stopped
   host_partway (inl (why, left, same, quiet)) = inl left
   host_partway (inr (inl (f, told, lift, same, quiet))) =
-      let unlifted = sound.unlifted before.store callee fuel asked words memory (enter before.ledger) after.ledger f lift in
-      inr (asked, is, inl (inr (inr (0, refl, leaves_partway (stop_of f) (enter before.ledger) after.ledger (its.parts before.store callee asked words memory) unlifted))))
+      let unlifted = sound.unlifted before.store callee fuel asked words from.bytes (enter before.ledger) after.ledger f lift in
+      inr (asked, is, inl (inr (inr (0, refl, leaves_partway (stop_of f) (enter before.ledger) after.ledger (its.parts before.store callee asked words from.bytes) unlifted))))
   host_partway (inr (inr (params, lifted, lift, stops))) = inr (called_partway params lifted lift stops)
 
 -- what was served went through all steps
@@ -131,11 +131,11 @@ through_host its answers_so callee fuel t l n e h = (
 )
 
 module _ {T : Type 0} (gives : Giving T) (lawful : (n : ℕ) → IsLawful (gives.form n)) (callee : Callee) (fuel : ℕ) where
-  stops_partway : (asked : Asked) (index : ℕ) (words : List ℕ) (live : List Block) (memory memory2 : List ℕ) (answers : List Answer) (trap : Option Trap) (l n : HostSide T) (e : Error) → HostStops gives callee fuel asked index words live memory memory2 answers trap l n e
-      → AskPartway gives callee fuel e index words memory l n.ledger
-  stops_partway asked index words live memory memory2 answers trap l n e h =
+  stops_partway : (asked : Asked) (index : ℕ) (words : List ℕ) (from to : Moment) (answers : List Answer) (trap : Option Trap) (l n : HostSide T) (e : Error) → HostStops gives callee fuel asked index words from to answers trap l n e
+      → AskPartway gives callee fuel e index words from.bytes l n.ledger
+  stops_partway asked index words from to answers trap l n e h =
       ⊎_elim (λ same. inl same) (λ part. inr (inr part))
-      (host_partway (ask_at gives index) (form_sound (gives.form index)) (form_lawful (gives.form index) (lawful index)) gives.answers callee fuel asked index words live memory memory2 answers trap l n e h.is h.stops)
+      (host_partway (ask_at gives index) (form_sound (gives.form index)) (form_lawful (gives.form index) (lawful index)) gives.answers callee fuel asked index words from to answers trap l n e h.is h.stops)
 
   served_partway : (t : AskTurn) (l n : HostSide T) (e : Error) → AskThrough gives callee fuel t l n → AskPartway gives callee fuel e t.index t.words t.memory l n.ledger
   served_partway t l n e (inl (builtin, through)) = inr (inl (builtin.called, builtin.is.known, through_partway l.ledger n.ledger (ask_steps callee builtin.called t.words) through))
@@ -151,20 +151,20 @@ module _ {T : Type 0} (gives : Giving T) (lawful : (n : ℕ) → IsLawful (gives
   short_partway e index words memory l n h (inl same) = inl same
   short_partway e index words memory l n h (inr left) = builtin_partway e index words memory h.called l n.ledger h.is.known left
 
-  ask_stops : (e : Error) (l n : HostSide T) (index : ℕ) (words : List ℕ) (live : List Block) (memory memory2 : List ℕ) (answers : List Answer) (trap : Option Trap) → AskStops gives callee fuel e index words live memory memory2 answers trap l n
-      → AskPartway gives callee fuel e index words memory l n.ledger
-  ask_stops error.TurnsExhausted l n index words live memory memory2 answers trap h = inl (ap (λ s. s.ledger) h.0)
-  ask_stops (error.UnknownImport k) l n index words live memory memory2 answers trap h = inl (ap (λ s. s.ledger) h.2)
-  ask_stops error.WrongWords l n index words live memory memory2 answers trap h = inl (ap (λ s. s.ledger) h.3)
-  ask_stops (error.ImportFault k f) l n index words live memory memory2 answers trap (same, inl (h, quiet)) = builtin_partway (error.ImportFault k f) index words memory h.called l n.ledger h.is.known (sym (ap (λ (d : Done ℕ). d.after) h.refused))
-  ask_stops (error.ImportFault k f) l n index words live memory memory2 answers trap (same, inr (asked, h)) = stops_partway asked index words live memory memory2 answers trap l n (error.ImportFault k f) h
-  ask_stops (error.HostRefused k) l n index words live memory memory2 answers trap (same, (asked, h)) = stops_partway asked index words live memory memory2 answers trap l n (error.HostRefused k) h
-  ask_stops (error.Fault fault.OutOfMemory) l n index words live memory memory2 answers trap (inl (h, none, quiet)) = short_partway (error.Fault fault.OutOfMemory) index words memory l n h h.left
-  ask_stops (error.Fault fault.OutOfMemory) l n index words live memory memory2 answers trap (inr (inl (asked, h))) = stops_partway asked index words live memory memory2 answers trap l n (error.Fault fault.OutOfMemory) h
-  ask_stops (error.Fault fault.OutOfMemory) l n index words live memory memory2 answers trap
-      (inr (inr (resumed, memory3, none, longer, h))) = served_partway (ask_turn index words live memory answers resumed memory3) l n
-      (error.Fault fault.OutOfMemory) (host_through gives lawful callee fuel (ask_turn index words live memory answers resumed memory3) l n h)
-  ask_stops e l n index words live memory memory2 answers trap h = absurd h
+  ask_stops : (e : Error) (l n : HostSide T) (index : ℕ) (words : List ℕ) (from to : Moment) (answers : List Answer) (trap : Option Trap) → AskStops gives callee fuel e index words from to answers trap l n
+      → AskPartway gives callee fuel e index words from.bytes l n.ledger
+  ask_stops error.TurnsExhausted l n index words from to answers trap h = inl (ap (λ s. s.ledger) h.0)
+  ask_stops (error.UnknownImport k) l n index words from to answers trap h = inl (ap (λ s. s.ledger) h.2)
+  ask_stops error.WrongWords l n index words from to answers trap h = inl (ap (λ s. s.ledger) h.3)
+  ask_stops (error.ImportFault k f) l n index words from to answers trap (same, inl (h, quiet)) = builtin_partway (error.ImportFault k f) index words from.bytes h.called l n.ledger h.is.known (sym (ap (λ (d : Done ℕ). d.after) h.refused))
+  ask_stops (error.ImportFault k f) l n index words from to answers trap (same, inr (asked, h)) = stops_partway asked index words from to answers trap l n (error.ImportFault k f) h
+  ask_stops (error.HostRefused k) l n index words from to answers trap (same, (asked, h)) = stops_partway asked index words from to answers trap l n (error.HostRefused k) h
+  ask_stops (error.Fault fault.OutOfMemory) l n index words from to answers trap (inl (h, none, quiet)) = short_partway (error.Fault fault.OutOfMemory) index words from.bytes l n h h.left
+  ask_stops (error.Fault fault.OutOfMemory) l n index words from to answers trap (inr (inl (asked, h))) = stops_partway asked index words from to answers trap l n (error.Fault fault.OutOfMemory) h
+  ask_stops (error.Fault fault.OutOfMemory) l n index words from to answers trap
+      (inr (inr (resumed, memory3, none, longer, h))) = served_partway (ask_turn index words from.guest.live from.bytes answers resumed memory3) l n
+      (error.Fault fault.OutOfMemory) (host_through gives lawful callee fuel (ask_turn index words from.guest.live from.bytes answers resumed memory3) l n h)
+  ask_stops e l n index words from to answers trap h = absurd h
 
 module _ {T R : Type 0} (args : Arguments) (its : ReturnedValues R) (gives : Giving T) (lawful : (n : ℕ) → IsLawful (gives.form n)) (callee : Callee) (fuel : ℕ) (law : ReadsRightly callee its) where
   module _ (words memory : List ℕ) (l n : LedgerState) where
@@ -185,19 +185,19 @@ module _ {T R : Type 0} (args : Arguments) (its : ReturnedValues R) (gives : Giv
         let taken = law.taken words memory lifts.ended n lifts.lifts in
         ended_partway lifts.ended lifts.ends (compose_parts lifts.ended n n (leaves_steps lifts.ended parts) (Leave ∷ []) (leaves_through lifts.ended n parts taken.0 taken.1) (inl refl))
 
-  goes_on : (e : Error) (live : List Block) (memory2 : List ℕ) (late : List Answer) (trap : Option Trap) (l n : HostSide T) (tail : List Event) → StopsStartedOf its gives callee fuel e live memory2 late trap l n tail → GoesOn gives callee fuel e its.parts l n.ledger tail
-  goes_on e live memory2 late trap l n tail (inl (inl (none, same, each, calm), kept)) = inl same
-  goes_on e live memory2 late trap l n tail (inl (inr (inl (untold, calm, some)), kept)) = inr (inr (some_return _ _ (λ ws m h. returned_partway ws m l.ledger n.ledger (stopped_by e) h.1) tail some))
-  goes_on e live memory2 late trap l n tail (inl (inr (inr (none, posts, some)), kept)) = inr (inr (some_return _ _ (λ ws m h. lifted_partway ws m l.ledger n.ledger h) tail some))
-  goes_on e live memory2 late trap l n tail (inr asked) = inr (inl (begins _ _ (λ index ws m more h. ask_stops gives lawful callee fuel e l n index ws live m memory2 late trap h) tail asked))
+  goes_on : (e : Error) (late_guest : Seen) (to : Moment) (late : List Answer) (trap : Option Trap) (l n : HostSide T) (tail : List Event) → StopsStartedOf its gives callee fuel e late_guest to late trap l n tail → GoesOn gives callee fuel e its.parts l n.ledger tail
+  goes_on e late_guest to late trap l n tail (inl (inl (none, same, each, calm), kept)) = inl same
+  goes_on e late_guest to late trap l n tail (inl (inr (inl (untold, calm, some)), kept)) = inr (inr (some_return _ _ (λ ws m h. returned_partway ws m l.ledger n.ledger (stopped_by e) h.1) tail some))
+  goes_on e late_guest to late trap l n tail (inl (inr (inr (none, posts, some)), kept)) = inr (inr (some_return _ _ (λ ws m h. lifted_partway ws m l.ledger n.ledger h) tail some))
+  goes_on e late_guest to late trap l n tail (inr asked) = inr (inl (begins _ _ (λ index ws m more h. ask_stops gives lawful callee fuel e l n index ws (moment late_guest m) to late trap h) tail asked))
 
-  pub passes_partway : (turns : List AskTurn) (live : List Block) (memory2 : List ℕ) (late : List Answer) (trap : Option Trap) (before after : HostSide T) (given : List ℕ) (e : Error) (events tail : List Event)
-      → HandlesPassOf args its gives callee fuel turns live memory2 late trap before after given (Err e) events tail → PassesPartway gives callee fuel e args.parts its.parts turns before after.ledger events tail
-  passes_partway turns live memory2 late trap before after given e events tail (inl (short, none, same)) = inl (subst (λ es. Each IsNoStart es) (sym none) tt, inl (ap (λ s. s.ledger) same))
-  passes_partway turns live memory2 late trap before after given e events tail (inr (inl (unstarted, stops, kept))) = inl (unstarted, inr (inr (0, refl, leaves_partway (stopped_by e) (enter before.ledger) after.ledger args.parts stops)))
-  passes_partway turns live memory2 late trap before after given e events tail (inr (inr (lowered, took, (served, serves, stops)))) =
-      inr (served, call_through gives lawful callee fuel args.parts turns before served given lowered took serves, goes_on e live memory2 late trap served after tail stops)
+  pub passes_partway : (turns : List AskTurn) (late_guest : Seen) (to : Moment) (late : List Answer) (trap : Option Trap) (before after : HostSide T) (given : List ℕ) (e : Error) (events tail : List Event)
+      → HandlesPassOf args its gives callee fuel turns late_guest to late trap before after given (Err e) events tail → PassesPartway gives callee fuel e args.parts its.parts turns before after.ledger events tail
+  passes_partway turns late_guest to late trap before after given e events tail (inl (short, none, same)) = inl (subst (λ es. Each IsNoStart es) (sym none) tt, inl (ap (λ s. s.ledger) same))
+  passes_partway turns late_guest to late trap before after given e events tail (inr (inl (unstarted, stops, kept))) = inl (unstarted, inr (inr (0, refl, leaves_partway (stopped_by e) (enter before.ledger) after.ledger args.parts stops)))
+  passes_partway turns late_guest to late trap before after given e events tail (inr (inr (lowered, took, (served, serves, stops)))) =
+      inr (served, call_through gives lawful callee fuel args.parts turns before served given lowered took serves, goes_on e late_guest to late trap served after tail stops)
 
 pub refused_is_partway : {T : Type 0} (gives : Giving T) → ((n : ℕ) → IsLawful (gives.form n)) → RefusedIsPartway gives
-refused_is_partway gives lawful callee fuel params turns live memory2 late trap before after given e results events tail h =
-    passes_partway (dynamic callee params) (dynamic_results callee) gives lawful callee fuel (dynamic_reads callee) turns live memory2 late trap before after given e events tail h
+refused_is_partway gives lawful callee fuel params turns late_guest to late trap before after given e results events tail h =
+    passes_partway (dynamic callee params) (dynamic_results callee) gives lawful callee fuel (dynamic_reads callee) turns late_guest to late trap before after given e events tail h

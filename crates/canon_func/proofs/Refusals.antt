@@ -25,13 +25,13 @@ use Rattle.canon_func.specs.Runs.{Each, EndsIn, IsNoPost, IsNoStart, IsTrap, Leg
 use Rattle.canon_func.specs.Steps.{EndsFor, TrapsLate}
 use Rattle.canon_func.specs.Stores.{Callee}
 use Rattle.canon_func.specs.declared.error.Error.TheVariants as error
-use Rattle.canon_func.proofs.Calls.{goes_advance}
+use Rattle.canon_func.proofs.Turns.{counts_first, goes_advance}
 use Rattle.canon_leaves.proofs.Leaves.{leaves_excluded}
 use Rattle.canon_func.specs.Passed.{BlamesRightly, Unfit}
 use Rattle.canon_func.proofs.Prefixes.{asks_answers, each_answer, ends_in_answer, ends_in_trap, grows_request, last_lawful, none_trapped, prefix_requests}
 
 -- where no count rose, none did however it ended
-calm_so : (e : Ending) (before after : Seen) → Calm refused before after → Calm e before after
+pub calm_so : (e : Ending) (before after : Seen) → Calm refused before after → Calm e before after
 calm_so done before after h = tt
 calm_so e before after h = h
 
@@ -62,7 +62,7 @@ module _ {T R : Type 0} (args : Arguments) (its : ReturnedValues R) (gives : Giv
       (Calm refused entry.guest after.guest → Stands entry.bytes after.bytes answers × KeepsLive entry after.bytes answers) →
       AsksByTypes callee.params (fault_ending f) answers trap → after.guest.marks ≡ entry.guest.marks ++ marks_of answers
       → ((ts : Trees) → args.are ts → (left : List Request) × ((last : ℕ) → Meets last (params_requests false callee.encoding callee.params ts) answers trap left))
-      → HandlesPassOf args its gives callee limits.fuel [] [] after.bytes [] None before left [] (Err (error.Fault f)) (events_of answers trap) []
+      → HandlesPassOf args its gives callee limits.fuel [] entry.guest after [] None before left [] (Err (error.Fault f)) (events_of answers trap) []
       → Refused args its gives callee limits entry after before (events_of answers trap) answers trap f → IsCallOf args its Lives Leaves gives callee limits entry after before left (Err (error.Fault f)) (events_of answers trap)
   made f answers trap moves advances stands quiet marks met handles because = record {
     one_run = tt;
@@ -74,7 +74,8 @@ module _ {T R : Type 0} (args : Arguments) (its : ReturnedValues R) (gives : Giv
     later = [];
     in_parts = sym (append-nil (events_of answers trap));
     turns = [];
-    late_live = [];
+    late_guest = entry.guest;
+    late_counts = counts_first entry after advances;
     late = [];
     late_trap = None;
     tail = [];
@@ -98,7 +99,7 @@ module _ {T R : Type 0} (args : Arguments) (its : ReturnedValues R) (gives : Giv
   }
 
   -- memory ran out before a request
-  pub short_call : (IsSome entry.guest.journal → Lives [] []) → after ≡ entry → HandlesPassOf args its gives callee limits.fuel [] [] after.bytes [] None before left [] (Err (error.Fault fault.OutOfMemory)) [] []
+  pub short_call : (IsSome entry.guest.journal → Lives [] []) → after ≡ entry → HandlesPassOf args its gives callee limits.fuel [] entry.guest after [] None before left [] (Err (error.Fault fault.OutOfMemory)) [] []
       → IsCallOf args its Lives Leaves gives callee limits entry after before left (Err (error.Fault fault.OutOfMemory)) []
   short_call moves e handles =
       made fault.OutOfMemory [] None moves (subst (λ m. Advances entry m) (sym e) (record { no_shorter = omega arith; traps_later = omega arith; shortages_later = omega arith }))

@@ -69,7 +69,7 @@ module _ {T R : Type 0} (its : ReturnedValues R) (gives : Giving T) (callee : Ca
   Stays e = ¬ (e ≡ error.Fault fault.OutOfMemory) → after.bytes ≡ memory
 
   -- and then it was called for nothing more
-  returned_made : (e : Error) → Stays e → StopsLater its callee (stopped_by e) host.ledger left.ledger tail → Causes e → Excluded e → IsTail its gives callee limits Leaves before after count len host left (Err e) [] [] None tail
+  returned_made : (e : Error) → Stays e → StopsLater its callee (stopped_by e) host.ledger left.ledger tail → Causes e → Excluded e → IsTail its gives callee limits Leaves before after count len host left (Err e) before.guest [] None tail
   returned_made e stays handles cause excluded = record {
     whole = tt;
     prefix = record {
@@ -102,7 +102,7 @@ module _ {T R : Type 0} (its : ReturnedValues R) (gives : Giving T) (callee : Ca
   at_end P xs p = ends_after (IsReturn P) xs tail p
 
   -- the scope didn't end
-  pub unended_tail : after.bytes ≡ memory → (e : Error) → Ended callee returned host.ledger left.ledger (Err e) → IsTail its gives callee limits Leaves before after count len host left (Err e) [] [] None tail
+  pub unended_tail : after.bytes ≡ memory → (e : Error) → Ended callee returned host.ledger left.ledger (Err e) → IsTail its gives callee limits Leaves before after count len host left (Err e) before.guest [] None tail
   unended_tail stays error.WrongWords h = returned_made error.WrongWords (λ other. stays) (inl (refl, h.1, inr h.0, tt)) (λ xs told. inl (at_end _ xs h.0)) (λ rep accepted. absurd (h.0 (law.counted returned memory limits.fuel rep)))
   unended_tail stays (error.Fault (fault.Resource r)) h =
       returned_made (error.Fault (fault.Resource r)) (λ other. stays) (inr (inl ((tt, tt), (λ trapped. trapped), inl (h.0, inl (r, h.1, h.2))))) (λ xs told. (h.1, at_end _ xs h.0))
@@ -112,14 +112,14 @@ module _ {T R : Type 0} (its : ReturnedValues R) (gives : Giving T) (callee : Ca
   module _ (ended : LedgerState) (counted : length returned ≡ result_words callee.results) (ends : scope_exit host.ledger ≡ record { answer = Ok tt; after = ended }) where
     -- lifting, or memory for post-return, stopped it then
     stopped : (f : Fault) → Stays (error.Fault f) → LeavesStop (stop_of f) ended (its.parts returned memory) left.ledger → Causes (error.Fault f) → Excluded (error.Fault f)
-        → IsTail its gives callee limits Leaves before after count len host left (Err (error.Fault f)) [] [] None tail
+        → IsTail its gives callee limits Leaves before after count len host left (Err (error.Fault f)) before.guest [] None tail
     stopped f stays stops cause excluded = returned_made (error.Fault f) stays (inr (inl ((tt, tt), (λ trapped. trapped), inl (counted, inr (ended, ends, stops))))) cause excluded
 
     -- a reached place has a fault
     faulty : (e : Error) (k : Kind) (x : reach.At) → its.faults returned memory k x → Excluded e
     faulty e k x f rep accepted = absurd (law.faultless returned memory limits.fuel k x f rep)
 
-    pub unlifted_tail : after.bytes ≡ memory → (f : Fault) → Lifted its limits.fuel returned memory ended left.ledger (Err f) → IsTail its gives callee limits Leaves before after count len host left (Err (error.Fault f)) [] [] None tail
+    pub unlifted_tail : after.bytes ≡ memory → (f : Fault) → Lifted its limits.fuel returned memory ended left.ledger (Err f) → IsTail its gives callee limits Leaves before after count len host left (Err (error.Fault f)) before.guest [] None tail
     unlifted_tail stays (fault.PointerMisaligned at) h = stopped (fault.PointerMisaligned at) (λ other. stays) h.1 (λ xs told. at_end _ xs (counted, h.0)) (faulty (error.Fault (fault.PointerMisaligned at)) _ _ h.0)
     unlifted_tail stays (fault.PointerOutOfBounds at) h = stopped (fault.PointerOutOfBounds at) (λ other. stays) h.1 (λ xs told. at_end _ xs (counted, h.0)) (faulty (error.Fault (fault.PointerOutOfBounds at)) _ _ h.0)
     unlifted_tail stays (fault.InvalidUtf8 at) h = stopped (fault.InvalidUtf8 at) (λ other. stays) h.1 (λ xs told. at_end _ xs (counted, h.0)) (faulty (error.Fault (fault.InvalidUtf8 at)) _ _ h.0)
@@ -135,12 +135,12 @@ module _ {T R : Type 0} (its : ReturnedValues R) (gives : Giving T) (callee : Ca
     unlifted_tail stays f h = absurd h.0
 
     -- memory ran out for post-return
-    unposted_tail : (results : R) → Lifted its limits.fuel returned memory ended left.ledger (Ok results) → IsTail its gives callee limits Leaves before after count len host left (Err (error.Fault fault.OutOfMemory)) [] [] None tail
+    unposted_tail : (results : R) → Lifted its limits.fuel returned memory ended left.ledger (Ok results) → IsTail its gives callee limits Leaves before after count len host left (Err (error.Fault fault.OutOfMemory)) before.guest [] None tail
     unposted_tail results h = stopped fault.OutOfMemory (λ other. absurd (other refl)) (lifted_stops its callee law returned memory ended left.ledger results h.2) (λ xs told. tt) (λ rep accepted. refl)
 
     -- post-return trapped
     trapped_tail : (p : ℕ) → callee.post ≡ Some p → Rose before.guest.traps after.guest.traps → (results : R) → Lifted its limits.fuel returned memory ended left.ledger (Ok results)
-        → IsTail its gives callee limits Leaves before after count len host left (Err (error.Fault fault.GuestTrap)) [] [] None (event.Return returned memory ∷ event.Post p returned ∷ trap_event (length memory) ∷ [])
+        → IsTail its gives callee limits Leaves before after count len host left (Err (error.Fault fault.GuestTrap)) before.guest [] None (event.Return returned memory ∷ event.Post p returned ∷ trap_event (length memory) ∷ [])
     trapped_tail p e rose results (rest, are, lifts, same) = record {
       whole = tt;
       prefix = record {
@@ -173,7 +173,7 @@ module _ {T R : Type 0} (its : ReturnedValues R) (gives : Giving T) (callee : Ca
 
     -- the whole was done
     done_tail : (results : R) (lifted : LedgerState) → Lifted its limits.fuel returned memory ended lifted (Ok results) → left.ledger ≡ leave lifted → Left Leaves callee.post memory after.bytes
-        → IsTail its gives callee limits Leaves before after count len host left (Ok results) [] [] None (event.Return returned memory ∷ posts callee.post returned)
+        → IsTail its gives callee limits Leaves before after count len host left (Ok results) before.guest [] None (event.Return returned memory ∷ posts callee.post returned)
     done_tail results lifted (rest, are, lifts, same) left_is stays = record {
       whole = (returned, memory, refl);
       prefix = record {
@@ -212,7 +212,7 @@ module _ {T R : Type 0} (its : ReturnedValues R) (gives : Giving T) (callee : Ca
     (host left : HostSide T) (kept : left ≡ record host { ledger = left.ledger }) (returned : List ℕ) (few : count ≤ limits.turns) (first : len ≤ length mid.bytes) (f : Advances before mid) (g : Advances mid after)
     (ended : LedgerState) (counted : length returned ≡ result_words callee.results) (ends : scope_exit host.ledger ≡ record { answer = Ok tt; after = ended }) where
   abbrev Tail : Result R Error → List Event → Type 0
-  Tail answer later = IsTail its gives callee limits Leaves before after count len host left answer [] [] None (event.Return returned mid.bytes ∷ later)
+  Tail answer later = IsTail its gives callee limits Leaves before after count len host left answer before.guest [] None (event.Return returned mid.bytes ∷ later)
 
   failed_rest : (results : R) (e : Error) (later : List Event) → Lifted its limits.fuel returned mid.bytes ended left.ledger (Ok results) → Posted Leaves callee returned mid after (Err e) later → Tail (Err e) later
   failed_rest results (error.Fault fault.GuestTrap) later h (rose, (p, is, are)) =

@@ -1,15 +1,14 @@
 -- What comes after the turns of a call, and a call from it.
 use Rattle.std.proofs.Common.{Err, List, None, Ok, Option, Result, [], ap, append_assoc, arith, inl, inr, length, refl, subst, sym, ℕ, ◌++◌, ◌+◌, ◌∙◌, ◌∷◌, ◌≡◌, ◌≤◌}
 use Rattle.std.specs.Prelude.{IfErr, IfOk, IsOkUnless, IsSome, OnOk, ◌≢◌}
-use Rattle.canon_model.specs.Memory.{Block}
 use Rattle.canon_memory.specs.declared.event.Event.{Event}
 use Rattle.canon_memory.specs.declared.event.Event.TheVariants as event
-use Rattle.canon_memory.specs.Guest.{Moment}
+use Rattle.canon_memory.specs.Guest.{Moment, Seen}
 use Rattle.canon_lowering.specs.Lowering.{AllLawful, Answer, Trap}
 use Rattle.canon_context.specs.declared.fault.Fault.TheVariants as fault
 use Rattle.canon_host.specs.HostSide.{Giving, HostSide}
 use Rattle.canon_func.specs.Asks.{Limits}
-use Rattle.canon_func.specs.Call.{AcceptsLater, Left}
+use Rattle.canon_func.specs.Call.{AcceptsLater, Advances, CountsWithin, Left}
 use Rattle.canon_func.specs.HostAsks.{IsUnrefused}
 use Rattle.canon_func.specs.Passing.{ReturnedValues}
 use Rattle.canon_func.specs.Runs.{AskTurn, AsksFrom, Each, EndsAsking, EndsIn, Grows, IsNoPost, IsNoResume, IsNoStart, IsPrefixOfRun, IsTrap, MayTrap, OnReturn, OnStart, Leg, answers_in, asks_in, events_in, last_len, posts}
@@ -18,7 +17,7 @@ use Rattle.canon_func.specs.Stores.{Callee}
 use Rattle.canon_func.specs.declared.error.Error.{Error}
 use Rattle.canon_func.specs.declared.error.Error.TheVariants as error
 use Rattle.canon_func.proofs.Prefixes.{IsEarly, each_after, each_then, ends_after, post_then, prefix_none, return_then}
-use Rattle.canon_func.proofs.Turns.{asks_then, asks_turns, each_turn, events_more, len_then, same_le}
+use Rattle.canon_func.proofs.Turns.{asks_then, asks_turns, counts_first, each_turn, events_more, len_then, same_le}
 
 -- ---- the events after the turns
 
@@ -36,7 +35,7 @@ pub record TailPrefix (post : Option ℕ) (len : ℕ) (tail : List Event) : Type
 
 -- What the events say that come after so many turns, the last of which let the guest go in a memory of so many bytes.
 pub record IsTail {T R : Type 0} (its : ReturnedValues R) (gives : Giving T) (callee : Callee) (limits : Limits) (Leaves : List ℕ → List ℕ → Type 0) (before after : Moment) (count len : ℕ) (served left : HostSide T)
-    (answer : Result R Error) (late_live : List Block) (late : List Answer) (late_trap : Option Trap) (tail : List Event) : Type 0 where
+    (answer : Result R Error) (late_guest : Seen) (late : List Answer) (late_trap : Option Trap) (tail : List Event) : Type 0 where
   pub whole : OnOk answer ((returned memory : List ℕ) × (tail ≡ event.Return returned memory ∷ posts callee.post returned))
   pub prefix : TailPrefix callee.post len tail
   pub no_resume : Each IsNoResume tail
@@ -48,7 +47,7 @@ pub record IsTail {T R : Type 0} (its : ReturnedValues R) (gives : Giving T) (ca
   pub posted : ¬ Each IsNoPost tail → Each (OnReturn (λ ws m. (over : ℕ) × (lifted : R) × its.are ws m limits.fuel over lifted)) tail
   pub leaves : OnOk answer (Each (OnReturn (λ ws m. Left Leaves callee.post m after.bytes)) tail)
   pub returned : answer ≢ Err (error.Fault fault.OutOfMemory) → Each IsNoPost tail → Each (OnReturn (λ ws m. after.bytes ≡ m)) tail
-  pub handles : RestPasses its gives callee limits late_live after.bytes late late_trap served left answer tail
+  pub handles : RestPasses its gives callee limits late_guest after late late_trap served left answer tail
   pub cause : IfErr answer (λ e. (xs : List Event) → asks_in xs ≡ count → RestCause its callee limits before after (xs ++ tail) tail e)
   pub valid : AllLawful late → IfErr answer IsUnrefused → ¬ EndsIn IsTrap tail → count + asks_in tail ≤ limits.turns
       → Each (OnReturn (λ ws m. its.represent ws m limits.fuel)) tail
@@ -105,14 +104,15 @@ module _ {T R : Type 0} (its : ReturnedValues R) (gives : Giving T) (callee : Ca
         may_trap = subst (λ k. MayTrap k h.trap) (sym (len_then n first h.prefix ∙ ap (λ k. last_len k h.prefix) asked.last)) h.may_trap;
       }
 
-  pub rest_of_tail : (answer : Result R Error) (live : List Block) (answers late : List Answer) (trap : Option Trap) (tail : List Event) → answers ≡ answers_in turns ++ late
-      → (IsSome before.guest.journal → AsksFrom Lives (event.Start callee.func words before.bytes ∷ []) turns live tail)
-      → IsTail its gives callee limits Leaves before after (length turns) len served left answer live late trap tail → IsRest its gives callee limits Lives Leaves words before after host left answer answers (so_far callee words before turns tail)
-  rest_of_tail answer live answers late trap tail all lived h = record {
+  pub rest_of_tail : (answer : Result R Error) (late_guest : Seen) → CountsWithin before.guest late_guest after.guest → (answers late : List Answer) (trap : Option Trap) (tail : List Event) → answers ≡ answers_in turns ++ late
+      → (IsSome before.guest.journal → AsksFrom Lives (event.Start callee.func words before.bytes ∷ []) turns late_guest.live tail)
+      → IsTail its gives callee limits Leaves before after (length turns) len served left answer late_guest late trap tail → IsRest its gives callee limits Lives Leaves words before after host left answer answers (so_far callee words before turns tail)
+  rest_of_tail answer late_guest counts answers late trap tail all lived h = record {
     one_run = ok_then answer _ _ (λ (returned, memory, is). (words, before.bytes, returned, memory, record { reallocs = []; only_reallocs = tt; turns = turns; is = ap (λ es. first ++ es) is })) h.whole;
     prefix = λ n. prefix_of n tail h.prefix;
     turns = turns;
-    late_live = live;
+    late_guest = late_guest;
+    late_counts = counts;
     late = late;
     late_trap = trap;
     tail = tail;
@@ -137,13 +137,14 @@ module _ {T R : Type 0} (its : ReturnedValues R) (gives : Giving T) (callee : Ca
 
 -- memory ran out for the start
 pub rest_of_none : {T R : Type 0} (its : ReturnedValues R) (gives : Giving T) (callee : Callee) (limits : Limits) (Lives : List Leg → List Event → Type 0) (Leaves : List ℕ → List ℕ → Type 0) (words : List ℕ) (before after : Moment) (host : HostSide T)
-    → length before.bytes ≤ length after.bytes → (IsSome before.guest.journal → Lives [] [])
+    → Advances before after → (IsSome before.guest.journal → Lives [] [])
     → IsRest its gives callee limits Lives Leaves words before after host host (Err (error.Fault fault.OutOfMemory)) [] []
-rest_of_none its gives callee limits Lives Leaves words before after host longer moves = record {
+rest_of_none its gives callee limits Lives Leaves words before after host advances moves = record {
   one_run = tt;
   prefix = prefix_none callee.func callee.post;
   turns = [];
-  late_live = [];
+  late_guest = before.guest;
+  late_counts = counts_first before after advances;
   late = [];
   late_trap = None;
   tail = [];
@@ -151,7 +152,7 @@ rest_of_none its gives callee limits Lives Leaves words before after host longer
   starts = inl (refl, refl, refl, refl, refl);
   lived = λ told. ([], refl, moves told);
   asks = λ none. omega arith;
-  grows = longer;
+  grows = advances.no_shorter;
   start = tt;
   only_results = tt;
   posted = λ some. absurd (some tt);

@@ -1,6 +1,6 @@
 -- The ledger of a call, step after step.
 use Rattle.std.proofs.Common.{List, None, Ok, Option, [], ap, inl, inr, refl, subst, sym, true, ℕ, ◌++◌, ◌∷◌, ◌≡◌}
-use Rattle.canon_model.specs.Memory.{Block}
+use Rattle.canon_memory.specs.Guest.{Moment, Seen, moment}
 use Rattle.canon_memory.specs.declared.event.Event.{Event}
 use Rattle.canon_memory.specs.declared.event.Event.TheVariants as event
 use Rattle.canon_lowering.specs.Lowering.{Answer, Trap}
@@ -53,7 +53,7 @@ module _ {T : Type 0} (its : AskForm T) (sound : AskSound its) (lawful : AskLawf
   pub form_through : (t : AskTurn) (l n : HostSide T) → IsHostServedBy its answers_so callee fuel t l n → HostThrough its answers_so callee fuel t l n
   form_through t l n h =
       let lifts = lawful.taken l.store callee fuel h.asked t.words t.memory (enter l.ledger) h.lifted h.params h.lifts in
-      let gave = sound.given callee h.asked h.at t.live t.memory t.resumed_memory h.results h.words t.answers None (leave h.ended) n.ledger h.lowers in
+      let gave = sound.given callee h.asked h.at (moment h.asking t.memory) (moment h.answered t.resumed_memory) h.results h.words t.answers None (leave h.ended) n.ledger h.lowers in
       record {
         served = h;
         first = (0, refl, leaves_through (enter l.ledger) h.lifted (its.parts l.store callee h.asked t.words t.memory) lifts.0 lifts.1);
@@ -89,11 +89,11 @@ module _ {T R : Type 0} (args : Arguments) (its : ReturnedValues R) (gives : Giv
       (ended_through l h.lifts.ended n (leaves_steps h.lifts.ended (its.parts words memory) ++ Leave ∷ []) h.lifts.ends
       (compose h.lifts.ended h.lifted n (leaves_steps h.lifts.ended (its.parts words memory)) (Leave ∷ []) (leaves_through h.lifts.ended h.lifted (its.parts words memory) taken.0 taken.1) (left_through h.lifted n h.empty h.left)))
 
-  pub passes_through : (turns : List AskTurn) (live : List Block) (memory2 : List ℕ) (late : List Answer) (trap : Option Trap) (before after : HostSide T) (given : List ℕ) (results : R) (events tail : List Event)
-      → HandlesPassOf args its gives callee fuel turns live memory2 late trap before after given (Ok results) events tail → PassesThrough gives callee fuel args.parts its.parts turns before after tail
-  passes_through turns live memory2 late trap before after given results events tail (lowered, took, (served, serves, (each, kept))) =
+  pub passes_through : (turns : List AskTurn) (late_guest : Seen) (to : Moment) (late : List Answer) (trap : Option Trap) (before after : HostSide T) (given : List ℕ) (results : R) (events tail : List Event)
+      → HandlesPassOf args its gives callee fuel turns late_guest to late trap before after given (Ok results) events tail → PassesThrough gives callee fuel args.parts its.parts turns before after tail
+  passes_through turns late_guest to late trap before after given results events tail (lowered, took, (served, serves, (each, kept))) =
       (served, call_through gives lawful callee fuel args.parts turns before served given lowered took serves, each_return _ _ (λ ws m h. last_through ws m results served.ledger after.ledger h) tail each, kept)
 
 pub call_is_through : {T : Type 0} (gives : Giving T) → ((n : ℕ) → IsLawful (gives.form n)) → CallIsThrough gives
-call_is_through gives lawful callee fuel params turns live memory2 late trap before after given results events tail h =
-    passes_through (dynamic callee params) (dynamic_results callee) gives lawful callee fuel (dynamic_reads callee) turns live memory2 late trap before after given results events tail h
+call_is_through gives lawful callee fuel params turns late_guest to late trap before after given results events tail h =
+    passes_through (dynamic callee params) (dynamic_results callee) gives lawful callee fuel (dynamic_reads callee) turns late_guest to late trap before after given results events tail h

@@ -6,7 +6,7 @@ use Rattle.canon_memory.specs.declared.event.Event.{Event}
 use Rattle.canon_memory.specs.declared.event.Event.TheVariants as event
 use Rattle.canon_memory.specs.declared.guest.Step.{Step}
 use Rattle.canon_memory.specs.declared.guest.Step.TheVariants as step
-use Rattle.canon_memory.specs.Guest.{Goes, Mark, Moment}
+use Rattle.canon_memory.specs.Guest.{Goes, Mark, Moment, Seen}
 use Rattle.canon_memory.specs.Journal.{AddsEvents, step_event, trap_event}
 use Rattle.canon_ledger.specs.Ledger.{Done, LedgerState}
 use Rattle.canon_ledger.specs.declared.fault.ResourceFault.{ResourceFault}
@@ -15,6 +15,7 @@ use Rattle.canon_lowering.specs.Lowering.{Answer, events_of, marks_of}
 use Rattle.canon_context.specs.declared.fault.Fault.TheVariants as fault
 use Rattle.canon_host.specs.HostSide.{Giving, HostSide}
 use Rattle.canon_func.specs.Asks.{AreServed, IsServed, Limits}
+use Rattle.canon_func.specs.Call.{Advances, CountsWithin}
 use Rattle.canon_func.specs.Runs.{AskTurn, Each, Grows, Leg, answers_in, asks_in, events_in, last_len, since_last, legs_in}
 use Rattle.canon_func.specs.Steps.{RisesAt, RunsUntil, Serves, Stepping, TurnsTaken, ask_turn, so_far}
 use Rattle.canon_func.specs.Stores.{Callee}
@@ -92,6 +93,35 @@ len_then n (e ∷ xs) ys = len_then n xs ys
 
 pub same_le : (n : ℕ) → n ≤ n
 same_le n = omega arith
+
+-- ---- the counts of faults
+
+pub counts_between : (a b c : Moment) → Advances a b → Advances b c → CountsWithin a.guest b.guest c.guest
+counts_between a b c first second = record {
+  traps_later = first.traps_later;
+  traps_earlier = second.traps_later;
+  shortages_later = first.shortages_later;
+  shortages_earlier = second.shortages_later;
+}
+
+pub advances_none : (a : Moment) → Advances a a
+advances_none a = record { no_shorter = omega arith; traps_later = omega arith; shortages_later = omega arith }
+
+-- those of the first moment
+pub counts_first : (a b : Moment) → Advances a b → CountsWithin a.guest a.guest b.guest
+counts_first a b on = counts_between a a b (advances_none a) on
+
+-- said from an earlier moment on
+pub counts_earlier : (a b c : Moment) (s : Seen) → Advances a b → CountsWithin b.guest s c.guest → CountsWithin a.guest s c.guest
+counts_earlier a b c s first h = record {
+  traps_later = omega (arith, first.traps_later, h.traps_later);
+  traps_earlier = h.traps_earlier;
+  shortages_later = omega (arith, first.shortages_later, h.shortages_later);
+  shortages_earlier = h.shortages_earlier;
+}
+
+pub goes_advance : (a b : Moment) (marks : List Mark) (events : List Event) → Goes a b marks events → Advances a b
+goes_advance a b marks events h = record { no_shorter = h.no_shorter; traps_later = h.traps_later; shortages_later = h.shortages_later }
 
 -- ---- what is exposed
 
@@ -198,7 +228,8 @@ module _ {T : Type 0} (gives : Giving T) (callee : Callee) (limits : Limits) (Li
         let t : AskTurn = ask_turn index asked now.guest.live now.bytes xs r.resumed r.memory in
         record {
           turns = h.turns ++ t ∷ [];
-          late_live = [];
+          late_guest = before.guest;
+          late_counts = counts_first before after (goes_advance before after _ _ (goes_then before now after _ _ _ es h.goes goes));
           late = [];
           late_trap = None;
           answers_are = ap (λ ys. answers_in h.turns ++ ys) (sym (append-nil xs)) ∙ (sym (answers_append h.turns (t ∷ [])) ∙ sym (append-nil (answers_in (h.turns ++ t ∷ []))));
@@ -218,7 +249,8 @@ module _ {T : Type 0} (gives : Giving T) (callee : Callee) (limits : Limits) (Li
     ran_refused error.CannotEnterComponent xs es h lt goes moves serves = absurd serves.1
     ran_refused e xs es h lt goes moves serves = record {
       turns = h.turns;
-      late_live = now.guest.live;
+      late_guest = now.guest;
+      late_counts = counts_between before now after (goes_advance before now _ _ h.goes) (goes_advance now after _ _ goes);
       late = xs;
       late_trap = serves.0;
       answers_are = refl;
@@ -251,7 +283,8 @@ module _ {T : Type 0} (gives : Giving T) (callee : Callee) (limits : Limits) (Li
         → RunsUntil gives callee limits Lives words before now host served (Ok returned) (answers_in h.turns) (so_far callee words before h.turns (event.Return returned now.bytes ∷ []))
     ran_returned returned h le = record {
       turns = h.turns;
-      late_live = [];
+      late_guest = before.guest;
+      late_counts = counts_first before now (goes_advance before now _ _ h.goes);
       late = [];
       late_trap = None;
       answers_are = sym (append-nil (answers_in h.turns));
@@ -270,7 +303,8 @@ module _ {T : Type 0} (gives : Giving T) (callee : Callee) (limits : Limits) (Li
         → RunsUntil gives callee limits Lives words before now host served (Err error.TurnsExhausted) (answers_in h.turns) (so_far callee words before h.turns (event.Ask index asked now.bytes ∷ []))
     ran_exhausted asks index asked h all = record {
       turns = h.turns;
-      late_live = now.guest.live;
+      late_guest = now.guest;
+      late_counts = counts_between before now now (goes_advance before now _ _ h.goes) (advances_none now);
       late = [];
       late_trap = None;
       answers_are = sym (append-nil (answers_in h.turns));

@@ -3,7 +3,6 @@ use Rattle.std.proofs.Common.{Err, List, None, Ok, Option, Result, Some, [], ap,
 use Rattle.std.proofs.lemmas.Bool.{cases_lt}
 use Rattle.std.proofs.lemmas.List.{take-append-le}
 use Rattle.std.specs.Prelude.{IfErr, false, nat_le, take}
-use Rattle.canon_model.specs.Memory.{Block}
 use Rattle.canon_args.specs.Areas.{passed_taken}
 use Rattle.canon_args.specs.Params.{InParts}
 use Rattle.canon_args.specs.Results.{LowersTuple}
@@ -80,29 +79,29 @@ module _ {P : Type 0} (reading : Reading P) (store : ℕ) (callee : Callee) (fue
 
 -- ---- results
 
-module _ (Has : Tree → Type 0) (gives : List (List Part)) (callee : Callee) (asked : Asked) (at : ℕ) (live : List Block) (memory memory2 : List ℕ) (low : List ℕ) (answers : List Answer) (trap : Option Trap) (l n : LedgerState) where
+module _ (Has : Tree → Type 0) (gives : List (List Part)) (callee : Callee) (asked : Asked) (at : ℕ) (from to : Moment) (low : List ℕ) (answers : List Answer) (trap : Option Trap) (l n : LedgerState) where
   abbrev Unlowered : Fault → Type 0
-  Unlowered f = TypedAskLowers Has gives callee asked at live memory memory2 low answers trap l n (Err f)
+  Unlowered f = TypedAskLowers Has gives callee asked at from to low answers trap l n (Err f)
 
-  tuple_cause : (f : Fault) (h : Unlowered f) → CauseOf h.from h.to answers trap h.ending
+  tuple_cause : (f : Fault) (h : Unlowered f) → CauseOf from to answers trap h.ending
   tuple_cause f h = ⊎_elim
-      (λ far. let w = h.lowered.far far in subst (λ o. CauseOf h.from h.to answers o h.ending) w.2 (subst (λ xs. CauseOf h.from h.to xs w.0.trap h.ending) w.1 w.0.lowering.cause))
-      (λ near. let w = h.lowered.near near in subst (λ o. CauseOf h.from h.to answers o h.ending) w.2 (subst (λ xs. CauseOf h.from h.to xs w.0.trap h.ending) w.1 w.0.lowering.cause))
+      (λ far. let w = h.lowered.far far in subst (λ o. CauseOf from to answers o h.ending) w.2 (subst (λ xs. CauseOf from to xs w.0.trap h.ending) w.1 w.0.lowering.cause))
+      (λ near. let w = h.lowered.near near in subst (λ o. CauseOf from to answers o h.ending) w.2 (subst (λ xs. CauseOf from to xs w.0.trap h.ending) w.1 w.0.lowering.cause))
       (cases_lt max_results (members_flat (asked_results callee asked)))
 
   -- how it ended, but for want of memory
   ended_as : (f : Fault) (h : Unlowered f) → ¬ (f ≡ fault.OutOfMemory) → h.ending ≡ fault_ending f
   ended_as f h other = ⊎_elim (λ is. is) (λ both. absurd (other (same_fault f fault.OutOfMemory both.0))) h.ends
 
-  caused : (f : Fault) (h : Unlowered f) → ¬ (f ≡ fault.OutOfMemory) → CauseOf h.from h.to answers trap (fault_ending f)
-  caused f h other = subst (λ e. CauseOf h.from h.to answers trap e) (ended_as f h other) (tuple_cause f h)
+  caused : (f : Fault) (h : Unlowered f) → ¬ (f ≡ fault.OutOfMemory) → CauseOf from to answers trap (fault_ending f)
+  caused f h other = subst (λ e. CauseOf from to answers trap e) (ended_as f h other) (tuple_cause f h)
 
   typed_traps : Unlowered fault.GuestTrap → (t : Trap) × (trap ≡ Some t)
   typed_traps h = let c = caused fault.GuestTrap h (λ is. cc) in (c.1.0, c.1.1)
 
-  module _ (one : (t : Tree) × Has t) (ok : TypedAskLowerable Has gives callee asked memory l) (lawful : AllLawful answers) (none : trap ≡ None) where
+  module _ (one : (t : Tree) × Has t) (ok : TypedAskLowerable Has gives callee asked from.bytes l) (lawful : AllLawful answers) (none : trap ≡ None) where
     blamed : (f : Fault) → Unlowered f → IsElsewhere f ⊎ IsLargeFault f
-    blamed f h = blamed_one (asked_origin callee asked memory).encoding (asked_results callee asked) Has f one h.cause
+    blamed f h = blamed_one (asked_origin callee asked from.bytes).encoding (asked_results callee asked) Has f one h.cause
 
     never : (f : Fault) → Unlowered f → (IsElsewhere f → ⊥) → (IsLargeFault f → ⊥) → ⊥
     never f h elsewhere large = ⊎_elim elsewhere large (blamed f h)
@@ -114,8 +113,8 @@ module _ (Has : Tree → Type 0) (gives : List (List Part)) (callee : Callee) (a
     typed_lower_excluded fault.OutOfMemory h = refl
     typed_lower_excluded (fault.StringTooLong k) h = absurd (too_large (fault.StringTooLong k) h (λ x. x))
     typed_lower_excluded (fault.SizeOverflow k) h = absurd (too_large (fault.SizeOverflow k) h (λ x. x))
-    typed_lower_excluded (fault.ReallocMisaligned k) h = absurd (no_lawful h.from h.to answers trap k lawful (caused (fault.ReallocMisaligned k) h (λ is. cc)))
-    typed_lower_excluded (fault.ReallocOutOfBounds k) h = absurd (no_lawful_end h.from h.to answers trap k lawful (caused (fault.ReallocOutOfBounds k) h (λ is. cc)))
+    typed_lower_excluded (fault.ReallocMisaligned k) h = absurd (no_lawful from to answers trap k lawful (caused (fault.ReallocMisaligned k) h (λ is. cc)))
+    typed_lower_excluded (fault.ReallocOutOfBounds k) h = absurd (no_lawful_end from to answers trap k lawful (caused (fault.ReallocOutOfBounds k) h (λ is. cc)))
     typed_lower_excluded fault.GuestTrap h = let w = sym none ∙ (typed_traps h).1 in cc
     typed_lower_excluded (fault.Resource resource.OutOfMemory) h = absurd (never (fault.Resource resource.OutOfMemory) h (λ x. x) (λ x. x))
     typed_lower_excluded (fault.Resource r) h = absurd (leaves_excluded r l n ok.left gives ok.given h.passed.0 ok.takes)
@@ -148,17 +147,17 @@ module _ {T P R : Type 0} (types : RustTypes P R) (May : TypedAnswering T P R) w
     calm = λ store callee fuel asked words memory l n f h. typed_calm types.reading store callee fuel asked words memory l n f h.1;
     unlifted = λ store callee fuel asked words memory l n f h. h.1.1.stops;
     lift_excluded = λ store callee fuel asked words memory l n index f ok h. typed_lift_excluded types.reading store callee fuel asked words memory l n index f ok h.1;
-    given = λ callee asked at live memory memory2 results low answers trap l n h. (h.handles, h.passed);
-    ungiven = λ callee asked at live memory memory2 results low answers trap l n f h. h.passed.0;
-    traps = λ callee asked at live memory memory2 results. typed_traps (types.walks results) (typed_given types callee asked results) callee asked at live memory memory2;
+    given = λ callee asked at from to results low answers trap l n h. (h.handles, h.passed);
+    ungiven = λ callee asked at from to results low answers trap l n f h. h.passed.0;
+    traps = λ callee asked at from to results. typed_traps (types.walks results) (typed_given types callee asked results) callee asked at from to;
   }
 
   pub types_lawful : AreTaken types.reading → ((v : R) → (t : Tree) × types.walks v t) → AskLawful (ask_types types May)
   types_lawful taken walkable = record {
     taken = λ store callee fuel asked words memory l n params h.
         passed_taken types.reading taken (nat_le (flat (asked_shape callee asked)) max_params) (asked_setting callee asked memory store) (flat_in (take (args_words (asked_params callee asked)) words) 0) (asked_shape callee asked) l n params h.1.1.0;
-    lower_excluded = λ callee asked at live memory memory2 results low answers trap l n f ok h lawful none.
-        typed_lower_excluded (types.walks results) (typed_given types callee asked results) callee asked at live memory memory2 low answers trap l n (walkable results) ok lawful none f h;
+    lower_excluded = λ callee asked at from to results low answers trap l n f ok h lawful none.
+        typed_lower_excluded (types.walks results) (typed_given types callee asked results) callee asked at from to low answers trap l n (walkable results) ok lawful none f h;
   }
 
 -- ---- its steps
@@ -250,11 +249,6 @@ module _ {T G P R : Type 0} (types : RustTypes P R) (May : TypedAnswering T P R)
         answers = by.answers;
         trap = by.trap;
         lowers = record {
-          from = moment_of seen a;
-          to = moment_of seen b;
-          from_live = refl;
-          from_is = refl;
-          to_is = refl;
           handles = h.handles;
           ending = h.ending;
           ends = h.ends;
@@ -276,11 +270,6 @@ module _ {T G P R : Type 0} (types : RustTypes P R) (May : TypedAnswering T P R)
         answers = by.answers;
         trap = by.trap;
         lowers = record {
-          from = moment_of seen a;
-          to = moment_of seen b;
-          from_live = refl;
-          from_is = refl;
-          to_is = refl;
           handles = h.handles;
           ending = h.ending;
           ends = h.ends;

@@ -3,11 +3,10 @@ use Rattle.std.proofs.Common.{Err, List, None, Ok, Option, Result, Some, [], ap,
 use Rattle.std.specs.Prelude.{slice_get, ◌≢◌}
 use Rattle.std.specs.Option.{option_and_then}
 use Rattle.std.proofs.lemmas.List.{append-nil}
-use Rattle.canon_model.specs.Memory.{Block}
 use Rattle.canon_memory.specs.declared.event.Event.{Event}
 use Rattle.canon_memory.specs.declared.event.Event.TheVariants as event
 use Rattle.canon_memory.specs.Counts.{Rose}
-use Rattle.canon_memory.specs.Guest.{Moment}
+use Rattle.canon_memory.specs.Guest.{Moment, Seen, moment}
 use Rattle.canon_memory.specs.Journal.{asked_trap, trap_event}
 use Rattle.canon_lowering.specs.Lowering.{AllLawful, Answer, Trap, events_of}
 use Rattle.canon_ledger.specs.Ledger.{Done, LedgerState}
@@ -128,9 +127,9 @@ same_builtin : (o : Option Builtin) (a b : Builtin) → o ≡ Some a → o ≡ S
 same_builtin o a b h g = cc
 
 module _ {T R : Type 0} (its : ReturnedValues R) (gives : Giving T) (lawful_forms : (n : ℕ) → IsLawful (gives.form n)) (callee : Callee) (limits : Limits) (Leaves : List ℕ → List ℕ → Type 0) (before after : Moment) (count len : ℕ) (served left : HostSide T) where
-  trapped_tail : (live : List Block) → len ≤ length after.bytes → Rose before.guest.traps after.guest.traps → count ≤ limits.turns → left ≡ served
-      → IsTail its gives callee limits Leaves before after count len served left (Err (error.Fault fault.GuestTrap)) live [] None (trap_event len ∷ [])
-  trapped_tail live longer rose few same = record {
+  trapped_tail : (guest : Seen) → len ≤ length after.bytes → Rose before.guest.traps after.guest.traps → count ≤ limits.turns → left ≡ served
+      → IsTail its gives callee limits Leaves before after count len served left (Err (error.Fault fault.GuestTrap)) guest [] None (trap_event len ∷ [])
+  trapped_tail guest longer rose few same = record {
     whole = tt;
     prefix = record { more = []; returned = []; memory = []; prefix = []; rest = event.Return [] [] ∷ posts callee.post []; trap = trap_event len ∷ []; begins = refl; tail_is = refl; may_trap = same_le len };
     no_resume = (tt, tt);
@@ -147,14 +146,14 @@ module _ {T R : Type 0} (its : ReturnedValues R) (gives : Giving T) (lawful_form
     valid = λ lawful rest calm few right accepted. absurd (calm tt);
   }
 
-  module _ (index : ℕ) (asked memory : List ℕ) (live : List Block) (late : List Answer) (trap : Option Trap) (first : len ≤ length memory) (second : length memory ≤ length after.bytes) (traps_late : TrapsLate (length memory) trap) where
+  module _ (index : ℕ) (asked memory : List ℕ) (guest : Seen) (late : List Answer) (trap : Option Trap) (first : len ≤ length memory) (second : length memory ≤ length after.bytes) (traps_late : TrapsLate (length memory) trap) where
     abbrev tail : List Event
     tail = event.Ask index asked memory ∷ events_of late trap
 
-    asked_tail : (e : Error) → (◌≢◌ {A = Result R Error} (Err e) (Err error.TurnsExhausted) → count + 1 ≤ limits.turns) → AskStops gives callee limits.fuel e index asked live memory after.bytes late trap served left
+    asked_tail : (e : Error) → (◌≢◌ {A = Result R Error} (Err e) (Err error.TurnsExhausted) → count + 1 ≤ limits.turns) → AskStops gives callee limits.fuel e index asked (moment guest memory) after late trap served left
         → ((xs : List Event) → asks_in xs ≡ count → RestCause its callee limits before after (xs ++ tail) tail e)
         → (AllLawful late → trap ≡ None → IsUnrefused e → count + 1 ≤ limits.turns → AcceptsAsk gives callee limits.fuel index asked memory served → e ≡ error.Fault fault.OutOfMemory)
-        → IsTail its gives callee limits Leaves before after count len served left (Err e) live late trap tail
+        → IsTail its gives callee limits Leaves before after count len served left (Err e) guest late trap tail
     asked_tail e few stops cause excluded = record {
       whole = tt;
       prefix = asked_prefix callee.post len index asked memory late trap traps_late;
@@ -175,8 +174,8 @@ module _ {T R : Type 0} (its : ReturnedValues R) (gives : Giving T) (lawful_form
     counted : late ≡ [] → trap ≡ None → (xs : List Event) → asks_in xs ≡ count → count ≡ limits.turns → asks_in (xs ++ tail) ≡ limits.turns + 1
     counted none quiet xs told all = asks_then xs tail ∙ turns_more (asks_in xs) (asks_in (events_of late trap)) limits.turns (told ∙ all) (asks_late late trap)
 
-    exhausted_tail : count ≡ limits.turns → AskStops gives callee limits.fuel error.TurnsExhausted index asked live memory after.bytes late trap served left
-        → IsTail its gives callee limits Leaves before after count len served left (Err error.TurnsExhausted) live late trap tail
+    exhausted_tail : count ≡ limits.turns → AskStops gives callee limits.fuel error.TurnsExhausted index asked (moment guest memory) after late trap served left
+        → IsTail its gives callee limits Leaves before after count len served left (Err error.TurnsExhausted) guest late trap tail
     exhausted_tail all stops =
         asked_tail error.TurnsExhausted (λ none. absurd (none refl)) stops (λ xs told. (none_more late trap stops.1.0 stops.1.1, counted stops.1.0 stops.1.1 xs told all))
         (λ lawful quiet rest within accepted. absurd (more_than count limits.turns all within))
@@ -188,19 +187,19 @@ module _ {T R : Type 0} (its : ReturnedValues R) (gives : Giving T) (lawful_form
         (subst (λ k. ask_step callee.types k asked served.ledger ≡ record { answer = Ok answer; after = next }) (same_builtin (builtin_at callee index) b h.called is.known h.is.known) taken)
     builtin_excluded r h (inr (a, ok)) = not_both_kinds (slice_get callee.imports index) h.called a.ty a.options h.is.known ok.is.known
 
-    host_excluded : (e : Error) (a : Asked) → HostStops gives callee limits.fuel a index asked live memory after.bytes late trap served left e → AllLawful late → trap ≡ None → IsUnrefused e
+    host_excluded : (e : Error) (a : Asked) → HostStops gives callee limits.fuel a index asked (moment guest memory) after late trap served left e → AllLawful late → trap ≡ None → IsUnrefused e
         → AcceptsAsk gives callee limits.fuel index asked memory served → e ≡ error.Fault fault.OutOfMemory
     host_excluded e a h lawful none few (inl (b, is, more)) = absurd (not_both_kinds (slice_get callee.imports index) b a.ty a.options is.known h.is.known)
     host_excluded e a h lawful none few (inr (b, ok)) =
-        asked_excluded (ask_at gives index) (form_sound (gives.form index)) (form_lawful (gives.form index) (lawful_forms index)) gives.answers callee limits.fuel a index asked live memory after.bytes late trap served left lawful none e h
+        asked_excluded (ask_at gives index) (form_sound (gives.form index)) (form_lawful (gives.form index) (lawful_forms index)) gives.answers callee limits.fuel a index asked (moment guest memory) after late trap served left lawful none e h
         (subst (λ k. AcceptsHost gives callee limits.fuel k index asked memory served) (is_asked callee index asked a b h.is ok.is) ok) few
 
-    fault_excluded : (n : ℕ) (f : Fault) → AskStops gives callee limits.fuel (error.ImportFault n f) index asked live memory after.bytes late trap served left → AllLawful late → trap ≡ None → IsUnrefused (error.ImportFault n f)
+    fault_excluded : (n : ℕ) (f : Fault) → AskStops gives callee limits.fuel (error.ImportFault n f) index asked (moment guest memory) after late trap served left → AllLawful late → trap ≡ None → IsUnrefused (error.ImportFault n f)
         → AcceptsAsk gives callee limits.fuel index asked memory served → error.ImportFault n f ≡ error.Fault fault.OutOfMemory
     fault_excluded n f (same, inl (h, quiet)) lawful none few accepted = absurd (builtin_excluded h.why (subst (λ err. BuiltinStops callee index asked served left err) h.fault h) accepted)
     fault_excluded n f (same, inr (a, h)) lawful none few accepted = host_excluded (error.ImportFault n f) a h lawful none few accepted
 
-    fault_import : (n : ℕ) (f : Fault) → AskStops gives callee limits.fuel (error.ImportFault n f) index asked live memory after.bytes late trap served left → ImportOf callee index (length asked)
+    fault_import : (n : ℕ) (f : Fault) → AskStops gives callee limits.fuel (error.ImportFault n f) index asked (moment guest memory) after late trap served left → ImportOf callee index (length asked)
     fault_import n f (same, inl (h, quiet)) = builtin_words callee index asked h.called h.is
     fault_import n f (same, inr (a, h)) = host_words_of callee index asked a h.is
 
@@ -218,18 +217,18 @@ module _ {T R : Type 0} (its : ReturnedValues R) (gives : Giving T) (lawful_form
     no_builtin_trap : (n : ℕ) (f : Fault) → f ≡ fault.GuestTrap → BuiltinStops callee index asked served left (error.ImportFault n f) → ⊥
     no_builtin_trap n f trapped h = let w = subst (λ g. error.ImportFault n g ≡ error.ImportFault index (fault.Resource h.why)) trapped h.fault in cc
 
-    trap_ends : (n : ℕ) (f : Fault) (xs : List Event) → AskStops gives callee limits.fuel (error.ImportFault n f) index asked live memory after.bytes late trap served left → f ≡ fault.GuestTrap → EndsIn IsTrap (xs ++ tail)
+    trap_ends : (n : ℕ) (f : Fault) (xs : List Event) → AskStops gives callee limits.fuel (error.ImportFault n f) index asked (moment guest memory) after late trap served left → f ≡ fault.GuestTrap → EndsIn IsTrap (xs ++ tail)
     trap_ends n f xs (same, inl (h, quiet)) trapped = absurd (no_builtin_trap n f trapped h)
     trap_ends n f xs (same, inr (a, h)) trapped =
-        let (t, is) = asked_traps (ask_at gives index) (form_sound (gives.form index)) gives.answers callee limits.fuel a index asked live memory after.bytes late trap served left n
-        (subst (λ g. HostStops gives callee limits.fuel a index asked live memory after.bytes late trap served left (error.ImportFault n g)) trapped h) in
+        let (t, is) = asked_traps (ask_at gives index) (form_sound (gives.form index)) gives.answers callee limits.fuel a index asked (moment guest memory) after late trap served left n
+        (subst (λ g. HostStops gives callee limits.fuel a index asked (moment guest memory) after late trap served left (error.ImportFault n g)) trapped h) in
         ends_after IsTrap xs tail (ends_after IsTrap (event.Ask index asked memory ∷ []) (events_of late trap) (subst (λ o. EndsIn IsTrap (events_of late o)) (sym is) (ends_in_trap late t)))
 
     rises_of : (n : ℕ) (f : Fault) → f ≡ fault.GuestTrap → RisesAt (error.ImportFault n f) before after → Rose before.guest.traps after.guest.traps
     rises_of n f trapped rises = subst (λ g. RisesAt (error.ImportFault n g) before after) trapped rises
 
-    stopped_tail : (e : Error) → count + 1 ≤ limits.turns → AskStops gives callee limits.fuel e index asked live memory after.bytes late trap served left → RisesAt e before after → (e ≡ error.TurnsExhausted → ⊥)
-        → IsTail its gives callee limits Leaves before after count len served left (Err e) live late trap tail
+    stopped_tail : (e : Error) → count + 1 ≤ limits.turns → AskStops gives callee limits.fuel e index asked (moment guest memory) after late trap served left → RisesAt e before after → (e ≡ error.TurnsExhausted → ⊥)
+        → IsTail its gives callee limits Leaves before after count len served left (Err e) guest late trap tail
     stopped_tail (error.UnknownImport n) few stops rises other =
         asked_tail (error.UnknownImport n) (λ none. few) stops (λ xs told. (sym stops.0, stops.1, none_more late trap stops.3.0 stops.3.1)) (λ lawful quiet rest within accepted. absurd (unknown_excluded stops.1 accepted))
     stopped_tail error.WrongWords few stops rises other =
@@ -241,23 +240,23 @@ module _ {T R : Type 0} (its : ReturnedValues R) (gives : Giving T) (lawful_form
         (λ lawful quiet rest within accepted. fault_excluded n f stops lawful quiet rest accepted)
     stopped_tail (error.HostRefused n) few stops rises other =
         asked_tail (error.HostRefused n) (λ none. few) stops
-        (λ xs told. (sym stops.0, refused_alone (ask_at gives index) (form_sound (gives.form index)) gives.answers callee limits.fuel stops.1.0 index asked live memory after.bytes late trap served left n stops.1.1, (stops.1.0.ty, stops.1.0.options, stops.1.1.is.known)))
+        (λ xs told. (sym stops.0, refused_alone (ask_at gives index) (form_sound (gives.form index)) gives.answers callee limits.fuel stops.1.0 index asked (moment guest memory) after late trap served left n stops.1.1, (stops.1.0.ty, stops.1.0.options, stops.1.1.is.known)))
         (λ lawful quiet rest within accepted. host_excluded (error.HostRefused n) stops.1.0 stops.1.1 lawful quiet rest accepted)
     stopped_tail (error.Fault fault.OutOfMemory) few stops rises other = asked_tail (error.Fault fault.OutOfMemory) (λ none. few) stops (λ xs told. tt) (λ lawful quiet rest within accepted. refl)
     stopped_tail error.TurnsExhausted few stops rises other = absurd (other refl)
     stopped_tail e few stops rises other = absurd stops
 
-  in_ask_rest : (e : Error) (live : List Block) (late : List Answer) (trap : Option Trap) (tail : List Event) → count < limits.turns → StopsInAsk gives callee limits count len before after served left e live late trap tail → (e ≡ error.TurnsExhausted → ⊥)
-      → IsTail its gives callee limits Leaves before after count len served left (Err e) live late trap tail
-  in_ask_rest e live late trap tail lt h other =
-      subst (λ es. IsTail its gives callee limits Leaves before after count len served left (Err e) live late trap es) (sym h.is)
-      (stopped_tail h.index h.words h.memory live late trap h.longer h.shorter h.traps_late e (omega (arith, lt)) h.stops h.rises other)
+  in_ask_rest : (e : Error) (guest : Seen) (late : List Answer) (trap : Option Trap) (tail : List Event) → count < limits.turns → StopsInAsk gives callee limits count len before after served left e guest late trap tail → (e ≡ error.TurnsExhausted → ⊥)
+      → IsTail its gives callee limits Leaves before after count len served left (Err e) guest late trap tail
+  in_ask_rest e guest late trap tail lt h other =
+      subst (λ es. IsTail its gives callee limits Leaves before after count len served left (Err e) guest late trap es) (sym h.is)
+      (stopped_tail h.index h.words h.memory guest late trap h.longer h.shorter h.traps_late e (omega (arith, lt)) h.stops h.rises other)
 
   -- however it stopped
-  pub stopped_rest : (e : Error) (live : List Block) (late : List Answer) (trap : Option Trap) (tail : List Event) → len ≤ length after.bytes → count ≤ limits.turns → Stopped gives callee limits count len before after served left (Err e) live late trap tail
-      → IsTail its gives callee limits Leaves before after count len served left (Err e) live late trap tail
-  stopped_rest (error.Fault fault.GuestTrap) live late trap tail longer few (rose, are, (none, quiet, same)) =
-      rw (none, quiet) (subst (λ es. IsTail its gives callee limits Leaves before after count len served left (Err (error.Fault fault.GuestTrap)) live [] None es) (sym are) (trapped_tail live longer rose few same))
-  stopped_rest error.TurnsExhausted live late trap tail longer few (all, h) =
-      subst (λ es. IsTail its gives callee limits Leaves before after count len served left (Err error.TurnsExhausted) live late trap es) (sym h.is) (exhausted_tail h.index h.words h.memory live late trap h.longer h.shorter h.traps_late all h.stops)
-  stopped_rest e live late trap tail longer few h = in_ask_rest e live late trap tail h.0 h.1 (λ q. cc)
+  pub stopped_rest : (e : Error) (guest : Seen) (late : List Answer) (trap : Option Trap) (tail : List Event) → len ≤ length after.bytes → count ≤ limits.turns → Stopped gives callee limits count len before after served left (Err e) guest late trap tail
+      → IsTail its gives callee limits Leaves before after count len served left (Err e) guest late trap tail
+  stopped_rest (error.Fault fault.GuestTrap) guest late trap tail longer few (rose, are, (none, quiet, same)) =
+      rw (none, quiet) (subst (λ es. IsTail its gives callee limits Leaves before after count len served left (Err (error.Fault fault.GuestTrap)) guest [] None es) (sym are) (trapped_tail guest longer rose few same))
+  stopped_rest error.TurnsExhausted guest late trap tail longer few (all, h) =
+      subst (λ es. IsTail its gives callee limits Leaves before after count len served left (Err error.TurnsExhausted) guest late trap es) (sym h.is) (exhausted_tail h.index h.words h.memory guest late trap h.longer h.shorter h.traps_late all h.stops)
+  stopped_rest e guest late trap tail longer few h = in_ask_rest e guest late trap tail h.0 h.1 (λ q. cc)

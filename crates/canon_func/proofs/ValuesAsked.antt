@@ -3,7 +3,6 @@ use Rattle.std.proofs.Common.{Err, List, None, Option, Result, Some, [], ap, inl
 use Rattle.std.proofs.lemmas.Bool.{cases_lt}
 use Rattle.std.proofs.lemmas.List.{take-append-le}
 use Rattle.std.specs.Prelude.{Bool, false, take}
-use Rattle.canon_model.specs.Memory.{Block}
 use Rattle.canon_model.specs.Flat.{max_params, max_results}
 use Rattle.canon_model.specs.Layout.{members_flat}
 use Rattle.canon_model.specs.Shape.{Members}
@@ -76,17 +75,17 @@ module _ (callee : Callee) (fuel : ℕ) (asked : Asked) (words memory : List ℕ
 
 -- ---- results
 
-module _ (callee : Callee) (asked : Asked) (at : ℕ) (live : List Block) (memory memory2 : List ℕ) (results : List Val) (low : List ℕ) (answers : List Answer) (trap : Option Trap) (l n : LedgerState) where
-  trapped_last : AskLowers callee asked at live memory memory2 results low answers trap l n (Err fault.GuestTrap) → (t : Trap) × (trap ≡ Some t)
+module _ (callee : Callee) (asked : Asked) (at : ℕ) (from to : Moment) (results : List Val) (low : List ℕ) (answers : List Answer) (trap : Option Trap) (l n : LedgerState) where
+  trapped_last : AskLowers callee asked at from to results low answers trap l n (Err fault.GuestTrap) → (t : Trap) × (trap ≡ Some t)
   trapped_last h = ⊎_elim
-      (λ far. let w = h.crosses.lowered.far far in let c = subst (λ e. CauseOf h.from h.to w.0.answers w.0.trap e) h.crosses.ends w.0.lowering.cause in (c.1.0, sym w.2 ∙ c.1.1))
-      (λ near. let w = h.crosses.lowered.near near in let c = subst (λ e. CauseOf h.from h.to w.0.answers w.0.trap e) h.crosses.ends w.0.lowering.cause in (c.1.0, sym w.2 ∙ c.1.1))
+      (λ far. let w = h.crosses.lowered.far far in let c = subst (λ e. CauseOf from to w.0.answers w.0.trap e) h.crosses.ends w.0.lowering.cause in (c.1.0, sym w.2 ∙ c.1.1))
+      (λ near. let w = h.crosses.lowered.near near in let c = subst (λ e. CauseOf from to w.0.answers w.0.trap e) h.crosses.ends w.0.lowering.cause in (c.1.0, sym w.2 ∙ c.1.1))
       (cases_lt max_results (members_flat (asked_results callee asked)))
 
-  cause_into : (f : Fault) (h : AskLowers callee asked at live memory memory2 results low answers trap l n (Err f)) → CauseOf h.from h.to answers trap h.crosses.ending
+  cause_into : (f : Fault) (h : AskLowers callee asked at from to results low answers trap l n (Err f)) → CauseOf from to answers trap h.crosses.ending
   cause_into f h = ⊎_elim
-      (λ far. let w = h.crosses.lowered.far far in subst (λ o. CauseOf h.from h.to answers o h.crosses.ending) w.2 (subst (λ xs. CauseOf h.from h.to xs w.0.trap h.crosses.ending) w.1 w.0.lowering.cause))
-      (λ near. let w = h.crosses.lowered.near near in subst (λ o. CauseOf h.from h.to answers o h.crosses.ending) w.2 (subst (λ xs. CauseOf h.from h.to xs w.0.trap h.crosses.ending) w.1 w.0.lowering.cause))
+      (λ far. let w = h.crosses.lowered.far far in subst (λ o. CauseOf from to answers o h.crosses.ending) w.2 (subst (λ xs. CauseOf from to xs w.0.trap h.crosses.ending) w.1 w.0.lowering.cause))
+      (λ near. let w = h.crosses.lowered.near near in subst (λ o. CauseOf from to answers o h.crosses.ending) w.2 (subst (λ xs. CauseOf from to xs w.0.trap h.crosses.ending) w.1 w.0.lowering.cause))
       (cases_lt max_results (members_flat (asked_results callee asked)))
 
 module _ (enc : Encoding) (ms : Members) (vs : List Val) (ts : Trees) (have : HaveTrees ms vs ts) (small : AreSmall enc ms vs) where
@@ -128,17 +127,17 @@ values_sound = record {
   calm = λ store. no_trap_lifted;
   unlifted = λ store callee fuel asked words memory l n f h. h.1.handles;
   lift_excluded = λ store. lift_excluded;
-  given = λ callee asked at live memory memory2 results low answers trap l n h. (h.crosses.given, h.crosses.passed);
-  ungiven = λ callee asked at live memory memory2 results low answers trap l n f h. h.crosses.passed.0;
+  given = λ callee asked at from to results low answers trap l n h. (h.crosses.given, h.crosses.passed);
+  ungiven = λ callee asked at from to results low answers trap l n f h. h.crosses.passed.0;
   traps = trapped_last;
 }
 
 pub values_lawful : {T : Type 0} → AskLawful {T = T} ask_values
 values_lawful = record {
   taken = λ store callee fuel asked words memory l n params h. lifts_take callee.types l n _ _ h.1.handles;
-  lower_excluded = λ callee asked at live memory memory2 results low answers trap l n f ok h lawful none.
-      lowering_excluded (asked_origin callee asked memory).encoding (asked_results callee asked) results ok.trees ok.have ok.small _ _ h.from h.to answers trap lawful none l n ok.left _ ok.given ok.takes
-      f h.crosses.ending h.crosses.ends (cause_into callee asked at live memory memory2 results low answers trap l n f h) h.cause h.crosses.as_told h.crosses.passed.0;
+  lower_excluded = λ callee asked at from to results low answers trap l n f ok h lawful none.
+      lowering_excluded (asked_origin callee asked from.bytes).encoding (asked_results callee asked) results ok.trees ok.have ok.small _ _ from to answers trap lawful none l n ok.left _ ok.given ok.takes
+      f h.crosses.ending h.crosses.ends (cause_into callee asked at from to results low answers trap l n f h) h.cause h.crosses.as_told h.crosses.passed.0;
 }
 
 -- ---- its steps
@@ -173,11 +172,6 @@ module _ {T G : Type 0} (seen : G → Seen) (moves : GuestIn G → List Event �
         ending = h.lowered.ending;
         ends = h.lowered.ends;
         lowers = record {
-          from = moment_of seen a;
-          to = moment_of seen b;
-          from_live = refl;
-          from_is = refl;
-          to_is = refl;
           crosses = record { given = h.lowered.given; ending = h.lowered.ending; ends = h.lowered.ends; lowered = by.into; passed = h.lowered.passed; as_told = h.lowered.as_told };
           cause = h.cause;
           small = h.small;

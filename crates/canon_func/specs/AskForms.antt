@@ -2,7 +2,7 @@
 use Rattle.std.specs.Prelude.{IfSome, List, None, Option, Result, Vec, ℕ, ◌≡◌, ◌⊎◌}
 use Rattle.std.specs.declared.alloc.Global.{Global}
 use Rattle.canon_ledger.specs.Ledger.{LedgerState}
-use Rattle.canon_model.specs.Memory.{Block}
+use Rattle.canon_memory.specs.Guest.{Moment}
 use Rattle.canon_leaves.specs.Parts.{Part}
 use Rattle.canon_lowering.specs.Lowering.{Answer, Trap}
 use Rattle.canon_context.specs.declared.fault.Fault.{Fault}
@@ -37,9 +37,9 @@ pub record AskForm (T : Type 0) : Type 1 where
   pub gave : Answering T → ℕ → Option (List LoggedEntry) → InView T → Params → Result Results HostStop → T → LedgerState → Type 0
   -- the log after an ask that was served, by the log before and the number of its import
   pub logged_with : Option (List LoggedEntry) → ℕ → Params → Results → Option (List LoggedEntry)
-  -- Results were lowered to these words, or at the place, or why not: by what is asked for, the place, the blocks that lived, the memory before
-  -- and after, the answers of `realloc` and perhaps a trap, the ledger before and after, and the answer.
-  pub lowers : Callee → Asked → ℕ → List Block → List ℕ → List ℕ → Results → List ℕ → List Answer → Option Trap → LedgerState → LedgerState → Result (Unit {0}) Fault → Type 0
+  -- Results were lowered to these words, or at the place, or why not: by what is asked for, the place, the moments before and
+  -- after, the results, the answers of `realloc` and perhaps a trap, the ledger before and after, and the answer.
+  pub lowers : Callee → Asked → ℕ → Moment → Moment → Results → List ℕ → List Answer → Option Trap → LedgerState → LedgerState → Result (Unit {0}) Fault → Type 0
   -- they can be: nothing but memory is wanting
   pub lowerable : Callee → Asked → List ℕ → Results → LedgerState → Type 0
   -- what their handles do, in order
@@ -72,7 +72,7 @@ ask_types {T} {P} {R} types May = record {
   parts = λ store callee asked words memory. typed_parts types.reading callee asked words memory store;
   gave = λ answers index log reached params answer state ledger. (log ≡ None) × May reached params answer state ledger;
   logged_with = λ log index params results. log;
-  lowers = λ callee asked at live memory memory2 results. TypedAskLowers (types.walks results) (typed_given types callee asked results) callee asked at live memory memory2;
+  lowers = λ callee asked at from to results. TypedAskLowers (types.walks results) (typed_given types callee asked results) callee asked at from to;
   lowerable = λ callee asked memory results. TypedAskLowerable (types.walks results) (typed_given types callee asked results) callee asked memory;
   gives = typed_given types;
 }

@@ -5,7 +5,6 @@ use Rattle.canon_args.specs.Results.{StoresTuple}
 use Rattle.canon_args.specs.Returned.{passed_reading}
 use Rattle.canon_model.specs.Flat.{max_params, max_results}
 use Rattle.canon_model.specs.Layout.{members_flat}
-use Rattle.canon_model.specs.Memory.{Block}
 use Rattle.canon_model.specs.Reach as reach
 use Rattle.canon_model.specs.Reach.{Kind}
 use Rattle.canon_model.specs.Shape.{Shape, of_places, product}
@@ -70,23 +69,18 @@ pub record TupleInto (from to : Moment) (callee : Callee) (asked : Asked) (at : 
   pub far : max_results < members_flat (asked_results callee asked)
       → (low : StoresTuple from to (asked_origin callee asked from.bytes).encoding (asked_results callee asked) at (InParts Has) hs ending) × (low.answers ≡ answers) × (low.trap ≡ trap)
 
--- the same, with its handles through the ledger, which do this, from one memory to another, where these blocks lived before
-pub record TypedAskLowers (Has : Tree → Type 0) (gives : List (List Part)) (callee : Callee) (asked : Asked) (at : ℕ) (live : List Block) (memory memory2 : List ℕ) (words : List ℕ) (answers : List Answer) (trap : Option Trap) (before after : LedgerState) (result : Result (Unit {0}) Fault) : Type 0 where
-  pub from : Moment
-  pub to : Moment
-  pub from_live : from.guest.live ≡ live
-  pub from_is : from.bytes ≡ memory
-  pub to_is : to.bytes ≡ memory2
+-- the same, with its handles through the ledger, which do this, from one moment to another
+pub record TypedAskLowers (Has : Tree → Type 0) (gives : List (List Part)) (callee : Callee) (asked : Asked) (at : ℕ) (from to : Moment) (words : List ℕ) (answers : List Answer) (trap : Option Trap) (before after : LedgerState) (result : Result (Unit {0}) Fault) : Type 0 where
   pub handles : List ℕ
   pub ending : Ending
   pub ends : EndsBy gives result ending
   pub lowered : TupleInto from to callee asked at Has words answers trap handles ending
   pub passed : HandlesCross before after gives handles result
-  pub cause : IfErr result (BlamesIn (asked_origin callee asked memory).encoding (asked_results callee asked) Has)
+  pub cause : IfErr result (BlamesIn (asked_origin callee asked from.bytes).encoding (asked_results callee asked) Has)
   -- no text among them is too long, and no list or map too large
-  pub small : OnOk result (AreSmallIn (asked_origin callee asked memory).encoding (asked_results callee asked) Has)
+  pub small : OnOk result (AreSmallIn (asked_origin callee asked from.bytes).encoding (asked_results callee asked) Has)
   -- results that reach no text and no list ask for nothing, and leave memory where they go in a row
-  pub quiet : have_block (asked_results callee asked) ≡ false → (answers ≡ []) × (trap ≡ None) × (to.guest ≡ from.guest) × (members_flat (asked_results callee asked) ≤ max_results → memory2 ≡ memory)
+  pub quiet : have_block (asked_results callee asked) ≡ false → (answers ≡ []) × (trap ≡ None) × (to.guest ≡ from.guest) × (members_flat (asked_results callee asked) ≤ max_results → to.bytes ≡ from.bytes)
 
 -- no text among them is too long, and no list or map too large; the ledger accepts their handles
 pub record TypedAskLowerable (Has : Tree → Type 0) (gives : List (List Part)) (callee : Callee) (asked : Asked) (memory : List ℕ) (before : LedgerState) : Type 0 where

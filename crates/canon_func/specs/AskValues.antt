@@ -5,7 +5,6 @@ use Rattle.canon_model.specs.Cost.{members_cost}
 use Rattle.canon_model.specs.Flat.{RepArgs, max_params, max_results}
 use Rattle.canon_model.specs.Layout.{members_flat}
 use Rattle.canon_model.specs.Leaves.{values_leaves}
-use Rattle.canon_model.specs.Memory.{Block}
 use Rattle.canon_model.specs.Shape.{Members}
 use Rattle.canon_model.specs.Tree.{Trees}
 use Rattle.canon_memory.specs.Guest.{Moment}
@@ -74,19 +73,14 @@ pub record LowersInto (from to : Moment) (callee : Callee) (asked : Asked) (at :
   pub far : max_results < members_flat (asked_results callee asked)
       → (low : StoresMembers false from to (asked_origin callee asked from.bytes).encoding (asked_results callee asked) 0 at (HaveTrees (asked_results callee asked) results) hs ending) × (low.answers ≡ answers) × (low.trap ≡ trap)
 
--- the same, with its handles through the ledger, from one memory to another, where these blocks lived before
-pub record AskLowers (callee : Callee) (asked : Asked) (at : ℕ) (live : List Block) (memory memory2 : List ℕ) (results : List Val) (words : List ℕ) (answers : List Answer) (trap : Option Trap) (before after : LedgerState) (result : Result (Unit {0}) Fault) : Type 0 where
-  pub from : Moment
-  pub to : Moment
-  pub from_live : from.guest.live ≡ live
-  pub from_is : from.bytes ≡ memory
-  pub to_is : to.bytes ≡ memory2
+-- the same, with its handles through the ledger, from one moment to another
+pub record AskLowers (callee : Callee) (asked : Asked) (at : ℕ) (from to : Moment) (results : List Val) (words : List ℕ) (answers : List Answer) (trap : Option Trap) (before after : LedgerState) (result : Result (Unit {0}) Fault) : Type 0 where
   pub crosses : Crosses callee.types (have_handle (asked_results callee asked)) (all_passes (asked_results callee asked) results) (LowersInto from to callee asked at results words answers trap) before after result
-  pub cause : IfErr result (BlamesMembers (asked_origin callee asked memory).encoding (asked_results callee asked) results)
+  pub cause : IfErr result (BlamesMembers (asked_origin callee asked from.bytes).encoding (asked_results callee asked) results)
   -- no text among them is too long, and no list or map too large
-  pub small : OnOk result (AreSmall (asked_origin callee asked memory).encoding (asked_results callee asked) results)
+  pub small : OnOk result (AreSmall (asked_origin callee asked from.bytes).encoding (asked_results callee asked) results)
   -- results that reach no text and no list ask for nothing, and leave memory where they go in a row
-  pub quiet : have_block (asked_results callee asked) ≡ false → (answers ≡ []) × (trap ≡ None) × (to.guest ≡ from.guest) × (members_flat (asked_results callee asked) ≤ max_results → memory2 ≡ memory)
+  pub quiet : have_block (asked_results callee asked) ≡ false → (answers ≡ []) × (trap ≡ None) × (to.guest ≡ from.guest) × (members_flat (asked_results callee asked) ≤ max_results → to.bytes ≡ from.bytes)
 
 -- They have trees, no text among them is too long, and no list or map too large; the ledger accepts their handles.
 pub record AskLowerable (callee : Callee) (asked : Asked) (memory : List ℕ) (results : List Val) (before : LedgerState) : Type 0 where

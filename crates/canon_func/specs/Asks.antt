@@ -1,7 +1,8 @@
 -- What a guest asks of its host, and how it is served.
 use Rattle.std.specs.Prelude.{Err, List, None, Ok, Option, Some, [], length, slice_get, slice_index, ℕ, ◌∷◌, ◌≡◌, ◌≤◌, ◌⊎◌}
 use Rattle.std.specs.Option.{option_and_then}
-use Rattle.canon_model.specs.Memory.{Block, low}
+use Rattle.canon_memory.specs.Guest.{Moment}
+use Rattle.canon_model.specs.Memory.{low}
 use Rattle.canon_handles.specs.declared.handle.TypedResource.TheVariants.{Component}
 use Rattle.canon_handles.specs.declared.handle.TypedResourceIndex.TheVariants.{Component as ComponentIndex}
 use Rattle.canon_ledger.specs.Ledger.{Done, Drop, LedgerState, LedgerStep, New, Rep, do_step}
@@ -119,27 +120,27 @@ module _ {T : Type 0} (gives : Giving T) (callee : Callee) (fuel : ℕ) where
   -- ---- an ask that wasn't
 
   -- where memory ran out: the ask was served but not resumed, or wasn't
-  abbrev pub IsShort : ℕ → List ℕ → List Block → List ℕ → List ℕ → List Answer → Option Trap → HostSide T → HostSide T → Type 0
-  IsShort index words live memory memory2 answers trap before after =
+  abbrev pub IsShort : ℕ → List ℕ → Moment → Moment → List Answer → Option Trap → HostSide T → HostSide T → Type 0
+  IsShort index words from to answers trap before after =
       (BuiltinIsShort callee index words before after × (answers ≡ []) × (trap ≡ None))
-      ⊎ ((asked : Asked) × HostStops gives callee fuel asked index words live memory memory2 answers trap before after (error.Fault fault.OutOfMemory))
-      ⊎ ((resumed memory3 : List ℕ) × (trap ≡ None) × (length memory3 ≤ length memory2)
-      × IsHostServed gives callee fuel (record { index = index; words = words; live = live; memory = memory; answers = answers; resumed_words = resumed; resumed_memory = memory3 }) before after)
+      ⊎ ((asked : Asked) × HostStops gives callee fuel asked index words from to answers trap before after (error.Fault fault.OutOfMemory))
+      ⊎ ((resumed memory3 : List ℕ) × (trap ≡ None) × (length memory3 ≤ length to.bytes)
+      × IsHostServed gives callee fuel (record { index = index; words = words; live = from.guest.live; memory = from.bytes; answers = answers; resumed_words = resumed; resumed_memory = memory3 }) before after)
 
-  -- Why an ask that was made while these blocks lived, in the first of these memories, wasn't resumed, and what that left: of memory, and of
-  -- the host. Blocks were asked for meanwhile with these answers, and perhaps a trap.
-  abbrev pub AskStops : Error → ℕ → List ℕ → List Block → List ℕ → List ℕ → List Answer → Option Trap → HostSide T → HostSide T → Type 0
-  AskStops error.TurnsExhausted index words live memory memory2 answers trap before after = (after ≡ before) × NothingAsked memory memory2 answers trap
-  AskStops (error.UnknownImport n) index words live memory memory2 answers trap before after = (n ≡ index) × (slice_get callee.imports index ≡ None) × (after ≡ before) × NothingAsked memory memory2 answers trap
-  AskStops error.WrongWords index words live memory memory2 answers trap before after =
-      (called : Import) × (slice_get callee.imports index ≡ Some called) × ¬ (length words ≡ import_words callee called) × (after ≡ before) × NothingAsked memory memory2 answers trap
-  AskStops (error.ImportFault n f) index words live memory memory2 answers trap before after =
-      (n ≡ index) × ((BuiltinStops callee index words before after (error.ImportFault n f) × NothingAsked memory memory2 answers trap)
-      ⊎ ((asked : Asked) × HostStops gives callee fuel asked index words live memory memory2 answers trap before after (error.ImportFault n f)))
-  AskStops (error.HostRefused n) index words live memory memory2 answers trap before after =
-      (n ≡ index) × ((asked : Asked) × HostStops gives callee fuel asked index words live memory memory2 answers trap before after (error.HostRefused n))
-  AskStops (error.Fault fault.OutOfMemory) index words live memory memory2 answers trap before after = IsShort index words live memory memory2 answers trap before after
-  AskStops _ index words live memory memory2 answers trap before after = ⊥
+  -- Why an ask that was made at the first of these moments wasn't resumed, and what that left: of the guest and memory at the second, and of the
+  -- host. Blocks were asked for meanwhile with these answers, and perhaps a trap.
+  abbrev pub AskStops : Error → ℕ → List ℕ → Moment → Moment → List Answer → Option Trap → HostSide T → HostSide T → Type 0
+  AskStops error.TurnsExhausted index words from to answers trap before after = (after ≡ before) × NothingAsked from.bytes to.bytes answers trap
+  AskStops (error.UnknownImport n) index words from to answers trap before after = (n ≡ index) × (slice_get callee.imports index ≡ None) × (after ≡ before) × NothingAsked from.bytes to.bytes answers trap
+  AskStops error.WrongWords index words from to answers trap before after =
+      (called : Import) × (slice_get callee.imports index ≡ Some called) × ¬ (length words ≡ import_words callee called) × (after ≡ before) × NothingAsked from.bytes to.bytes answers trap
+  AskStops (error.ImportFault n f) index words from to answers trap before after =
+      (n ≡ index) × ((BuiltinStops callee index words before after (error.ImportFault n f) × NothingAsked from.bytes to.bytes answers trap)
+      ⊎ ((asked : Asked) × HostStops gives callee fuel asked index words from to answers trap before after (error.ImportFault n f)))
+  AskStops (error.HostRefused n) index words from to answers trap before after =
+      (n ≡ index) × ((asked : Asked) × HostStops gives callee fuel asked index words from to answers trap before after (error.HostRefused n))
+  AskStops (error.Fault fault.OutOfMemory) index words from to answers trap before after = IsShort index words from to answers trap before after
+  AskStops _ index words from to answers trap before after = ⊥
 
   -- ---- an ask that isn't refused
 

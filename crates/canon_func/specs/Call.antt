@@ -6,7 +6,7 @@ use Rattle.canon_model.specs.Flat.{RepArgs, RepResults, max_params, max_results}
 use Rattle.canon_model.specs.Homes.{ParamsHome, PointsTo}
 use Rattle.canon_model.specs.Layout.{members_flat}
 use Rattle.canon_model.specs.Leaves.{Leaf, members_leaves, values_leaves}
-use Rattle.canon_model.specs.Memory.{Block, InBlocks}
+use Rattle.canon_model.specs.Memory.{InBlocks}
 use Rattle.canon_model.specs.Reach.{Kind, ValuesFault, badly_spelled, misaligned, no_case, no_scalar, out_of_bounds, values_reach}
 use Rattle.canon_model.specs.Requests.{Request, params_requests}
 use Rattle.canon_model.specs.Shape.{Members, member_count}
@@ -14,7 +14,7 @@ use Rattle.canon_model.specs.Text.{in_utf16, in_utf8}
 use Rattle.canon_model.specs.Tree.{Trees}
 use Rattle.canon_memory.specs.declared.event.Event.{Event}
 use Rattle.canon_memory.specs.Counts.{Rose}
-use Rattle.canon_memory.specs.Guest.{GuestIn, Moment, Seen}
+use Rattle.canon_memory.specs.Guest.{GuestIn, Moment, Seen, moment}
 use Rattle.canon_memory.specs.Journal.{AddsEvents}
 use Rattle.canon_lowering.specs.Lowering.{Accepted, AllGood, AllLawful, AllTidy, Answer, Calm, Ending, Meets, Trap, addresses_of, blocks_of, done, events_of, marks_of, refused}
 use Rattle.canon_lowering.specs.Attempt.{AnyPointer, handle_numbers}
@@ -243,11 +243,11 @@ module _ {T : Type 0} (gives : Giving T) (callee : Callee) (fuel : ℕ) where
   AfterTurns turns before P = (served : HostSide T) × AreServed gives callee fuel turns before served × P served
 
 module _ {T R : Type 0} (its : ReturnedValues R) (gives : Giving T) (callee : Callee) (fuel : ℕ) where
-  -- a call that was refused after its start stopped at an ask that it didn't resume, or otherwise
-  abbrev pub StopsStartedOf : Error → List Block → List ℕ → List Answer → Option Trap → HostSide T → HostSide T → List Event → Type 0
-  StopsStartedOf e late_live memory2 late late_trap before after tail =
+  -- A call that was refused after its start stopped at an ask that it didn't resume, at which the guest was so, or otherwise.
+  abbrev pub StopsStartedOf : Error → Seen → Moment → List Answer → Option Trap → HostSide T → HostSide T → List Event → Type 0
+  StopsStartedOf e late_guest to late late_trap before after tail =
       (StopsLater its callee (stopped_by e) before.ledger after.ledger tail × (after ≡ record before { ledger = after.ledger }))
-      ⊎ BeginsInAsk (λ index words memory more. AskStops gives callee fuel e index words late_live memory memory2 late late_trap before after) tail
+      ⊎ BeginsInAsk (λ index words memory more. AskStops gives callee fuel e index words (moment late_guest memory) to late late_trap before after) tail
 
   -- an ask that isn't resumed can be served, and at a return the ledger accepts the end of the scope and each handle of the results
   abbrev pub AcceptsLater : HostSide T → List Event → Type 0
@@ -259,15 +259,15 @@ module _ {T R : Type 0} (args : Arguments) (its : ReturnedValues R) (gives : Giv
   -- order, and were given these numbers; each ask was served; and from the return on as above. A refused call stopped somewhere on this
   -- way, its scope is left open, and a refusal of the ledger is that of the step at which it stopped. Where memory ran out for the
   -- scope, nothing was done.
-  abbrev pub HandlesPassOf : List AskTurn → List Block → List ℕ → List Answer → Option Trap → HostSide T → HostSide T → List ℕ → Result R Error → List Event → List Event → Type 0
-  HandlesPassOf turns late_live memory2 late late_trap before after given (Ok results) events tail =
+  abbrev pub HandlesPassOf : List AskTurn → Seen → Moment → List Answer → Option Trap → HostSide T → HostSide T → List ℕ → Result R Error → List Event → List Event → Type 0
+  HandlesPassOf turns late_guest to late late_trap before after given (Ok results) events tail =
       (lowered : LedgerState) × LeavesTake (enter before.ledger) args.parts given lowered
       × AfterTurns gives callee fuel turns (record before { ledger = lowered }) (λ served. Each (OnReturn (λ words m. Concludes its callee words m results served.ledger after.ledger)) tail × (after ≡ record served { ledger = after.ledger }))
-  HandlesPassOf turns late_live memory2 late late_trap before after given (Err e) events tail =
+  HandlesPassOf turns late_guest to late late_trap before after given (Err e) events tail =
       ((e ≡ error.Fault fault.OutOfMemory) × (events ≡ []) × (after ≡ before))
       ⊎ (Each IsNoStart events × LeavesStop (stopped_by e) (enter before.ledger) args.parts after.ledger × (after ≡ record before { ledger = after.ledger }))
       ⊎ ((lowered : LedgerState) × LeavesTake (enter before.ledger) args.parts given lowered
-      × AfterTurns gives callee fuel turns (record before { ledger = lowered }) (λ served. StopsStartedOf its gives callee fuel e late_live memory2 late late_trap served after tail))
+      × AfterTurns gives callee fuel turns (record before { ledger = lowered }) (λ served. StopsStartedOf its gives callee fuel e late_guest to late late_trap served after tail))
 
   -- the same of the whole call, after each handle of the parameters and each ask that was resumed, however it was served
   abbrev pub Accepts : List AskTurn → HostSide T → List Event → Type 0
@@ -286,6 +286,13 @@ pub record Advances (before after : Moment) : Type 0 where
   pub no_shorter : length before.bytes ≤ length after.bytes
   pub traps_later : before.guest.traps ≤ after.guest.traps
   pub shortages_later : before.guest.shortages ≤ after.guest.shortages
+
+-- The counts of a guest's faults at a time lie between those before and those after.
+pub record CountsWithin (before at after : Seen) : Type 0 where
+  pub traps_later : before.traps ≤ at.traps
+  pub traps_earlier : at.traps ≤ after.traps
+  pub shortages_later : before.shortages ≤ at.shortages
+  pub shortages_earlier : at.shortages ≤ after.shortages
 
 -- a fact for every answer except out of memory
 abbrev pub OnAnswered : {T : Type 0} → Result T Error → Type 0 → Type 0
@@ -313,15 +320,17 @@ pub record IsCallOf {T R : Type 0} (args : Arguments) (its : ReturnedValues R) (
   pub later : List Event
   pub in_parts : events ≡ events_of answers trap ++ later
   -- From the start on it asked in these turns, and was served; of all asks one at most, for which it was refused, passes the limit.
-  -- Blocks were asked for from an ask to its resume alone, or after a last ask that wasn't resumed.
+  -- Blocks were asked for from an ask to its resume alone, or after a last ask that wasn't resumed. Then the guest was so, and its counts
+  -- lay between those before and after the call.
   pub turns : List AskTurn
-  pub late_live : List Block
+  pub late_guest : Seen
+  pub late_counts : CountsWithin before.guest late_guest after.guest
   pub late : List Answer
   pub late_trap : Option Trap
   pub tail : List Event
   pub starts : MayStart callee.func turns late late_trap tail later
   -- Where the journal is exposed: one guest went from ask to ask by the events between them, and at each ask those blocks lived in it.
-  pub lived : IsSome before.guest.journal → AsksLive Lives turns late_live tail events
+  pub lived : IsSome before.guest.journal → AsksLive Lives turns late_guest.live tail events
   pub asks : answer ≢ Err error.TurnsExhausted → asks_in events ≤ limits.turns
   -- each answer was aligned and its block ended inside memory, but one that the call was refused for; and each answer has its mark
   pub accepted : Accepted (lowering_ending answer) (length after.bytes) answers
@@ -330,7 +339,7 @@ pub record IsCallOf {T R : Type 0} (args : Arguments) (its : ReturnedValues R) (
   pub quiet : AsksByTypes callee.params (lowering_ending answer) answers trap
   -- Handles went through the ledger, and each ask was served; the words of the start have the handles that the parameters were given.
   pub given : List ℕ
-  pub handles : HandlesPassOf args its gives callee limits.fuel turns late_live after.bytes late late_trap host left given answer events tail
+  pub handles : HandlesPassOf args its gives callee limits.fuel turns late_guest after late late_trap host left given answer events tail
   pub start : Each (OnStart (IsStart args callee before answers given)) events
   -- The results are the only values that the returned words and memory represent, and cost no more than the fuel; that
   -- memory is left, as far as a post-return leaves it.
@@ -391,12 +400,12 @@ with_results (Ok x) results = Ok results
 with_results (Err e) results = Err e
 
 module _ {T : Type 0} (gives : Giving T) (callee : Callee) (fuel : ℕ) where
-  abbrev pub StopsStarted : Error → List Block → List ℕ → List Answer → Option Trap → HostSide T → HostSide T → List Event → Type 0
+  abbrev pub StopsStarted : Error → Seen → Moment → List Answer → Option Trap → HostSide T → HostSide T → List Event → Type 0
   StopsStarted = StopsStartedOf (dynamic_results callee) gives callee fuel
 
-  abbrev pub HandlesPass : List Val → List AskTurn → List Block → List ℕ → List Answer → Option Trap → HostSide T → HostSide T → List ℕ → Result (Unit {0}) Error → List Val → List Event → List Event → Type 0
-  HandlesPass params turns late_live memory2 late late_trap before after given answer results events tail =
-      HandlesPassOf (dynamic callee params) (dynamic_results callee) gives callee fuel turns late_live memory2 late late_trap before after given (with_results answer results) events tail
+  abbrev pub HandlesPass : List Val → List AskTurn → Seen → Moment → List Answer → Option Trap → HostSide T → HostSide T → List ℕ → Result (Unit {0}) Error → List Val → List Event → List Event → Type 0
+  HandlesPass params turns late_guest to late late_trap before after given answer results events tail =
+      HandlesPassOf (dynamic callee params) (dynamic_results callee) gives callee fuel turns late_guest to late late_trap before after given (with_results answer results) events tail
 
 -- A call with these parameters, by its answer and the results that it leaves.
 abbrev pub IsCall : {T : Type 0} → (List Leg → List Event → Type 0) → (List ℕ → List ℕ → Type 0) → Giving T → Callee → Limits → List Val → Moment → Moment → HostSide T → HostSide T → Result (Unit {0}) Error → List Val → List Event → Type 0

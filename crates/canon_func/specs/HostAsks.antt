@@ -2,7 +2,7 @@
 use Rattle.std.specs.Prelude.{Err, List, None, Ok, Option, Result, Some, [], if◌then◌else◌, nat_le, slice_get, length, ℕ, ◌+◌, ◌≡◌, ◌≢◌, ◌⊎◌}
 use Rattle.canon_model.specs.Flat.{max_results}
 use Rattle.canon_model.specs.Layout.{members_flat}
-use Rattle.canon_model.specs.Memory.{Block, cap}
+use Rattle.canon_memory.specs.Guest.{Moment, Seen, moment}
 use Rattle.canon_ledger.specs.Handles.{top_scope}
 use Rattle.canon_ledger.specs.Ledger.{Done, LedgerState, enter, leave, validate_scope_exit}
 use Rattle.canon_ledger.specs.declared.fault.ResourceFault.{ResourceFault}
@@ -14,6 +14,7 @@ use Rattle.canon_context.specs.declared.fault.Fault.{Fault}
 use Rattle.canon_context.specs.declared.fault.Fault.TheVariants as fault
 use Rattle.canon_context.specs.declared.host.HostStop.{HostStop}
 use Rattle.canon_context.specs.declared.host.HostStop.TheVariants as stop
+use Rattle.canon_model.specs.Memory.{cap}
 use Rattle.canon_host.specs.Asked.{asked_words, row_words}
 use Rattle.canon_host.specs.Forms.{InView}
 use Rattle.canon_host.specs.HostSide.{Answering, Giving, HostSide}
@@ -101,7 +102,11 @@ module _ {T : Type 0} (its : AskForm T) (answers_so : Answering T) (callee : Cal
     pub gave : Gives before t.index t.memory lifted params (Ok results) after.state called
     pub place : IsResultPlace callee.types.types asked t.memory t.words at
     pub ends : asked_exit called ≡ record { answer = Ok tt; after = ended }
-    pub lowers : its.lowers callee asked at t.live t.memory t.resumed_memory results words t.answers None (leave ended) after.ledger (Ok tt)
+    -- the guest as it asked, and once the results were lowered
+    pub asking : Seen
+    pub answered : Seen
+    pub lives : asking.live ≡ t.live
+    pub lowers : its.lowers callee asked at (moment asking t.memory) (moment answered t.resumed_memory) results words t.answers None (leave ended) after.ledger (Ok tt)
     pub resumed : t.resumed_words ≡ resumed_with callee asked words
     pub count : length t.resumed_words ≡ row_words (asked_results callee asked)
     pub told : after.log ≡ its.logged_with before.log t.index params results
@@ -110,29 +115,29 @@ module _ {T : Type 0} (its : AskForm T) (answers_so : Answering T) (callee : Cal
 
   -- ---- an ask that wasn't
 
-  module _ (asked : Asked) (index : ℕ) (words : List ℕ) (live : List Block) (memory memory2 : List ℕ) (answers : List Answer) (trap : Option Trap) (before after : HostSide T) (e : Error) where
+  module _ (asked : Asked) (index : ℕ) (words : List ℕ) (from to : Moment) (answers : List Answer) (trap : Option Trap) (before after : HostSide T) (e : Error) where
     -- after the call: the place for the results, the end of the scope, or lowering the results was refused
     abbrev pub StopsGiven : its.Results → LedgerState → Type 0
     StopsGiven results called =
-        ((f : Fault) × (e ≡ asked_error index f) × IsNoPlace callee.types.types asked memory words f × (after.ledger ≡ called) × NothingAsked memory memory2 answers trap)
-        ⊎ ((at : ℕ) × IsResultPlace callee.types.types asked memory words at
-        × (((x : ResourceFault) × (e ≡ asked_error index (fault.Resource x)) × (asked_exit called ≡ record { answer = Err x; after = after.ledger }) × NothingAsked memory memory2 answers trap)
+        ((f : Fault) × (e ≡ asked_error index f) × IsNoPlace callee.types.types asked from.bytes words f × (after.ledger ≡ called) × NothingAsked from.bytes to.bytes answers trap)
+        ⊎ ((at : ℕ) × IsResultPlace callee.types.types asked from.bytes words at
+        × (((x : ResourceFault) × (e ≡ asked_error index (fault.Resource x)) × (asked_exit called ≡ record { answer = Err x; after = after.ledger }) × NothingAsked from.bytes to.bytes answers trap)
         ⊎ ((ended : LedgerState) × (f : Fault) × (low : List ℕ) × (asked_exit called ≡ record { answer = Ok tt; after = ended }) × (e ≡ asked_error index f)
-        × its.lowers callee asked at live memory memory2 results low answers trap (leave ended) after.ledger (Err f))))
+        × its.lowers callee asked at from to results low answers trap (leave ended) after.ledger (Err f))))
 
     -- from the call on: there was no room for results, the function gave none, or it stopped later
     abbrev pub StopsCalled : its.Params → LedgerState → Type 0
     StopsCalled params lifted =
-        ((e ≡ error.Fault fault.OutOfMemory) × (after.ledger ≡ lifted) × (after.state ≡ before.state) × NothingAsked memory memory2 answers trap)
-        ⊎ ((why : HostStop) × (e ≡ stopped_error index why) × HostSteps lifted after.ledger × Gives before index memory lifted params (Err why) after.state after.ledger × NothingAsked memory memory2 answers trap)
-        ⊎ ((results : its.Results) × (called : LedgerState) × HostSteps lifted called × Gives before index memory lifted params (Ok results) after.state called × StopsGiven results called)
+        ((e ≡ error.Fault fault.OutOfMemory) × (after.ledger ≡ lifted) × (after.state ≡ before.state) × NothingAsked from.bytes to.bytes answers trap)
+        ⊎ ((why : HostStop) × (e ≡ stopped_error index why) × HostSteps lifted after.ledger × Gives before index from.bytes lifted params (Err why) after.state after.ledger × NothingAsked from.bytes to.bytes answers trap)
+        ⊎ ((results : its.Results) × (called : LedgerState) × HostSteps lifted called × Gives before index from.bytes lifted params (Ok results) after.state called × StopsGiven results called)
 
     -- Where it stopped, in order: nothing was done, as where there was no room for a scope; the parameters weren't lifted; or it stopped later.
     abbrev pub StopsAt : Type 0
     StopsAt =
-        (its.declines callee asked index before.log e × (after.ledger ≡ before.ledger) × (after.state ≡ before.state) × NothingAsked memory memory2 answers trap)
-        ⊎ ((f : Fault) × (e ≡ asked_error index f) × its.lifts before.store callee fuel asked words memory (enter before.ledger) (Err f) after.ledger × (after.state ≡ before.state) × NothingAsked memory memory2 answers trap)
-        ⊎ ((params : its.Params) × (lifted : LedgerState) × its.lifts before.store callee fuel asked words memory (enter before.ledger) (Ok params) lifted × StopsCalled params lifted)
+        (its.declines callee asked index before.log e × (after.ledger ≡ before.ledger) × (after.state ≡ before.state) × NothingAsked from.bytes to.bytes answers trap)
+        ⊎ ((f : Fault) × (e ≡ asked_error index f) × its.lifts before.store callee fuel asked words from.bytes (enter before.ledger) (Err f) after.ledger × (after.state ≡ before.state) × NothingAsked from.bytes to.bytes answers trap)
+        ⊎ ((params : its.Params) × (lifted : LedgerState) × its.lifts before.store callee fuel asked words from.bytes (enter before.ledger) (Ok params) lifted × StopsCalled params lifted)
 
     -- the asks that are exposed stay
     pub record HostStopsBy : Type 0 where
@@ -165,8 +170,8 @@ module _ {T : Type 0} (gives : Giving T) (callee : Callee) (fuel : ℕ) where
   abbrev pub IsHostServed : AskTurn → HostSide T → HostSide T → Type 0
   IsHostServed t before after = IsHostServedBy (ask_at gives t.index) gives.answers callee fuel t before after
 
-  abbrev pub HostStops : Asked → ℕ → List ℕ → List Block → List ℕ → List ℕ → List Answer → Option Trap → HostSide T → HostSide T → Error → Type 0
-  HostStops asked index words live memory memory2 answers trap before after e = HostStopsBy (ask_at gives index) gives.answers callee fuel asked index words live memory memory2 answers trap before after e
+  abbrev pub HostStops : Asked → ℕ → List ℕ → Moment → Moment → List Answer → Option Trap → HostSide T → HostSide T → Error → Type 0
+  HostStops asked index words from to answers trap before after e = HostStopsBy (ask_at gives index) gives.answers callee fuel asked index words from to answers trap before after e
 
   abbrev pub AcceptsHost : Asked → ℕ → List ℕ → List ℕ → HostSide T → Type 0
   AcceptsHost asked index words memory before = AcceptsHostBy (ask_at gives index) gives.answers callee fuel asked index words memory before

@@ -1,7 +1,9 @@
 -- Laws of the definitions of a call.
-use Rattle.std.specs.Prelude.{Err, List, Ok, Option, Some, [], false, slice_index, ℕ, ◌++◌, ◌+◌, ◌∷◌, ◌≡◌, ◌≤◌, ◌⊎◌}
-use Rattle.canon_model.specs.Flat.{RepResults}
-use Rattle.canon_model.specs.Memory.{Block, low}
+use Rattle.std.specs.Prelude.{Err, List, Ok, Option, Some, [], false, if◌then◌else◌, length, nat_le, slice_index, ℕ, ◌++◌, ◌+◌, ◌<◌, ◌∷◌, ◌≡◌, ◌≢◌, ◌≤◌, ◌⊎◌}
+use Rattle.canon_model.specs.Flat.{RepResults, max_results}
+use Rattle.canon_model.specs.Layout.{members_flat}
+use Rattle.canon_memory.specs.Guest.{Moment, Seen, moment}
+use Rattle.canon_model.specs.Memory.{Block, InBlocks, low}
 use Rattle.canon_model.specs.Shape.{Shape}
 use Rattle.canon_model.specs.Tree as tree
 use Rattle.canon_model.specs.Tree.{Tree, Trees}
@@ -10,14 +12,19 @@ use Rattle.canon_ledger.specs.Handles.{top_scope}
 use Rattle.canon_ledger.specs.Ledger.{Enter, ExitScope, Leave, LedgerState, LedgerStep, Partway, Through, do_step, enter, leave}
 use Rattle.canon_leaves.specs.Parts.{Part}
 use Rattle.canon_leaves.specs.Steps.{leaves_steps}
-use Rattle.canon_lowering.specs.Lowering.{Answer, Trap}
+use Rattle.canon_lowering.specs.Attempt.{value_place}
+use Rattle.canon_lowering.specs.Lowering.{AllLawful, AllTidy, Answer, Calm, Trap, blocks_of, refused}
 use Rattle.canon_lowering.specs.Storing.{narrow}
 use Rattle.canon_context.specs.Host.{HostSteps}
+use Rattle.canon_context.specs.declared.fault.Fault.TheVariants as fault
 use Rattle.canon_context.specs.declared.host.HostStop.{HostStop}
 use Rattle.canon_val.specs.declared.val.Val.{Val}
 use Rattle.canon_host.specs.HostSide.{Answering, Giving, HostSide}
+use Rattle.canon_host.specs.Serves.{IsResultPlace}
 use Rattle.canon_host.specs.declared.asked.Asked.{Asked}
-use Rattle.canon_func.specs.Asks.{IsBuiltinServed, builtin_at, builtin_step}
+use Rattle.canon_func.specs.AskTypes.{given_shape}
+use Rattle.canon_func.specs.AskValues.{asked_results}
+use Rattle.canon_func.specs.Asks.{AskStops, IsBuiltinServed, builtin_at, builtin_step}
 use Rattle.canon_reading.specs.Reading.{Reading}
 use Rattle.canon_reading.specs.Ways.{AreLiftedBy}
 use Rattle.canon_lower_parts.specs.Given.{AreGivenBy}
@@ -26,7 +33,7 @@ use Rattle.canon_types.specs.Instance.{Instance}
 use Rattle.canon_types.specs.Table.{shape_of}
 use Rattle.canon_types.specs.declared.types.InterfaceType.{InterfaceType}
 use Rattle.canon_types.specs.declared.types.InterfaceType.TheVariants as ty
-use Rattle.canon_func.specs.Call.{HandlesPass, HandlesPassOf, param_parts, result_parts}
+use Rattle.canon_func.specs.Call.{CountsWithin, HandlesPass, HandlesPassOf, param_parts, result_parts}
 use Rattle.canon_func.specs.AskForms.{AskForm, ask_at}
 use Rattle.canon_func.specs.HostAsks.{Gives, IsHostAsk, IsHostServedBy, stopped_error}
 use Rattle.canon_func.specs.Passing.{Arguments, ReturnedValues}
@@ -35,6 +42,7 @@ use Rattle.canon_func.specs.Runs.{AskTurn, BeginsInAsk, Each, IsNoStart, OnRetur
 use Rattle.canon_func.specs.Stores.{Callee}
 use Rattle.canon_func.specs.declared.asks.Builtin.{Builtin}
 use Rattle.canon_func.specs.declared.error.Error.{Error}
+use Rattle.canon_func.specs.declared.error.Error.TheVariants as error
 
 -- ---- the steps of an ask
 
@@ -98,8 +106,8 @@ PassesThrough {T} gives callee fuel first last turns before after tail =
 
 -- The ledger of a call that is Ok went through these steps, one after another, each of which it accepted.
 abbrev pub CallIsThrough : {T : Type 0} → Giving T → Type 0
-CallIsThrough {T} gives = (callee : Callee) (fuel : ℕ) (params : List Val) (turns : List AskTurn) (live : List Block) (memory2 : List ℕ) (late : List Answer) (trap : Option Trap) (before after : HostSide T) (given : List ℕ) (results : List Val) (events tail : List Event)
-    → HandlesPass gives callee fuel params turns live memory2 late trap before after given (Ok tt) results events tail
+CallIsThrough {T} gives = (callee : Callee) (fuel : ℕ) (params : List Val) (turns : List AskTurn) (late_guest : Seen) (to : Moment) (late : List Answer) (trap : Option Trap) (before after : HostSide T) (given : List ℕ) (results : List Val) (events tail : List Event)
+    → HandlesPass gives callee fuel params turns late_guest to late trap before after given (Ok tt) results events tail
     → PassesThrough gives callee fuel (param_parts callee params) (result_parts callee) turns before after tail
 
 module _ {T : Type 0} (its : AskForm T) (answers_so : Answering T) (callee : Callee) (fuel : ℕ) (index : ℕ) (words memory : List ℕ) (served : HostSide T) where
@@ -140,21 +148,44 @@ module _ {T : Type 0} (gives : Giving T) (callee : Callee) (fuel : ℕ) where
 
 -- The ledger of a call that is refused went through the same steps up to some step, which is one of those that the events determine.
 abbrev pub RefusedIsPartway : {T : Type 0} → Giving T → Type 0
-RefusedIsPartway {T} gives = (callee : Callee) (fuel : ℕ) (params : List Val) (turns : List AskTurn) (live : List Block) (memory2 : List ℕ) (late : List Answer) (trap : Option Trap) (before after : HostSide T) (given : List ℕ) (e : Error) (results : List Val) (events tail : List Event)
-    → HandlesPass gives callee fuel params turns live memory2 late trap before after given (Err e) results events tail
+RefusedIsPartway {T} gives = (callee : Callee) (fuel : ℕ) (params : List Val) (turns : List AskTurn) (late_guest : Seen) (to : Moment) (late : List Answer) (trap : Option Trap) (before after : HostSide T) (given : List ℕ) (e : Error) (results : List Val) (events tail : List Event)
+    → HandlesPass gives callee fuel params turns late_guest to late trap before after given (Err e) results events tail
     → PassesPartway gives callee fuel e (param_parts callee params) (result_parts callee) turns before after.ledger events tail
+
+-- ---- memory after an ask that wasn't resumed
+
+-- where the results of an ask go, if not in a row
+abbrev pub result_places : Callee → Asked → ℕ → List Block
+result_places callee asked at = if nat_le (members_flat (asked_results callee asked)) max_results then [] else value_place false (given_shape callee asked) at ∷ []
+
+-- Outside these places memory stands where no answer came, if the answers changed nothing else; and what lived has its bytes, if they kept the
+-- law of `realloc`.
+pub record StandsBut (places : List Block) (from to : Moment) (answers : List Answer) : Type 0 where
+  pub tidy : AllTidy answers → (i : ℕ) → i < length from.bytes → ¬ InBlocks places i → ¬ InBlocks (blocks_of answers) i → slice_index to.bytes i ≡ slice_index from.bytes i
+  pub lawful : AllLawful answers → (i : ℕ) → InBlocks from.guest.live i → ¬ InBlocks places i → slice_index to.bytes i ≡ slice_index from.bytes i
+
+-- outside the place to which the ask points for its results, if it does
+abbrev pub StandsAsked : Callee → ℕ → List ℕ → Moment → Moment → List Answer → Type 0
+StandsAsked callee index words from to answers = (to.bytes ≡ from.bytes)
+    ⊎ ((asked : Asked) × (at : ℕ) × IsHostAsk callee index words asked × IsResultPlace callee.types.types asked from.bytes words at × StandsBut (result_places callee asked at) from to answers)
+
+-- After a call that was refused at an ask, but for out of memory, and in which no count of the guest's faults rose, memory stands so.
+abbrev pub RefusedAskStands : {T : Type 0} → Giving T → Type 0
+RefusedAskStands {T} gives = (callee : Callee) (fuel : ℕ) (e : Error) (index : ℕ) (words memory : List ℕ) (entry late_guest : Seen) (to : Moment) (late : List Answer) (trap : Option Trap) (before after : HostSide T)
+    → CountsWithin entry late_guest to.guest → Calm refused entry to.guest → e ≢ error.Fault fault.OutOfMemory → AskStops gives callee fuel e index words (moment late_guest memory) to late trap before after
+    → StandsAsked callee index words (moment late_guest memory) to late
 
 -- ---- of a typed call
 
 -- the same of any parameters and results
 module _ {T R : Type 0} (args : Arguments) (its : ReturnedValues R) (gives : Giving T) (callee : Callee) where
   abbrev pub IsThrough : Type 0
-  IsThrough = (fuel : ℕ) (turns : List AskTurn) (live : List Block) (memory2 : List ℕ) (late : List Answer) (trap : Option Trap) (before after : HostSide T) (given : List ℕ) (results : R) (events tail : List Event)
-      → HandlesPassOf args its gives callee fuel turns live memory2 late trap before after given (Ok results) events tail → PassesThrough gives callee fuel args.parts its.parts turns before after tail
+  IsThrough = (fuel : ℕ) (turns : List AskTurn) (late_guest : Seen) (to : Moment) (late : List Answer) (trap : Option Trap) (before after : HostSide T) (given : List ℕ) (results : R) (events tail : List Event)
+      → HandlesPassOf args its gives callee fuel turns late_guest to late trap before after given (Ok results) events tail → PassesThrough gives callee fuel args.parts its.parts turns before after tail
 
   abbrev pub IsPartway : Type 0
-  IsPartway = (fuel : ℕ) (turns : List AskTurn) (live : List Block) (memory2 : List ℕ) (late : List Answer) (trap : Option Trap) (before after : HostSide T) (given : List ℕ) (e : Error) (events tail : List Event)
-      → HandlesPassOf args its gives callee fuel turns live memory2 late trap before after given (Err e) events tail → PassesPartway gives callee fuel e args.parts its.parts turns before after.ledger events tail
+  IsPartway = (fuel : ℕ) (turns : List AskTurn) (late_guest : Seen) (to : Moment) (late : List Answer) (trap : Option Trap) (before after : HostSide T) (given : List ℕ) (e : Error) (events tail : List Event)
+      → HandlesPassOf args its gives callee fuel turns late_guest to late trap before after given (Err e) events tail → PassesPartway gives callee fuel e args.parts its.parts turns before after.ledger events tail
 
 module _ {T P R : Type 0} (gives : Giving T) (Walks : P → Tree → Type 0) (steps : Instance → Shape → P → List (List Part)) (reading : Reading R) where
   abbrev pub TypedIsThrough : Type 0

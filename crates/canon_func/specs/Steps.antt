@@ -10,7 +10,7 @@ use Rattle.canon_model.specs.Text.{in_utf16, in_utf8}
 use Rattle.canon_memory.specs.declared.event.Event.{Event}
 use Rattle.canon_memory.specs.declared.event.Event.TheVariants as event
 use Rattle.canon_memory.specs.Counts.{Rose}
-use Rattle.canon_memory.specs.Guest.{Goes, GuestIn, Moment, Seen}
+use Rattle.canon_memory.specs.Guest.{Goes, GuestIn, Moment, Seen, moment}
 use Rattle.canon_memory.specs.Journal.{step_event, trap_event}
 use Rattle.canon_memory.specs.declared.guest.Step.{Step}
 use Rattle.canon_lowering.specs.Attempt.{LowersArgs}
@@ -41,7 +41,7 @@ use Rattle.canon_func.specs.Asks.{AreServed, AskStops, IsServed, Limits}
 use Rattle.canon_func.specs.AskForms.{AskForm, ask_at}
 use Rattle.canon_func.specs.HostAsks.{HostStopsBy, IsHostServedBy, IsUnrefused}
 use Rattle.canon_func.specs.AskValues.{asked_results}
-use Rattle.canon_func.specs.Call.{AcceptsLater, AfterTurns, AskCause, AsksByTypes, Concludes, HasFault, IsPastFuel, Left, StopsStartedOf, refused_by, result_words, scope_exit, words_within}
+use Rattle.canon_func.specs.Call.{AcceptsLater, AfterTurns, AskCause, AsksByTypes, Concludes, CountsWithin, HasFault, IsPastFuel, Left, StopsStartedOf, refused_by, result_words, scope_exit, words_within}
 use Rattle.canon_func.specs.Passing.{Arguments, ReturnedValues}
 use Rattle.canon_func.specs.Runs.{AskTurn, AsksFrom, AsksLive, Each, EndsIn, Grows, IsNoPost, IsNoStart, IsOneRun, IsPrefixOfRun, IsReturn, IsTrap, Leg, MayStart, OnReturn, OnStart, answers_in, asks_in, events_in, last_len, legs_in, posts, since_last}
 use Rattle.canon_func.specs.Stores.{Callee}
@@ -143,7 +143,7 @@ module _ {T : Type 0} (its : AskForm T) (answers_so : Answering T) (callee : Cal
   HostAskedBy asked index words before after host left storage (Ok x) answers events =
       IsHostServedBy its answers_so callee fuel (ask_turn index words before.guest.live before.bytes answers (take (row_words (asked_results callee asked)) storage) after.bytes) host left × (events ≡ events_of answers None)
   HostAskedBy asked index words before after host left storage (Err e) answers events =
-      (trap : Option Trap) × HostStopsBy its answers_so callee fuel asked index words before.guest.live before.bytes after.bytes answers trap host left e × (events ≡ events_of answers trap) × TrapsLate (length before.bytes) trap × RisesAt e before after
+      (trap : Option Trap) × HostStopsBy its answers_so callee fuel asked index words before after answers trap host left e × (events ≡ events_of answers trap) × TrapsLate (length before.bytes) trap × RisesAt e before after
 
 -- by the form of its import
 abbrev pub HostAsked : {T : Type 0} → Giving T → Callee → ℕ → Asked → ℕ → List ℕ → Moment → Moment → HostSide T → HostSide T → List ℕ → Result (Unit {0}) Error → List Answer → List Event → Type 0
@@ -167,7 +167,7 @@ module _ {T : Type 0} (gives : Giving T) (callee : Callee) (fuel : ℕ) where
       × (events ≡ events_of answers None ++ event.Resume r.resumed r.memory ∷ trap_event (length r.memory) ∷ [])
   Serves index words before after host left (Err error.TurnsExhausted) answers events = ⊥
   Serves index words before after host left (Err e) answers events =
-      (trap : Option Trap) × AskStops gives callee fuel e index words before.guest.live before.bytes after.bytes answers trap host left × (events ≡ events_of answers trap) × TrapsLate (length before.bytes) trap × RisesAt e before after
+      (trap : Option Trap) × AskStops gives callee fuel e index words before after answers trap host left × (events ≡ events_of answers trap) × TrapsLate (length before.bytes) trap × RisesAt e before after
 
   -- The guest was started at the moment `before`, asked in these turns and was served; it was last let go in a memory of so many bytes.
   pub record TurnsTaken (before : Moment) (host served : HostSide T) (turns : List AskTurn) (len : ℕ) : Type 0 where
@@ -193,14 +193,14 @@ module _ {T : Type 0} (gives : Giving T) (callee : Callee) (limits : Limits) whe
     pub lived : IsSome before.guest.journal → Lives (legs_in (event.Start callee.func words before.bytes ∷ []) turns) (since_last (event.Start callee.func words before.bytes ∷ []) turns ++ step_event next now.bytes ∷ [])
 
   -- The guest was left after so many asks that were served in an ask that wasn't.
-  pub record StopsInAsk (count len : ℕ) (before after : Moment) (served left : HostSide T) (e : Error) (live : List Block) (late : List Answer) (trap : Option Trap) (tail : List Event) : Type 0 where
+  pub record StopsInAsk (count len : ℕ) (before after : Moment) (served left : HostSide T) (e : Error) (late_guest : Seen) (late : List Answer) (trap : Option Trap) (tail : List Event) : Type 0 where
     pub index : ℕ
     pub words : List ℕ
     pub memory : List ℕ
     pub is : tail ≡ event.Ask index words memory ∷ events_of late trap
     pub longer : len ≤ length memory
     pub shorter : length memory ≤ length after.bytes
-    pub stops : AskStops gives callee limits.fuel e index words live memory after.bytes late trap served left
+    pub stops : AskStops gives callee limits.fuel e index words (moment late_guest memory) after late trap served left
     pub traps_late : TrapsLate (length memory) trap
     pub rises : RisesAt e before after
 
@@ -209,16 +209,17 @@ module _ {T : Type 0} (gives : Giving T) (callee : Callee) (limits : Limits) whe
   NoneLate late trap served left = (late ≡ []) × (trap ≡ None) × (left ≡ served)
 
   -- How the guest was left after so many asks that were served, by the last events.
-  abbrev pub Stopped : ℕ → ℕ → Moment → Moment → HostSide T → HostSide T → Result (List ℕ) Error → List Block → List Answer → Option Trap → List Event → Type 0
-  Stopped count len before after served left (Ok returned) live late trap tail = (tail ≡ event.Return returned after.bytes ∷ []) × NoneLate late trap served left
-  Stopped count len before after served left (Err (error.Fault fault.GuestTrap)) live late trap tail = Rose before.guest.traps after.guest.traps × (tail ≡ trap_event len ∷ []) × NoneLate late trap served left
-  Stopped count len before after served left (Err error.TurnsExhausted) live late trap tail = (count ≡ limits.turns) × StopsInAsk count len before after served left error.TurnsExhausted live late trap tail
-  Stopped count len before after served left (Err e) live late trap tail = (count < limits.turns) × StopsInAsk count len before after served left e live late trap tail
+  abbrev pub Stopped : ℕ → ℕ → Moment → Moment → HostSide T → HostSide T → Result (List ℕ) Error → Seen → List Answer → Option Trap → List Event → Type 0
+  Stopped count len before after served left (Ok returned) late_guest late trap tail = (tail ≡ event.Return returned after.bytes ∷ []) × NoneLate late trap served left
+  Stopped count len before after served left (Err (error.Fault fault.GuestTrap)) late_guest late trap tail = Rose before.guest.traps after.guest.traps × (tail ≡ trap_event len ∷ []) × NoneLate late trap served left
+  Stopped count len before after served left (Err error.TurnsExhausted) late_guest late trap tail = (count ≡ limits.turns) × StopsInAsk count len before after served left error.TurnsExhausted late_guest late trap tail
+  Stopped count len before after served left (Err e) late_guest late trap tail = (count < limits.turns) × StopsInAsk count len before after served left e late_guest late trap tail
 
   -- A core function was started with these words, and asked and was served until it returned these words or stopped otherwise.
   pub record RunsUntil (Lives : List Leg → List Event → Type 0) (words : List ℕ) (before after : Moment) (host left : HostSide T) (answer : Result (List ℕ) Error) (answers : List Answer) (events : List Event) : Type 0 where
     pub turns : List AskTurn
-    pub late_live : List Block
+    pub late_guest : Seen
+    pub late_counts : CountsWithin before.guest late_guest after.guest
     pub late : List Answer
     pub late_trap : Option Trap
     pub answers_are : answers ≡ answers_in turns ++ late
@@ -229,8 +230,8 @@ module _ {T : Type 0} (gives : Giving T) (callee : Callee) (limits : Limits) whe
     pub few : length turns ≤ limits.turns
     pub longer : len ≤ length after.bytes
     pub is : events ≡ so_far callee words before turns tail
-    pub stopped : Stopped (length turns) len before after served left answer late_live late late_trap tail
-    pub lived : IsSome before.guest.journal → AsksFrom Lives (event.Start callee.func words before.bytes ∷ []) turns late_live tail
+    pub stopped : Stopped (length turns) len before after served left answer late_guest late late_trap tail
+    pub lived : IsSome before.guest.journal → AsksFrom Lives (event.Start callee.func words before.bytes ∷ []) turns late_guest.live tail
 
   -- or memory ran out for its start
   abbrev pub MayRun : (List Leg → List Event → Type 0) → List ℕ → Moment → Moment → HostSide T → HostSide T → Result (List ℕ) Error → List Answer → List Event → Type 0
@@ -308,9 +309,9 @@ RestCause its callee limits before after events tail e = AskCause callee limits 
 
 module _ {T R : Type 0} (its : ReturnedValues R) (gives : Giving T) (callee : Callee) (limits : Limits) where
   -- the host from the start on, after these turns
-  abbrev pub RestPasses : List Block → List ℕ → List Answer → Option Trap → HostSide T → HostSide T → Result R Error → List Event → Type 0
-  RestPasses live memory2 late trap served left (Ok results) tail = Each (OnReturn (λ words m. Concludes its callee words m results served.ledger left.ledger)) tail × (left ≡ record served { ledger = left.ledger })
-  RestPasses live memory2 late trap served left (Err e) tail = StopsStartedOf its gives callee limits.fuel e live memory2 late trap served left tail
+  abbrev pub RestPasses : Seen → Moment → List Answer → Option Trap → HostSide T → HostSide T → Result R Error → List Event → Type 0
+  RestPasses late_guest to late trap served left (Ok results) tail = Each (OnReturn (λ words m. Concludes its callee words m results served.ledger left.ledger)) tail × (left ≡ record served { ledger = left.ledger })
+  RestPasses late_guest to late trap served left (Err e) tail = StopsStartedOf its gives callee limits.fuel e late_guest to late trap served left tail
 
   -- A callee was started with these words at the moment `before`, was served in these turns, what it returned was lifted with this fuel,
   -- and post-return was run.
@@ -318,13 +319,14 @@ module _ {T R : Type 0} (its : ReturnedValues R) (gives : Giving T) (callee : Ca
     pub one_run : OnOk answer (IsOneRun callee.func callee.post events)
     pub prefix : (len : ℕ) → IsPrefixOfRun callee.func callee.post len events
     pub turns : List AskTurn
-    pub late_live : List Block
+    pub late_guest : Seen
+    pub late_counts : CountsWithin before.guest late_guest after.guest
     pub late : List Answer
     pub late_trap : Option Trap
     pub tail : List Event
     pub answers_are : answers ≡ answers_in turns ++ late
     pub starts : MayStart callee.func turns late late_trap tail events
-    pub lived : IsSome before.guest.journal → AsksLive Lives turns late_live tail events
+    pub lived : IsSome before.guest.journal → AsksLive Lives turns late_guest.live tail events
     pub asks : answer ≢ Err error.TurnsExhausted → asks_in events ≤ limits.turns
     pub grows : Grows (length before.bytes) events (length after.bytes)
     pub start : Each (OnStart (λ ws m. (ws ≡ words) × (m ≡ before.bytes))) events
@@ -333,7 +335,7 @@ module _ {T R : Type 0} (its : ReturnedValues R) (gives : Giving T) (callee : Ca
     pub leaves : OnOk answer (Each (OnReturn (λ ws m. Left Leaves callee.post m after.bytes)) events)
     pub started : answer ≢ Err (error.Fault fault.OutOfMemory) → ¬ Each IsNoStart events
     pub returned : answer ≢ Err (error.Fault fault.OutOfMemory) → Each IsNoPost events → Each (OnReturn (λ ws m. after.bytes ≡ m)) events
-    pub handles : AfterTurns gives callee limits.fuel turns host (λ served. RestPasses late_live after.bytes late late_trap served left answer tail)
+    pub handles : AfterTurns gives callee limits.fuel turns host (λ served. RestPasses late_guest after late late_trap served left answer tail)
     pub cause : IfErr answer (RestCause its callee limits before after events tail)
     pub valid : AllLawful late → IfErr answer IsUnrefused → ¬ EndsIn IsTrap events → asks_in events ≤ limits.turns
         → Each (OnReturn (λ ws m. its.represent ws m limits.fuel)) events

@@ -2,7 +2,7 @@
 
 ghost use Rattle.std.specs.Prelude.{IsTrue, ℕ};
 ghost use Rattle.canon_func.specs.AskExactly.{IsExact};
-ghost use Rattle.canon_func.specs.Laws.{CallIsThrough, OnlyRepresented, ParamsAreGiven, RefusedIsPartway, RepresentedIsEnough, TypedIsPartway, TypedIsThrough};
+ghost use Rattle.canon_func.specs.Laws.{CallIsThrough, OnlyRepresented, ParamsAreGiven, RefusedAskStands, RefusedIsPartway, RepresentedIsEnough, TypedIsPartway, TypedIsThrough};
 
 use canon_host::Imports;
 use canon_lift::Lift;
@@ -36,6 +36,13 @@ pub fn typed_call_is_steps<
 /// type, parameters that were lifted have no fault; and its results mean the trees that they walk, whose handles they give.
 pub fn asks_are_exact<T, G: Guest, I: Imports<T, G>>(_imports: &I)
     ensures { (n : ℕ) → IsExact ((I.gives (I.plan _imports.now)).form n) }
+{}
+
+/// After a call that was refused at an ask, but for out of memory, and in which no count of the guest's faults rose, memory is as at that ask
+/// outside the place to which the ask points for its results: outside the answered blocks if the answers changed nothing else, and in the
+/// blocks that lived if they kept the law of `realloc`.
+pub fn refused_asks_keep_memory<T, G: Guest, I: Imports<T, G>>(_imports: &I)
+    ensures { RefusedAskStands (I.gives (I.plan _imports.now)) }
 {}
 
 /// The results of a typed call whose type has trees mean trees that the returned words and memory represent, at exactly their cost, and

@@ -2,7 +2,7 @@
 use Rattle.std.proofs.Common.{Err, List, Ok, Option, Result, Some, [], ap, append-nil, append_assoc, arith, drop, inl, inr, length, map, sym, ℕ, ◌++◌, ◌∙◌, ◌∷◌, ◌≡◌, ◌≤◌}
 use Rattle.std.proofs.lemmas.List.{drop_all, drop_at, length-map, nil_from_length}
 use Rattle.std.specs.Prelude.{unwrap_or}
-use Rattle.canon_model.specs.Memory.{Block}
+use Rattle.canon_memory.specs.Guest.{Moment, Seen, moment}
 use Rattle.canon_context.specs.declared.fault.Fault.TheVariants as fault
 use Rattle.canon_host.specs.Forms.{HostFuncForm, over_types, over_values}
 use Rattle.canon_host.specs.HostSide.{LoggedEntry, Giving, HostSide, entry}
@@ -52,41 +52,41 @@ module _ {T : Type 0} (gives : Giving T) (callee : Callee) (fuel : ℕ) where
       let (others, all) = turns_logged turns mid after (log ++ more) grown rest in
       (more ++ others, all ∙ ap Some (append_assoc log more others))
 
-  stopped : (e : Error) (index : ℕ) (words : List ℕ) (live : List Block) (memory memory2 : List ℕ) (answers : List Answer) (trap : Option Trap) (before after : HostSide T) (log : List LoggedEntry) → before.log ≡ Some log
-      → AskStops gives callee fuel e index words live memory memory2 answers trap before after → Longer log after.log
-  stopped error.TurnsExhausted index words live memory memory2 answers trap before after log is h = same log before.log after.log is (ap (λ (s : HostSide T). s.log) h.0)
-  stopped (error.UnknownImport n) index words live memory memory2 answers trap before after log is h = same log before.log after.log is (ap (λ (s : HostSide T). s.log) h.2)
-  stopped error.WrongWords index words live memory memory2 answers trap before after log is h = same log before.log after.log is (ap (λ (s : HostSide T). s.log) h.3)
-  stopped (error.ImportFault n f) index words live memory memory2 answers trap before after log is (number, inl (h, none)) = same log before.log after.log is (ap (λ (s : HostSide T). s.log) h.kept)
-  stopped (error.ImportFault n f) index words live memory memory2 answers trap before after log is (number, inr (asked, h)) = same log before.log after.log is h.told
-  stopped (error.HostRefused n) index words live memory memory2 answers trap before after log is (number, (asked, h)) = same log before.log after.log is h.told
-  stopped (error.Fault fault.OutOfMemory) index words live memory memory2 answers trap before after log is (inl (h, none, untrapped)) = same log before.log after.log is (ap (λ (s : HostSide T). s.log) h.kept)
-  stopped (error.Fault fault.OutOfMemory) index words live memory memory2 answers trap before after log is (inr (inl (asked, h))) = same log before.log after.log is h.told
-  stopped (error.Fault fault.OutOfMemory) index words live memory memory2 answers trap before after log is (inr (inr (resumed, memory3, untrapped, shorter, h))) =
+  stopped : (e : Error) (index : ℕ) (words : List ℕ) (from to : Moment) (answers : List Answer) (trap : Option Trap) (before after : HostSide T) (log : List LoggedEntry) → before.log ≡ Some log
+      → AskStops gives callee fuel e index words from to answers trap before after → Longer log after.log
+  stopped error.TurnsExhausted index words from to answers trap before after log is h = same log before.log after.log is (ap (λ (s : HostSide T). s.log) h.0)
+  stopped (error.UnknownImport n) index words from to answers trap before after log is h = same log before.log after.log is (ap (λ (s : HostSide T). s.log) h.2)
+  stopped error.WrongWords index words from to answers trap before after log is h = same log before.log after.log is (ap (λ (s : HostSide T). s.log) h.3)
+  stopped (error.ImportFault n f) index words from to answers trap before after log is (number, inl (h, none)) = same log before.log after.log is (ap (λ (s : HostSide T). s.log) h.kept)
+  stopped (error.ImportFault n f) index words from to answers trap before after log is (number, inr (asked, h)) = same log before.log after.log is h.told
+  stopped (error.HostRefused n) index words from to answers trap before after log is (number, (asked, h)) = same log before.log after.log is h.told
+  stopped (error.Fault fault.OutOfMemory) index words from to answers trap before after log is (inl (h, none, untrapped)) = same log before.log after.log is (ap (λ (s : HostSide T). s.log) h.kept)
+  stopped (error.Fault fault.OutOfMemory) index words from to answers trap before after log is (inr (inl (asked, h))) = same log before.log after.log is h.told
+  stopped (error.Fault fault.OutOfMemory) index words from to answers trap before after log is (inr (inr (resumed, memory3, untrapped, shorter, h))) =
       told_more (gives.form index) index h.params h.results log before.log after.log is h.told
-  stopped e index words live memory memory2 answers trap before after log is h = absurd h
+  stopped e index words from to answers trap before after log is h = absurd h
 
-  stopped_asking : (e : Error) (live : List Block) (memory2 : List ℕ) (late : List Answer) (trap : Option Trap) (before after : HostSide T) (log : List LoggedEntry) (tail : List Event) → before.log ≡ Some log
-      → BeginsInAsk (λ index words memory more. AskStops gives callee fuel e index words live memory memory2 late trap before after) tail → Longer log after.log
-  stopped_asking e live memory2 late trap before after log (event.Ask index words memory ∷ more) is h = stopped e index words live memory memory2 late trap before after log is h
-  stopped_asking e live memory2 late trap before after log tail is h = absurd h
+  stopped_asking : (e : Error) (late_guest : Seen) (to : Moment) (late : List Answer) (trap : Option Trap) (before after : HostSide T) (log : List LoggedEntry) (tail : List Event) → before.log ≡ Some log
+      → BeginsInAsk (λ index words memory more. AskStops gives callee fuel e index words (moment late_guest memory) to late trap before after) tail → Longer log after.log
+  stopped_asking e late_guest to late trap before after log (event.Ask index words memory ∷ more) is h = stopped e index words (moment late_guest memory) to late trap before after log is h
+  stopped_asking e late_guest to late trap before after log tail is h = absurd h
 
 module _ {T R : Type 0} (args : Arguments) (its : ReturnedValues R) (gives : Giving T) (callee : Callee) (fuel : ℕ) where
-  stopped_later : (e : Error) (live : List Block) (memory2 : List ℕ) (late : List Answer) (trap : Option Trap) (before after : HostSide T) (log : List LoggedEntry) (tail : List Event) → before.log ≡ Some log
-      → StopsStartedOf its gives callee fuel e live memory2 late trap before after tail → Longer log after.log
-  stopped_later e live memory2 late trap before after log tail is (inl (stops, kept)) = same log before.log after.log is (ap (λ (s : HostSide T). s.log) kept)
-  stopped_later e live memory2 late trap before after log tail is (inr h) = stopped_asking gives callee fuel e live memory2 late trap before after log tail is h
+  stopped_later : (e : Error) (late_guest : Seen) (to : Moment) (late : List Answer) (trap : Option Trap) (before after : HostSide T) (log : List LoggedEntry) (tail : List Event) → before.log ≡ Some log
+      → StopsStartedOf its gives callee fuel e late_guest to late trap before after tail → Longer log after.log
+  stopped_later e late_guest to late trap before after log tail is (inl (stops, kept)) = same log before.log after.log is (ap (λ (s : HostSide T). s.log) kept)
+  stopped_later e late_guest to late trap before after log tail is (inr h) = stopped_asking gives callee fuel e late_guest to late trap before after log tail is h
 
-  pub call_logged : (turns : List AskTurn) (live : List Block) (memory2 : List ℕ) (late : List Answer) (trap : Option Trap) (before after : HostSide T) (given : List ℕ) (answer : Result R Error) (events tail : List Event)
-      (log : List LoggedEntry) → before.log ≡ Some log → HandlesPassOf args its gives callee fuel turns live memory2 late trap before after given answer events tail → Longer log after.log
-  call_logged turns live memory2 late trap before after given (Ok results) events tail log is (lowered, takes, (served, are, (each, kept))) =
+  pub call_logged : (turns : List AskTurn) (late_guest : Seen) (to : Moment) (late : List Answer) (trap : Option Trap) (before after : HostSide T) (given : List ℕ) (answer : Result R Error) (events tail : List Event)
+      (log : List LoggedEntry) → before.log ≡ Some log → HandlesPassOf args its gives callee fuel turns late_guest to late trap before after given answer events tail → Longer log after.log
+  call_logged turns late_guest to late trap before after given (Ok results) events tail log is (lowered, takes, (served, are, (each, kept))) =
       let (more, grown) = turns_logged gives callee fuel turns (record before { ledger = lowered }) served log is are in
       (more, ap (λ (s : HostSide T). s.log) kept ∙ grown)
-  call_logged turns live memory2 late trap before after given (Err e) events tail log is (inl (short, none, kept)) = same log before.log after.log is (ap (λ (s : HostSide T). s.log) kept)
-  call_logged turns live memory2 late trap before after given (Err e) events tail log is (inr (inl (no_start, stops, kept))) = same log before.log after.log is (ap (λ (s : HostSide T). s.log) kept)
-  call_logged turns live memory2 late trap before after given (Err e) events tail log is (inr (inr (lowered, takes, (served, are, stops)))) =
+  call_logged turns late_guest to late trap before after given (Err e) events tail log is (inl (short, none, kept)) = same log before.log after.log is (ap (λ (s : HostSide T). s.log) kept)
+  call_logged turns late_guest to late trap before after given (Err e) events tail log is (inr (inl (no_start, stops, kept))) = same log before.log after.log is (ap (λ (s : HostSide T). s.log) kept)
+  call_logged turns late_guest to late trap before after given (Err e) events tail log is (inr (inr (lowered, takes, (served, are, stops)))) =
       let (more, grown) = turns_logged gives callee fuel turns (record before { ledger = lowered }) served log is are in
-      let (others, all) = stopped_later e live memory2 late trap served after (log ++ more) tail grown stops in
+      let (others, all) = stopped_later e late_guest to late trap served after (log ++ more) tail grown stops in
       (more ++ others, all ∙ ap Some (append_assoc log more others))
 
 -- ---- its record

@@ -116,12 +116,13 @@ lives_as args its P Q Leaves gives callee limits before after host left called e
   later = h.later;
   in_parts = h.in_parts;
   turns = h.turns;
-  late_live = h.late_live;
+  late_guest = h.late_guest;
+  late_counts = h.late_counts;
   late = h.late;
   late_trap = h.late_trap;
   tail = h.tail;
   starts = h.starts;
-  lived = λ told. asks_so P Q f h.turns h.late_live h.tail events (h.lived told);
+  lived = λ told. asks_so P Q f h.turns h.late_guest.live h.tail events (h.lived told);
   asks = h.asks;
   accepted = h.accepted;
   marks = h.marks;
@@ -198,8 +199,8 @@ module _ {R : Type 0} (args : Arguments) (its : ReturnedValues R) (Told : R → 
         told = told;
         called = subst (λ (es : List Event). Calls [] r.events es) (sym all) two;
         served = served_logs s.imports.lines.items left.imports.lines.items r.served.items asked
-            (call_logged args its (GivesAnswers (answers_of s)) callee s.core.fuel one.turns one.late_live left.core.memory one.late one.late_trap (host_side_of before) (host_side_of after)
-            one.given called entered.events one.tail before.log refl one.handles) lines serves;
+            (call_logged args its (GivesAnswers (answers_of s)) callee s.core.fuel one.turns one.late_guest (session.moment_with_events (state_of left) left.core.guest.events) one.late one.late_trap
+            (host_side_of before) (host_side_of after) one.given called entered.events one.tail before.log refl one.handles) lines serves;
         left = left.core.guest.guest.plan;
         new_marks = moved.new_marks;
         does = subst (λ (es : List Event). CarriesOut (plan before.allocator) (length before.memory) es moved.new_marks left.core.guest.guest.plan (length after.memory)) (sym all) moved.does;

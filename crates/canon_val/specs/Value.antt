@@ -1,5 +1,5 @@
 -- Values and their trees (canon_model: what memory and words represent).
-use Rattle.std.specs.Prelude.{◌≡◌, ℕ, ℤ, ◌+◌, ◌<◌, ◌↔◌, All, Any, Bool, Box, Err, IsTrue, List, None, Ok, Option, Result, Some, String, Vec, [], ◌∷◌, false, length, map, pos, slice_get, string_bytes, suc, true, zero}
+use Rattle.std.specs.Prelude.{◌≡◌, ℕ, ℤ, ◌+◌, ◌-◌, ◌<◌, ◌↔◌, All, Any, Bool, Box, Err, IsTrue, List, None, Ok, Option, Result, Some, String, Vec, [], ◌∷◌, false, length, map, pos, slice_get, string_bytes, suc, true, zero}
 use Rattle.std.specs.declared.alloc.Global.{Global}
 use Rattle.canon_lowering.specs.Copies.{case_tree}
 use Rattle.canon_model.specs.Shape.{Cases, Members, Name, ProductKind, Scalar, Shape, VariantKind, bare, borrow, case_count, fixed, flags, list, member, member_count}

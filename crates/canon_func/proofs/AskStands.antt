@@ -1,0 +1,130 @@
+-- What memory holds after an ask for which a call was refused.
+use Rattle.std.proofs.Common.{Err, List, Option, [], arith, inl, inr, refl, subst, sym, ℕ, ⊎_elim, ◌<◌, ◌∷◌, ◌≤◌, ◌⊎◌}
+use Rattle.std.proofs.lemmas.Bool.{cases_lt, le-leb, lt-leb}
+use Rattle.std.specs.Prelude.{false, if◌then◌else◌, ◌≢◌}
+use Rattle.canon_model.proofs.Layouts.{members_end-le-size}
+use Rattle.canon_model.specs.Flat.{max_results}
+use Rattle.canon_model.specs.Layout.{members_flat}
+use Rattle.canon_model.specs.Memory.{Block, Within}
+use Rattle.canon_model.specs.Shape.{of_places}
+use Rattle.canon_memory.specs.Counts.{Rose}
+use Rattle.canon_memory.specs.Guest.{Moment, Seen, moment}
+use Rattle.canon_ledger.specs.Ledger.{LedgerState}
+use Rattle.canon_lowering.proofs.Attempts.{within_block}
+use Rattle.canon_lowering.specs.Attempt.{members_span, value_place}
+use Rattle.canon_lowering.specs.Lowering.{Answer, Calm, Ending, Lowering, Trap, refused}
+use Rattle.canon_context.specs.declared.fault.Fault.{Fault}
+use Rattle.canon_context.specs.declared.fault.Fault.TheVariants as fault
+use Rattle.canon_host.specs.Forms.{HostFuncForm, over_types, over_values}
+use Rattle.canon_host.specs.HostSide.{Answering, Giving, HostSide}
+use Rattle.canon_host.specs.declared.asked.Asked.{Asked}
+use Rattle.canon_func.specs.AskForms.{AskForm, ask_at, ask_form}
+use Rattle.canon_func.specs.AskTypes.{given_shape}
+use Rattle.canon_func.specs.AskValues.{asked_results}
+use Rattle.canon_func.specs.Asks.{AskStops}
+use Rattle.canon_func.specs.Call.{CountsWithin}
+use Rattle.canon_func.specs.HostAsks.{HostStops, IsHostAsk, NothingAsked, StopsAt, StopsGiven}
+use Rattle.canon_func.specs.Laws.{RefusedAskStands, StandsAsked, StandsBut, result_places}
+use Rattle.canon_func.specs.Stores.{Callee}
+use Rattle.canon_func.specs.declared.error.Error.{Error}
+use Rattle.canon_func.specs.declared.error.Error.TheVariants as error
+use Rattle.canon_func.proofs.Refusals.{calm_so}
+
+-- ---- counts
+
+rose_sooner : (a b c : ℕ) → a ≤ b → Rose b c → Rose a c
+rose_sooner a b c le rose = omega (arith, le, rose)
+
+calm_later : (entry late to : Seen) → CountsWithin entry late to → Calm refused entry to → Calm refused late to
+calm_later entry late to counts calm = (λ rose. calm.0 (rose_sooner _ _ _ counts.traps_later rose), λ rose. calm.1 (rose_sooner _ _ _ counts.shortages_later rose))
+
+-- ---- results that were lowered
+
+lowering_stands : (places : List Block) (from to : Moment) (ending : Ending) (answers : List Answer) (trap : Option Trap) (fresh : List Block) → Lowering from to places ending answers trap fresh
+    → Calm refused from.guest to.guest → StandsBut places from to answers
+lowering_stands places from to ending answers trap fresh h calm = record {
+  tidy = h.tidy (calm_so ending from.guest to.guest calm);
+  lawful = λ lawful. (h.lawful (calm_so ending from.guest to.guest calm) lawful).kept;
+}
+
+-- also outside larger places
+stands_more : (places larger : List Block) (from to : Moment) (answers : List Answer) → Within places larger → StandsBut places from to answers → StandsBut larger from to answers
+stands_more places larger from to answers within h = record {
+  tidy = λ tidy i inside out. h.tidy tidy i inside (λ there. out (within i there));
+  lawful = λ lawful i lives out. h.lawful lawful i lives (λ there. out (within i there));
+}
+
+module _ (callee : Callee) (asked : Asked) (at : ℕ) (from to : Moment) (answers : List Answer) where
+  abbrev Stands : Type 0
+  Stands = StandsBut (result_places callee asked at) from to answers
+
+  near_stands : members_flat (asked_results callee asked) ≤ max_results → StandsBut [] from to answers → Stands
+  near_stands near h = subst (λ b. StandsBut (if b then [] else value_place false (given_shape callee asked) at ∷ []) from to answers) (sym (le-leb (members_flat (asked_results callee asked)) max_results near)) h
+
+  far_stands : max_results < members_flat (asked_results callee asked) → StandsBut (value_place false (given_shape callee asked) at ∷ []) from to answers → Stands
+  far_stands far h = subst (λ b. StandsBut (if b then [] else value_place false (given_shape callee asked) at ∷ []) from to answers) (sym (lt-leb (members_flat (asked_results callee asked)) max_results far)) h
+
+  span_within : Within (members_span false (asked_results callee asked) 0 at ∷ []) (value_place false (given_shape callee asked) at ∷ [])
+  span_within = within_block _ _ _ _ (omega arith) (omega (arith, members_end-le-size false of_places (asked_results callee asked)))
+
+-- where lowering the results was refused, in each form
+abbrev KeepsMemory : {T : Type 0} → AskForm T → Type 0
+KeepsMemory its = (callee : Callee) (asked : Asked) (at : ℕ) (from to : Moment) (results : its.Results) (low : List ℕ) (answers : List Answer) (trap : Option Trap) (l n : LedgerState) (f : Fault) → Calm refused from.guest to.guest
+    → its.lowers callee asked at from to results low answers trap l n (Err f) → StandsBut (result_places callee asked at) from to answers
+
+form_keeps : {T : Type 0} (form : HostFuncForm T) → KeepsMemory (ask_form form)
+form_keeps over_values callee asked at from to results low answers trap l n f calm h = ⊎_elim
+    (λ far. let w = h.crosses.lowered.far far in
+    subst (λ xs. StandsBut (result_places callee asked at) from to xs) w.1 (far_stands callee asked at from to w.0.answers far
+    (stands_more _ _ from to w.0.answers (span_within callee asked at from to w.0.answers) (lowering_stands _ from to h.crosses.ending w.0.answers w.0.trap w.0.fresh w.0.lowering calm))))
+    (λ near. let w = h.crosses.lowered.near near in
+    subst (λ xs. StandsBut (result_places callee asked at) from to xs) w.1 (near_stands callee asked at from to w.0.answers near (lowering_stands [] from to h.crosses.ending w.0.answers w.0.trap w.0.fresh w.0.lowering calm)))
+    (cases_lt max_results (members_flat (asked_results callee asked)))
+form_keeps (over_types types may) callee asked at from to results low answers trap l n f calm h = ⊎_elim
+    (λ far. let w = h.lowered.far far in
+    subst (λ xs. StandsBut (result_places callee asked at) from to xs) w.1 (far_stands callee asked at from to w.0.answers far (lowering_stands _ from to h.ending w.0.answers w.0.trap w.0.fresh w.0.lowering calm)))
+    (λ near. let w = h.lowered.near near in
+    subst (λ xs. StandsBut (result_places callee asked at) from to xs) w.1 (near_stands callee asked at from to w.0.answers near (lowering_stands [] from to h.ending w.0.answers w.0.trap w.0.fresh w.0.lowering calm)))
+    (cases_lt max_results (members_flat (asked_results callee asked)))
+
+-- ---- an ask of a function of the host
+
+nothing_stands : (callee : Callee) (index : ℕ) (words : List ℕ) (from to : Moment) (answers : List Answer) (trap : Option Trap) → NothingAsked from.bytes to.bytes answers trap → StandsAsked callee index words from to answers
+nothing_stands callee index words from to answers trap (none, quiet, same) = inl same
+
+module _ {T : Type 0} (its : AskForm T) (keeps : KeepsMemory its) (answers_so : Answering T) (callee : Callee) (fuel : ℕ) (asked : Asked) (index : ℕ) (words : List ℕ) (from to : Moment) (answers : List Answer)
+    (trap : Option Trap) (before after : HostSide T) (is : IsHostAsk callee index words asked) (calm : Calm refused from.guest to.guest) (e : Error) where
+  quiet_stands : NothingAsked from.bytes to.bytes answers trap → StandsAsked callee index words from to answers
+  quiet_stands = nothing_stands callee index words from to answers trap
+
+  given_stands : (results : its.Results) (called : LedgerState) → StopsGiven its answers_so callee fuel asked index words from to answers trap before after e results called → StandsAsked callee index words from to answers
+  given_stands results called (inl (f, told, bad, left, quiet)) = quiet_stands quiet
+  given_stands results called (inr (at, place, inl (x, told, exit, quiet))) = quiet_stands quiet
+  given_stands results called (inr (at, place, inr (ended, f, low, ends, told, lowers))) = inr (asked, at, is, place, keeps callee asked at from to results low answers trap _ _ f calm lowers)
+
+  host_stands : StopsAt its answers_so callee fuel asked index words from to answers trap before after e → StandsAsked callee index words from to answers
+  host_stands (inl (why, left, same, quiet)) = quiet_stands quiet
+  host_stands (inr (inl (f, told, lift, same, quiet))) = quiet_stands quiet
+  host_stands (inr (inr (params, lifted, lift, inl (wants, left, same, quiet)))) = quiet_stands quiet
+  host_stands (inr (inr (params, lifted, lift, inr (inl (why, told, steps, gave, quiet))))) = quiet_stands quiet
+  host_stands (inr (inr (params, lifted, lift, inr (inr (results, called, steps, gave, given))))) = given_stands results called given
+
+-- ---- any ask
+
+module _ {T : Type 0} (gives : Giving T) (callee : Callee) (fuel index : ℕ) (words : List ℕ) (from to : Moment) (answers : List Answer) (trap : Option Trap) (before after : HostSide T) (calm : Calm refused from.guest to.guest) where
+  stops_stand : (e : Error) (asked : Asked) → HostStops gives callee fuel asked index words from to answers trap before after e → StandsAsked callee index words from to answers
+  stops_stand e asked h = host_stands (ask_at gives index) (form_keeps (gives.form index)) gives.answers callee fuel asked index words from to answers trap before after h.is calm e h.stops
+
+  ask_stands : (e : Error) → e ≢ error.Fault fault.OutOfMemory → AskStops gives callee fuel e index words from to answers trap before after → StandsAsked callee index words from to answers
+  ask_stands error.TurnsExhausted other h = nothing_stands callee index words from to answers trap h.1
+  ask_stands (error.UnknownImport n) other h = nothing_stands callee index words from to answers trap h.3
+  ask_stands error.WrongWords other h = nothing_stands callee index words from to answers trap h.4
+  ask_stands (error.ImportFault n f) other (same, inl (h, quiet)) = nothing_stands callee index words from to answers trap quiet
+  ask_stands (error.ImportFault n f) other (same, inr (asked, h)) = stops_stand (error.ImportFault n f) asked h
+  ask_stands (error.HostRefused n) other (same, (asked, h)) = stops_stand (error.HostRefused n) asked h
+  ask_stands (error.Fault fault.OutOfMemory) other h = absurd (other refl)
+  ask_stands e other h = absurd h
+
+pub refused_ask_stands : {T : Type 0} (gives : Giving T) → RefusedAskStands gives
+refused_ask_stands gives callee fuel e index words memory entry late_guest to late trap before after counts calm other h =
+    ask_stands gives callee fuel index words (moment late_guest memory) to late trap before after (calm_later entry late_guest to.guest counts calm) e other h
