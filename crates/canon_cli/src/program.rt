@@ -67,7 +67,8 @@ pub fn run<S: Source, K: Sink>(
     ensures bad_script { result ≡ Status.BAD_SCRIPT → IfSome (command_of words.now) (λ asked. ReadsNoTask (task_of asked) (S.left source.old) (S.left source.new)) }
 
     // A command whose reads don't fail answers an input for what it is, or runs out of memory; it takes no more of it
-    // than an input may have, or answers so, and then no more than one read beyond.
+    // than an input may have, or answers so or 5, and then no more than one read beyond. Of a source whose bytes aren't known
+    // nothing is said.
     ensures answers { IfSome (command_of words.now) (λ asked. ¬ Rose (S.faults source.old) (S.faults source.new)
         → OnTold (S.left source.old) (λ input. AnswersInput (task_of asked) input result)) }
     ensures taken { ¬ (result ≡ Status.TOO_LONG) → ¬ (result ≡ Status.MEMORY) → TakesAtMost max_input (S.left source.old) (S.left source.new) }

@@ -320,8 +320,8 @@ pub record IsCallOf {T R : Type 0} (args : Arguments) (its : ReturnedValues R) (
   pub later : List Event
   pub in_parts : events ≡ events_of answers trap ++ later
   -- From the start on it asked in these turns, and was served; of all asks one at most, for which it was refused, passes the limit.
-  -- Blocks were asked for from an ask to its resume alone, or after a last ask that wasn't resumed. Then the guest was so, and its counts
-  -- lay between those before and after the call.
+  -- Blocks were asked for from an ask to its resume alone, or after a last ask that wasn't resumed. What is seen of the guest at that ask has
+  -- counts between those before and after the call.
   pub turns : List AskTurn
   pub late_guest : Seen
   pub late_counts : CountsWithin before.guest late_guest after.guest

@@ -44,7 +44,7 @@ pub fn image_run<S: Source, K: Sink>(
     ensures bad_script { result ≡ Status.BAD_SCRIPT → ReadsNoTask image_task_of (S.left source.old) (S.left source.new) }
 
     // Where no read fails an input is answered for what it is, or memory runs out; no more of it is taken than an input may
-    // have, or the answer says so, and then no more than one read beyond.
+    // have, or the answer says so or is 5, and then no more than one read beyond. Of a source whose bytes aren't known nothing is said.
     ensures answers { words.now ≡ [] → ¬ Rose (S.faults source.old) (S.faults source.new)
         → OnTold (S.left source.old) (λ input. AnswersInput image_task_of input result) }
     ensures taken { ¬ (result ≡ Status.TOO_LONG) → ¬ (result ≡ Status.MEMORY) → TakesAtMost max_input (S.left source.old) (S.left source.new) }
