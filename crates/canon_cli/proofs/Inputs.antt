@@ -1,8 +1,11 @@
 -- What the program answers an input that was there to be read.
-use Rattle.std.proofs.Common.{◌≡◌, ◌≤◌, ◌<◌, ℕ, List, ◌++◌, length, Option, None, Some, ap, sym, subst, ◌∙◌, arith, inl, inr, append-nil, length-append, ◌⊎◌}
+use Rattle.std.proofs.Common.{◌≡◌, ◌≤◌, ◌<◌, ℕ, List, [], ◌∷◌, ◌++◌, length, IfSome, String, Option, None, Some, ap, sym, subst, ◌∙◌, arith, inl, inr, append-nil, length-append, ◌⊎◌}
 use Rattle.std.specs.Io.KnownBytes.{Consumes}
 use Rattle.serde_json.specs.Data.{Data}
-use Rattle.canon_cli.specs.Program.{AnswersInput, IsInput, IsJson, IsNoJson, IsStatus, IsTask, OnTold, ReadsNoJson, ReadsNoTask, ReadsTask, ReadsTooMuch, max_input}
+use Rattle.std.specs.declared.alloc.Global.{Global}
+use Rattle.canon_transcript.specs.declared.transcript.Record.{Record}
+use Rattle.canon_cli.specs.Program.{AnswersInput, IsInput, IsJson, IsNoJson, IsPerformed, IsStatus, IsTask, OnTold, Performed, ReadsNoJson, ReadsNoTask, ReadsTask, ReadsTooMuch, command_of, max_input}
+use Rattle.canon_cli.specs.declared.command.Command.{Command}
 use Rattle.canon_cli.specs.declared.status.Status.{Status}
 
 pub status_is : (s : Status) (n : ℕ) → s.0 ≡ n → s ≡ record { 0 = n }
@@ -86,3 +89,11 @@ completes asks input s h sound is = elim (h.task is.short is.tree is.json is.tas
 pub completes_told : {T : Type 0} (asks : Data → Option T) (left : Option (List ℕ)) (s : Status) → OnTold left (λ input. AnswersInput asks input s) → ¬ (s.0 ≡ 4) → OnTold left (λ input. IsTask asks input → (s.0 ≡ 0) ⊎ (s.0 ≡ 5))
 completes_told asks None s h sound = tt
 completes_told asks (Some input) s h sound = completes asks input s h sound
+
+-- what a command does is what its words ask for, which aren't those of `gen N`
+pub performed : (words : List (String Global)) (asked : Command) (left left' : Option (List ℕ)) (records : List Record) (text : List ℕ) → command_of words ≡ Some asked
+    → Performed asked left left' records text → IsPerformed words left left' records text
+performed [] asked left left' records text e h = absurd (cc)
+performed (word ∷ []) asked left left' records text e h = (subst (λ o. IfSome o (λ a. Performed a left left' records text)) (sym e) h, tt)
+performed (word ∷ other ∷ []) asked left left' records text e h = absurd (cc)
+performed (word ∷ other ∷ more ∷ words) asked left left' records text e h = absurd (cc)
