@@ -47,7 +47,7 @@ impl Arena {
 }
 
 impl Guest for Arena {
-    ghost use Rattle.std.specs.Prelude.{◌≡◌, ◌≢◌, ◌↔◌, ◌+◌, ◌<◌, ◌^◌, IfOk, Err, drop, length};
+    ghost use Rattle.std.specs.Prelude.{◌≡◌, ◌≢◌, ◌↔◌, ◌+◌, ◌<◌, ◌^◌, IfOk, IsOk, Err, drop, length};
     ghost use Rattle.canon_memory.specs.Realloc.{ReallocLaw, call};
     ghost use Rattle.canon_scripted.specs.Allocator.{DoesPlace, new_placed};
     ghost use Rattle.canon_example_guests.specs.Arena.{CountsAnswer, Starts};
@@ -83,7 +83,11 @@ impl Guest for Arena {
         }
     }
 
-    fn resume(&mut self, _memory: &mut Memory, _words: &[ValRaw]) -> Result<Step, GuestFault> {
+    fn resume(&mut self, _memory: &mut Memory, _words: &[ValRaw]) -> Result<Step, GuestFault>
+        ensures trap { result ≡ Err GuestFault.Trap }
+        ensures counts { Starts result self.old self.new }
+        ensures memory { _memory.new ≡ _memory.old }
+    {
         Err(self.count(GuestFault::Trap))
     }
 
@@ -122,11 +126,19 @@ impl Guest for Arena {
         _memory: &mut Memory,
         _func: u32,
         _words: &[ValRaw],
-    ) -> Result<(), GuestFault> {
+    ) -> Result<(), GuestFault>
+        ensures ok { IsOk result }
+        ensures same { self.new ≡ self.old }
+        ensures memory { _memory.new ≡ _memory.old }
+    {
         Ok(())
     }
 
-    fn dtor(&mut self, _memory: &mut Memory, _func: u32, _rep: u32) -> Result<(), GuestFault> {
+    fn dtor(&mut self, _memory: &mut Memory, _func: u32, _rep: u32) -> Result<(), GuestFault>
+        ensures ok { IsOk result }
+        ensures same { self.new ≡ self.old }
+        ensures memory { _memory.new ≡ _memory.old }
+    {
         Ok(())
     }
 }

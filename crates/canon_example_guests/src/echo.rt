@@ -59,7 +59,12 @@ impl Guest for Echo {
         }
     }
 
-    fn resume(&mut self, _memory: &mut Memory, _words: &[ValRaw]) -> Result<Step, GuestFault> {
+    fn resume(&mut self, _memory: &mut Memory, _words: &[ValRaw]) -> Result<Step, GuestFault>
+        ensures trap { result ≡ Err GuestFault.Trap }
+        ensures counts { self.new ≡ record self.old { traps = raised_count self.old.traps } }
+        ensures later { self.old.traps ≤ self.new.traps }
+        ensures memory { _memory.new ≡ _memory.old }
+    {
         self.traps = self.traps.saturating_add(1);
         Err(GuestFault::Trap)
     }
@@ -71,7 +76,12 @@ impl Guest for Echo {
         _old_size: u64,
         _align: u32,
         _new_size: u64,
-    ) -> Result<u64, GuestFault> {
+    ) -> Result<u64, GuestFault>
+        ensures trap { result ≡ Err GuestFault.Trap }
+        ensures counts { self.new ≡ record self.old { traps = raised_count self.old.traps } }
+        ensures later { self.old.traps ≤ self.new.traps }
+        ensures memory { _memory.new ≡ _memory.old }
+    {
         self.traps = self.traps.saturating_add(1);
         Err(GuestFault::Trap)
     }

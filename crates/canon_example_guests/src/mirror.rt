@@ -31,9 +31,11 @@ impl Mirror {
 }
 
 impl Guest for Mirror {
-    ghost use Rattle.std.specs.Prelude.{◌≡◌, ◌≢◌, ◌<◌, ◌↔◌, ◌⊎◌, ◌%◌, ◌^◌, ◌++◌, ◌∷◌, [], IfOk, Err, drop, length, slice_index};
+    ghost use Rattle.std.specs.Prelude.{◌≡◌, ◌≢◌, ◌<◌, ◌↔◌, ◌⊎◌, ◌+◌, ◌%◌, ◌^◌, ◌++◌, ◌∷◌, [], IfOk, Err, drop, length, slice_index};
     ghost use Rattle.std.specs.Int.{to_le_bytes, w32};
-    ghost use Rattle.canon_example_guests.specs.Arena.{Starts};
+    ghost use Rattle.canon_memory.specs.Realloc.{ReallocLaw, call};
+    ghost use Rattle.canon_scripted.specs.Allocator.{DoesPlace, new_placed};
+    ghost use Rattle.canon_example_guests.specs.Arena.{CountsAnswer, Starts};
 
     ghost seen = { λ g. record { journal = None; marks = replicate g.arena.answers (record { lawful = true; tidy = true }); live = g.arena.blocks.live; traps = g.arena.traps; shortages = g.arena.shortages } };
 
@@ -82,7 +84,16 @@ impl Guest for Mirror {
         old_size: u64,
         align: u32,
         new_size: u64,
-    ) -> Result<u64, GuestFault> {
+    ) -> Result<u64, GuestFault>
+        requires aligned { 0 < align }
+        ensures narrow { IfOk result (λ at. at < 2 ^ 32) }
+        ensures placed { old_size ≡ 0 → self.old.arena.answers + 1 < 2 ^ 64 → DoesPlace (new_placed (length memory.old) self.old.arena.blocks (call 0 0 align new_size)) self.old.arena.blocks self.new.arena.blocks result }
+        ensures grows_none { 0 < old_size → result ≡ Err GuestFault.Trap }
+        ensures few { self.old.arena.answers + 1 ≡ 2 ^ 64 → result ≡ Err GuestFault.Trap }
+        ensures counts { CountsAnswer result self.old.arena self.new.arena }
+        ensures memory { memory.new ≡ memory.old }
+        ensures lawful { IfOk result (λ at. ReallocLaw self.old.arena.blocks.live self.new.arena.blocks.live memory.old memory.new (call old old_size align new_size) at) }
+    {
         self.arena.realloc(memory, old, old_size, align, new_size)
     }
 

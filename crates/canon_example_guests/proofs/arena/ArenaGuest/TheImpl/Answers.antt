@@ -19,3 +19,13 @@ realloc-tells c = record {
   does = reallocates c.args.self.now c.new.self.now c.args.memory.now c.new.memory.now c.ensures.memory (call c.args.old c.args.old_size c.args.align c.args.new_size) c.result c.ensures.counts c.ensures.lawful;
   moves = free c.result;
 }
+
+pub resume-tells : goal.resume-tells
+resume-tells c =
+    let a = c.args.self.now in
+    let b = c.new.self.now in
+    record {
+      goes = started a b c.args.memory.now c.new.memory.now (ap length c.ensures.memory) c.result c.ensures.counts _;
+      moves = free c.result;
+      cause = caused a b c.args.memory.now c.new.memory.now (ap length c.ensures.memory) c.result c.ensures.counts;
+    }
