@@ -92,3 +92,8 @@ pub record Recorded (G : Type 0) : Type 0 where
 -- the guest of one that tells its journal, in the same memory
 abbrev pub of_guest : {G : Type 0} → GuestIn (Recorded G) → GuestIn G
 of_guest j = record { guest = j.guest.guest; len = j.len }
+
+-- It moves as its guest does, and no want of memory was answered.
+pub record JournaledMoves {G : Type 0} (Moves : GuestIn G → List Event → GuestIn G → Type 0) (j : GuestIn (Recorded G)) (events : List Event) (k : GuestIn (Recorded G)) : Type 0 where
+  pub moves : Moves (of_guest j) events (of_guest k)
+  pub shortages : k.guest.shortages ≡ j.guest.shortages

@@ -2,7 +2,8 @@
 
 ghost use Rattle.std.specs.Prelude.{◌≡◌, ◌+◌, List, ◌∷◌, [], ◌++◌, length, Some, IfOk, OnOk, OnErr};
 ghost use Rattle.canon_memory.specs.declared.event.Event.TheVariants as event;
-ghost use Rattle.canon_memory.specs.Guest.{Recorded, of_guest};
+ghost use Rattle.std.proofs.Common.{refl, ◌∙◌};
+ghost use Rattle.canon_memory.specs.Guest.{JournaledMoves, Recorded, of_guest};
 ghost use Rattle.canon_memory.specs.Journal.{step_event, trap_event};
 
 use crate::{Bytes, Event, Events, Guest, GuestFault, Memory, MemoryError, Step, ValRaw, Words};
@@ -89,6 +90,7 @@ impl<G> Journaled<G> {
         ensures told { OnOk result (self.new.events ≡ take (length self.old.events - 1) self.old.events ++ step_event step.now memory.now ∷ []) }
         ensures untold { OnErr result (self.new.events ≡ take (length self.old.events - 2) self.old.events) }
         ensures later { self.old.shortages ≤ self.new.shortages }
+        ensures same { OnOk result (self.new.shortages ≡ self.old.shortages) }
         ensures rose { OnErr result (Rose self.old.shortages self.new.shortages) }
     {
         match event_of(self.alloc, step, memory) {
@@ -125,13 +127,13 @@ impl<G> Journaled<G> {
 impl<G: Guest> Guest for Journaled<G> {
     ghost seen = { λ j. record (G.seen j.guest) { journal = Some j.events; shortages = j.shortages } };
 
-    ghost moves = { λ j events k. G.moves (of_guest j) events (of_guest k) };
+    ghost moves = { λ j events k. JournaledMoves G.moves j events k };
 
     ghost leaves = { λ m n. G.leaves m n };
 
-    ghost stays = { λ j. G.stays (of_guest j) };
+    ghost stays = { λ j. record { moves = G.stays (of_guest j); shortages = refl } };
 
-    ghost goes_on = { λ i j k xs ys f g. G.goes_on (of_guest i) (of_guest j) (of_guest k) xs ys f g };
+    ghost goes_on = { λ i j k xs ys f g. record { moves = G.goes_on (of_guest i) (of_guest j) (of_guest k) xs ys f.moves g.moves; shortages = g.shortages ∙ f.shortages } };
 
     fn start(
         &mut self,

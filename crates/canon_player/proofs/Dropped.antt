@@ -5,9 +5,9 @@ use Rattle.std.specs.Prelude.{IfNone, IfSome, OnOk, unwrap_or}
 use Rattle.canon_ledger.specs.Index.{GivenIndex}
 use Rattle.canon_ledger.specs.Ledger.{LedgerState}
 use Rattle.canon_memory.specs.declared.event.Event.{Event}
-use Rattle.canon_memory.specs.Guest.{GuestIn, Mark, Recorded, of_guest}
+use Rattle.canon_memory.specs.Guest.{Mark}
 use Rattle.canon_resources.specs.Held.{Any, host_index}
-use Rattle.canon_scripted.specs.Scripted.{CarriesOut, Doing, ScriptMoves, traps_after}
+use Rattle.canon_scripted.specs.Scripted.{CarriesOut, traps_after}
 use Rattle.canon_context.specs.Core.{guest_of}
 use Rattle.canon_context.specs.declared.fault.Fault.TheVariants as fault
 use Rattle.canon_func.specs.Drop.{DropAnswers, IsDrop, LeavesMemory, destructor_at, destructor_events, drop_refusal}
@@ -20,7 +20,7 @@ use Rattle.canon_transcript.specs.declared.transcript.Answer.TheVariants as answ
 use Rattle.canon_transcript.specs.declared.transcript.Record.{Record}
 use Rattle.canon_player.specs.Session.{DroppedAt, DroppedBy, IsEnd, LeavesSame, Removed, State, WasDropped, WasRemoved, answer_values, drop_plan, answer_outcome}
 use Rattle.canon_player.specs.Stores.{ScriptStore, state_of, with_plan}
-use Rattle.canon_player.proofs.Played.{IsOther, answers_error, journaled, on_answered}
+use Rattle.canon_player.proofs.Played.{IsOther, StoreMoves, answers_error, journaled, on_answered}
 
 -- no value was answered
 no_vals : (a : Answer) (d : Result (Unit {0}) Error) → answer_outcome a ≡ d → OnOk d (answer_values a ≡ []) → answer_values a ≡ []
@@ -50,11 +50,8 @@ removed_by x s left (Err e) n h memory = absurd h
 abbrev pub readied : Bool → ScriptStore → ScriptStore
 readied dtor_trap s = with_plan s (drop_plan dtor_trap s.core.guest.guest.plan.allocator)
 
-abbrev pub Moving : GuestIn (Recorded Doing) → List Event → GuestIn (Recorded Doing) → Type 0
-Moving g es h = ScriptMoves (of_guest g) es (of_guest h)
-
 abbrev pub Dropping : GivenIndex → ScriptStore → ScriptStore → Result (Unit {0}) Error → Type 0
-Dropping i before left dropped = IsDrop journaled Moving LeavesSame i before left dropped
+Dropping i before left dropped = IsDrop journaled StoreMoves LeavesSame i before left dropped
 
 -- The store is `s` before the guest is loaded, and `left` as the drop leaves it.
 module _ (x : Any) (dtor_trap : Bool) (r : Record) (s left : ScriptStore) (dropped : Result (Unit {0}) Error)
@@ -72,8 +69,9 @@ module _ (x : Any) (dtor_trap : Bool) (r : Record) (s left : ScriptStore) (dropp
       let es : List Event = destructor_events d s.core.memory dropped in
       let gained : left.core.guest.events ≡ s.core.guest.events ++ es = ap (λ o. unwrap_or o []) h.destructor.goes.events in
       let all : r.events ≡ es = events ∙ (gained ∙ ap (λ (xs : List Event). xs ++ es) empty) in
-      let moved : ScriptMoves (of_guest (guest_of (readied dtor_trap s).core)) es (of_guest (guest_of left.core)) = on_answered dropped _ short h.destructor.moved in
-      let none : moved.new_marks ≡ [] = no_marks s.core.guest.guest.marks moved.new_marks left.core.guest.guest.marks moved.marks h.destructor.goes.marks in
+      let moved : StoreMoves (guest_of (readied dtor_trap s).core) es (guest_of left.core) = on_answered dropped _ short h.destructor.moved in
+      let did = moved.moves in
+      let none : did.new_marks ≡ [] = no_marks s.core.guest.guest.marks did.new_marks left.core.guest.guest.marks did.marks h.destructor.goes.marks in
       record {
         removed = subst (λ (c : Result (Unit {0}) Error). Removed i (state_of s) (state_of left) c) (sym out) (removed_by i (readied dtor_trap s) left dropped short h.outcome h.destructor.memory);
         played = played;
@@ -81,14 +79,15 @@ module _ (x : Any) (dtor_trap : Bool) (r : Record) (s left : ScriptStore) (dropp
         ran = all ∙ ap (λ (c : Result (Unit {0}) Error). destructor_events d s.core.memory c) (sym out);
         left = left.core.guest.guest.plan;
         does = subst (λ (xs : List Event). CarriesOut (drop_plan dtor_trap s.core.guest.guest.plan.allocator) (length s.core.memory) xs [] left.core.guest.guest.plan (length left.core.memory)) (sym all)
-            (subst (λ (ms : List Mark). CarriesOut (drop_plan dtor_trap s.core.guest.guest.plan.allocator) (length s.core.memory) es ms left.core.guest.guest.plan (length left.core.memory)) none moved.does);
+            (subst (λ (ms : List Mark). CarriesOut (drop_plan dtor_trap s.core.guest.guest.plan.allocator) (length s.core.memory) es ms left.core.guest.guest.plan (length left.core.memory)) none did.does);
         served_none = served;
         store = id;
         log = ap (λ (m : ScriptedImports). entries_of m.lines.items) kept;
         refusals = ap (λ (m : ScriptedImports). m.refusals) kept;
         allocator = refl;
         marks = h.destructor.goes.marks ∙ append-nil s.core.guest.guest.marks;
-        traps = subst (λ (xs : List Event). left.core.guest.guest.traps ≡ traps_after s.core.guest.guest.traps xs) (sym all) moved.traps;
+        traps = subst (λ (xs : List Event). left.core.guest.guest.traps ≡ traps_after s.core.guest.guest.traps xs) (sym all) did.traps;
+        shortages = moved.shortages;
       }
 
   dropped_at : (i : GivenIndex) (o : Option Error) → IfSome o (λ e. (dropped ≡ Err e) × (left ≡ readied dtor_trap s)) → IfNone o (Drops i) → DroppedAt i dtor_trap (state_of s) (state_of left) r o

@@ -11,7 +11,7 @@ use Rattle.canon_model.specs.Memory.{Block}
 use Rattle.canon_host.specs.HostSide.{Giving, HostSide, host_side}
 use Rattle.canon_imports.specs.Imports.{GivesAnswers, entries_of}
 use Rattle.canon_memory.specs.declared.event.Event.{Event}
-use Rattle.canon_memory.specs.Guest.{GuestIn, Moment, Recorded, Seen, guest_in, of_guest}
+use Rattle.canon_memory.specs.Guest.{GuestIn, JournaledMoves, Moment, Recorded, Seen, guest_in}
 use Rattle.canon_scripted.specs.declared.actions.Action.{Action}
 use Rattle.canon_scripted.specs.declared.orders.Ordered.{Ordered}
 use Rattle.canon_scripted.specs.Allocator.{Allocator}
@@ -89,12 +89,12 @@ abbrev pub journaled : Recorded Doing → Seen
 journaled j = record (seen_of j.guest) { journal = Some j.events; shortages = j.shortages }
 
 -- by this the journaled guest of a store goes on
-abbrev pub JournaledMoves : GuestIn (Recorded Doing) → List Event → GuestIn (Recorded Doing) → Type 0
-JournaledMoves j events k = ScriptMoves (of_guest j) events (of_guest k)
+abbrev pub StoreMoves : GuestIn (Recorded Doing) → List Event → GuestIn (Recorded Doing) → Type 0
+StoreMoves = JournaledMoves ScriptMoves
 
 -- the guest of a store went from ask to ask, and on to that of the other
 abbrev pub EnteredLives : {R : Type 0} → ScriptStore → ScriptStore → Result R Error → List Leg → List Event → Type 0
-EnteredLives loaded left called = LivesUntil journaled JournaledMoves (guest_of loaded.core) (guest_of left.core) called
+EnteredLives loaded left called = LivesUntil journaled StoreMoves (guest_of loaded.core) (guest_of left.core) called
 
 -- what a store has beside its guest
 abbrev pub side_of : ScriptStore → HostSide (Unit {0})
@@ -143,7 +143,7 @@ lives_as args its P Q Leaves gives callee limits before after host left called e
 -- what the call ensures once the guest was entered
 abbrev pub Entered : {R : Type 0} → Arguments → ReturnedValues R → Callee → ScriptStore → ScriptStore → Result R Error → Type 0
 Entered args its callee loaded left called = Adding (moment_of journaled loaded.core) (moment_of journaled left.core)
-    (λ events. OnAnswered called (ScriptMoves (of_guest (guest_of loaded.core)) events (of_guest (guest_of left.core))))
+    (λ events. OnAnswered called (StoreMoves (guest_of loaded.core) events (guest_of left.core)))
     (λ events. IsCallOf args its (EnteredLives loaded left called) LeavesSame (GivesAnswers (answers_of loaded)) callee (limits_of loaded) (moment_of journaled loaded.core) (moment_of journaled left.core) (side_of loaded) (side_of left) called events)
 
 -- what became of a call, where it was refused before the guest was entered or not
@@ -171,9 +171,9 @@ module _ {R : Type 0} (args : Arguments) (its : ReturnedValues R) (Told : R → 
   -- the guest acted by its plan from ask to ask
   lives_by : (legs : List Leg) (es : List Event) → EnteredLives loaded left called legs es → LivesBy starts ends legs es
   lives_by legs es h =
-      legs_as JournaledMoves ActsBy (λ j. (journaled j.guest).live) (λ g. g.guest.allocator.live) (λ j rest. OnAnswered called (JournaledMoves j rest (guest_of left.core))) (λ g rest. ActsBy g rest ends)
-      (λ j. record { guest = j.guest.guest.plan; len = j.len }) (λ j xs k moved. (moved.new_marks, moved.does)) (λ j. refl)
-      (λ j xs moved. let did : JournaledMoves j xs (guest_of left.core) = on_answered called _ short moved in (did.new_marks, did.does)) (guest_of loaded.core) legs es h
+      legs_as StoreMoves ActsBy (λ j. (journaled j.guest).live) (λ g. g.guest.allocator.live) (λ j rest. OnAnswered called (StoreMoves j rest (guest_of left.core))) (λ g rest. ActsBy g rest ends)
+      (λ j. record { guest = j.guest.guest.plan; len = j.len }) (λ j xs k moved. (moved.moves.new_marks, moved.moves.does)) (λ j. refl)
+      (λ j xs moved. let did : StoreMoves j xs (guest_of left.core) = on_answered called _ short moved in (did.moves.new_marks, did.moves.does)) (guest_of loaded.core) legs es h
 
   -- the call, by the events before it, those that are printed after it, and the events that it added
   abbrev Calls : List Event → List Event → List Event → Type 0
@@ -193,7 +193,8 @@ module _ {R : Type 0} (args : Arguments) (its : ReturnedValues R) (Told : R → 
       lives_by entered.so in
       let one : Calls [] left.core.guest.events entered.events = subst (λ (es : List Event). Calls es left.core.guest.events entered.events) empty so in
       let two : Calls [] r.events entered.events = subst (λ (es : List Event). Calls [] es entered.events) (sym events) one in
-      let moved : ScriptMoves (of_guest (guest_of loaded.core)) entered.events (of_guest (guest_of left.core)) = on_answered called _ short (entered.moves refl) in
+      let moved : StoreMoves (guest_of loaded.core) entered.events (guest_of left.core) = on_answered called _ short (entered.moves refl) in
+      let did = moved.moves in
       record {
         ended = called;
         told = told;
@@ -202,11 +203,12 @@ module _ {R : Type 0} (args : Arguments) (its : ReturnedValues R) (Told : R → 
             (call_logged args its (GivesAnswers (answers_of s)) callee s.core.fuel one.turns one.late_guest (session.moment_with_events (state_of left) left.core.guest.events) one.late one.late_trap
             (host_side_of before) (host_side_of after) one.given called entered.events one.tail before.log refl one.handles) lines serves;
         left = left.core.guest.guest.plan;
-        new_marks = moved.new_marks;
-        does = subst (λ (es : List Event). CarriesOut (plan before.allocator) (length before.memory) es moved.new_marks left.core.guest.guest.plan (length after.memory)) (sym all) moved.does;
+        new_marks = did.new_marks;
+        does = subst (λ (es : List Event). CarriesOut (plan before.allocator) (length before.memory) es did.new_marks left.core.guest.guest.plan (length after.memory)) (sym all) did.does;
         allocator = refl;
-        marks = moved.marks;
-        traps = subst (λ (es : List Event). after.traps ≡ traps_after before.traps es) (sym all) moved.traps;
+        marks = did.marks;
+        traps = subst (λ (es : List Event). after.traps ≡ traps_after before.traps es) (sym all) did.traps;
+        shortages = moved.shortages;
         trapped = trapped_by called s.trapped left.trapped free runs traps;
         sufficed = short;
       }
@@ -285,7 +287,7 @@ on_answered_with (Err e) results P p = p
 -- what a call of dynamic values ensures once the guest was entered
 abbrev pub EnteredWith : Callee → List Val → ScriptStore → ScriptStore → Result (Unit {0}) Error → List Val → Type 0
 EnteredWith callee params loaded left called results = Adding (moment_of journaled loaded.core) (moment_of journaled left.core)
-    (λ events. OnAnswered called (ScriptMoves (of_guest (guest_of loaded.core)) events (of_guest (guest_of left.core))))
+    (λ events. OnAnswered called (StoreMoves (guest_of loaded.core) events (guest_of left.core)))
     (λ events. IsCall (EnteredLives loaded left called) LeavesSame (GivesAnswers (answers_of loaded)) callee (limits_of loaded) params (moment_of journaled loaded.core) (moment_of journaled left.core) (side_of loaded) (side_of left) called results events)
 
 entered_with : (callee : Callee) (params : List Val) (before left : ScriptStore) (called : Result (Unit {0}) Error) (results : List Val) → EnteredWith callee params before left called results
@@ -296,7 +298,7 @@ entered_with callee params before left called results h = record {
   moves = λ some. on_answered_with called results _ (h.moves some);
   so = lives_as (dynamic callee params) (dynamic_results callee) (EnteredLives before left called) (EnteredLives before left (with_results called results)) LeavesSame (GivesAnswers (answers_of before)) callee (limits_of before)
       (moment_of journaled before.core) (moment_of journaled left.core) (side_of before) (side_of left) (with_results called results) h.events
-      (legs_so JournaledMoves (λ j. (journaled j.guest).live) (λ j rest. OnAnswered called (JournaledMoves j rest (guest_of left.core))) (λ j rest. OnAnswered (with_results called results) (JournaledMoves j rest (guest_of left.core)))
+      (legs_so StoreMoves (λ j. (journaled j.guest).live) (λ j rest. OnAnswered called (StoreMoves j rest (guest_of left.core))) (λ j rest. OnAnswered (with_results called results) (StoreMoves j rest (guest_of left.core)))
       (λ j es moved. on_answered_with called results _ moved) (guest_of before.core)) h.so;
 }
 

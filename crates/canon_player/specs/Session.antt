@@ -223,6 +223,7 @@ pub record WasCalled {R : Type 0} (args : Arguments) (its : ReturnedValues R) (T
   pub allocator : after.allocator ≡ left.allocator
   pub marks : after.marks ≡ before.marks ++ new_marks
   pub traps : after.traps ≡ traps_after before.traps r.events
+  pub shortages : after.shortages ≡ before.shortages
   pub trapped : after.trapped ≡ is_err ended
   pub sufficed : ended ≢ Err (error.Fault fault.OutOfMemory)
 
@@ -329,6 +330,7 @@ pub record WasRemoved (x : GivenIndex) (dtor_trap : Bool) (before after : State)
   pub allocator : after.allocator ≡ left.allocator
   pub marks : after.marks ≡ before.marks
   pub traps : after.traps ≡ traps_after before.traps r.events
+  pub shortages : after.shortages ≡ before.shortages
 
 -- refused before a scope was entered, or not
 abbrev pub DroppedAt : GivenIndex → Bool → State → State → Record → Option Error → Type 0
