@@ -41,7 +41,8 @@ module _ {T G R : Type 0} (args : Arguments) (its : ReturnedValues R) (gives : G
       → Serving (moment_of seen mid) (moment_of seen after) (λ es. OnAnswered result (moves (guest_of mid) es (guest_of after)))
       (IsRest its gives callee limits (LivesUntil seen moves (guest_of mid) (guest_of after) result) Leaves words.items (moment_of seen mid) (moment_of seen after) (host_side mid log refusals) left answer) → Within result answer before after left
   lowered result answer before mid after left words same goes_on first second =
-      call_started args its gives callee limits (LivesUntil seen moves (guest_of before) (guest_of after) result) Leaves (LivesUntil seen moves (guest_of mid) (guest_of after) result) (moment_of seen before) (moment_of seen mid) (moment_of seen after) (host_side before log refusals) (host_side mid log refusals) left
+      call_started args its gives callee limits (LivesUntil seen moves (guest_of before) (guest_of after) result) Leaves (LivesUntil seen moves (guest_of mid) (guest_of after) result)
+      (moment_of seen before) (moment_of seen mid) (moment_of seen after) (host_side before log refusals) (host_side mid log refusals) left
       (side_handles before mid log refusals same) words answer
       (λ es. moves (guest_of before) es (guest_of mid))
       (told_after_lowering (moment_of seen before) (moment_of seen mid) first.events first.added)

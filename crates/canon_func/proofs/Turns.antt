@@ -299,7 +299,8 @@ module _ {T : Type 0} (gives : Giving T) (callee : Callee) (limits : Limits) (Li
       lived = h.lived;
     }
 
-    pub ran_exhausted : (asks : (legs : List Leg) (xs : List Event) → Lives legs xs → Lives (legs ++ record { events = xs; live = now.guest.live } ∷ []) []) (index : ℕ) (asked : List ℕ) (h : Stepping gives callee limits Lives words before now host served count (step.Import index asked)) → count ≡ limits.turns
+    pub ran_exhausted : (asks : (legs : List Leg) (xs : List Event) → Lives legs xs → Lives (legs ++ record { events = xs; live = now.guest.live } ∷ []) []) (index : ℕ) (asked : List ℕ) (h : Stepping gives callee limits Lives words before now host served count (step.Import index asked))
+        → count ≡ limits.turns
         → RunsUntil gives callee limits Lives words before now host served (Err error.TurnsExhausted) (answers_in h.turns) (so_far callee words before h.turns (event.Ask index asked now.bytes ∷ []))
     ran_exhausted asks index asked h all = record {
       turns = h.turns;

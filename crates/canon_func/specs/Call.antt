@@ -308,7 +308,8 @@ LivesUntil seen moves before after answer = ByLegs moves (λ g. (seen g.guest).l
 -- A call that wasn't refused before the guest was entered, by its parameters, what its results are, how its guest went from ask to ask,
 -- what a post-return may leave, what functions of the host may give, its callee, what it may use, the moments and the host before and
 -- after, its answer and the events that it adds to an exposed journal.
-pub record IsCallOf {T R : Type 0} (args : Arguments) (its : ReturnedValues R) (Lives : List Leg → List Event → Type 0) (Leaves : List ℕ → List ℕ → Type 0) (gives : Giving T) (callee : Callee) (limits : Limits) (before after : Moment) (host left : HostSide T) (answer : Result R Error) (events : List Event) : Type 0 where
+pub record IsCallOf {T R : Type 0} (args : Arguments) (its : ReturnedValues R) (Lives : List Leg → List Event → Type 0) (Leaves : List ℕ → List ℕ → Type 0) (gives : Giving T) (callee : Callee) (limits : Limits)
+    (before after : Moment) (host left : HostSide T) (answer : Result R Error) (events : List Event) : Type 0 where
   -- The guest made one run; of a refused call the events are a prefix of one.
   pub one_run : OnOk answer (IsOneRun callee.func callee.post events)
   pub prefix : IsPrefixOfRun callee.func callee.post (length before.bytes) events

@@ -163,7 +163,8 @@ impl<T, G: Guest, I: Imports<T, G>> Store<T, G, I> {
         ensures call { Adding (moment_of G.seen self.old.core) (moment_of G.seen self.new.core)
             (λ events. OnAnswered result (G.moves (guest_of self.old.core) events (guest_of self.new.core)))
             (λ events. IsCallOf (P.args params.old (export_callee self.old.core.component export.now)) (R.returns (export_callee self.old.core.component export.now) export.now.options self.old.core.id)
-            (LivesUntil G.seen G.moves (guest_of self.old.core) (guest_of self.new.core) result) G.leaves (I.gives (I.plan self.old.imports)) (export_callee self.old.core.component export.now) (allowed self.old.core.fuel self.old.turns) (moment_of G.seen self.old.core) (moment_of G.seen self.new.core)
+            (LivesUntil G.seen G.moves (guest_of self.old.core) (guest_of self.new.core) result) G.leaves (I.gives (I.plan self.old.imports)) (export_callee self.old.core.component export.now)
+            (allowed self.old.core.fuel self.old.turns) (moment_of G.seen self.old.core) (moment_of G.seen self.new.core)
             (host_side self.old.core (I.log self.old.imports) (I.refusals self.old.imports)) (host_side self.new.core (I.log self.new.imports) (I.refusals self.new.imports)) (map_ok R.out result) events) }
         ensures late { IfErr result IsLate }
         ensures counted { IfOk result (R.counted (export_callee self.old.core.component export.now)) }

@@ -1,5 +1,5 @@
 -- Numbers as bytes, the lowest byte first.
-use Rattle.std.proofs.Common.{List, [], ap, ap₂, arith, div-one, length, pow-suc, refl, subst, suc, sym, take, w64, zero, ℕ, ◌%◌, ◌*◌, ◌+◌, ◌/◌, ◌<◌, ◌^◌, ◌∙◌, ◌∷◌, ◌≡◌, ◌≤◌}
+use Rattle.std.proofs.Common.{List, [], ap, ap₂, arith, div-one, length, pow-suc, refl, suc, sym, take, w64, zero, ℕ, ◌%◌, ◌*◌, ◌+◌, ◌/◌, ◌<◌, ◌^◌, ◌∙◌, ◌∷◌, ◌≡◌, ◌≤◌}
 use Rattle.std.specs.Prelude.{slice_index}
 use Rattle.std.proofs.Math.Arith.{mod-mul}
 use Rattle.std.proofs.Math.Nat.{div-div-eq-div-mul, one-le-pow}

@@ -1,14 +1,13 @@
 -- A case that is read: its number, and then its payload.
-use Rattle.std.proofs.Common.{Err, List, Ok, ap, arith, drop, inl, length, refl, subst, sym, ℕ, ◌*◌, ◌+◌, ◌-◌, ◌<◌, ◌^◌, ◌∙◌, ◌≡◌, ◌≤◌}
+use Rattle.std.proofs.Common.{Err, List, ap, arith, drop, inl, length, refl, subst, sym, ℕ, ◌*◌, ◌+◌, ◌-◌, ◌<◌, ◌∙◌, ◌≡◌, ◌≤◌}
 use Rattle.std.specs.Prelude.{slice_index}
-use Rattle.std.specs.declared.alloc.Global.{Global}
 use Rattle.std.proofs.lemmas.List.{length-map}
 use Rattle.canon_lowering.specs.Copies.{case_members}
 use Rattle.canon_lowering.specs.Storing.{narrow}
 use Rattle.canon_model.specs.Image.{IsField}
 use Rattle.canon_model.specs.Layout.{tag_size}
 use Rattle.canon_model.specs.Memory.{num}
-use Rattle.canon_model.specs.Shape.{Members, Name, Shape, VariantKind, case_count, member_count, variant}
+use Rattle.canon_model.specs.Shape.{Members, Shape, VariantKind, case_count, member_count, variant}
 use Rattle.canon_types.specs.Depth.{deepest, depth, variant_cases}
 use Rattle.canon_types.specs.Keeps.{flags_type, names_of}
 use Rattle.canon_types.specs.Table.{IsDefined, TypeTable}

@@ -1,13 +1,12 @@
 -- One answer comes exactly where its cause stands: two causes stand together only where they are the same.
-use Rattle.std.proofs.Common.{Err, List, Ok, Result, Vec, [], append-nil, ap, arith, length, length-append, refl, subst, sym, ℕ, ◌+◌, ◌++◌, ◌<◌, ◌∙◌, ◌∷◌, ◌≡◌, ◌⊎◌, inl}
+use Rattle.std.proofs.Common.{Err, List, Ok, Result, Vec, [], append-nil, ap, arith, length, length-append, refl, subst, sym, ℕ, ◌∙◌, ◌∷◌, ◌≡◌, inl}
 use Rattle.std.specs.declared.alloc.Global.{Global}
 use Rattle.canon_model.proofs.Images.{image_bytes, image_front}
 use Rattle.canon_model.specs.Image.{Image}
 use Rattle.canon_model.specs.Same.{Carried, CarriedTrees}
-use Rattle.canon_model.specs.Shape.{Members, Shape, member, no_members}
+use Rattle.canon_model.specs.Shape.{Shape, member, no_members}
 use Rattle.canon_model.specs.Text.{utf8}
-use Rattle.canon_model.specs.Tree.{Tree, Trees, no_trees, tree}
-use Rattle.canon_plan.specs.NoHandle.{HasNoHandle}
+use Rattle.canon_model.specs.Tree.{Tree, no_trees, tree}
 use Rattle.canon_context.specs.declared.fault.Fault.{Fault}
 use Rattle.canon_context.specs.declared.fault.Fault.TheVariants as fault
 use Rattle.canon_value_parts.specs.Fails.{BlamesValue, Failure, FailsAt, IsTypeFailure, field_name, mismatch, payload_expected, payload_not_expected, unknown_case, unknown_flag, wrong_length}

@@ -1,6 +1,5 @@
 -- Fields that are read from the bytes at a place.
-use Rattle.std.proofs.Common.{Err, IsUtf8, List, Ok, Option, Some, Result, String, [], append-nil, ap, ap₂, arith, chars, drop, drop-drop, false, inl, inr, length, length-append, length-drop, length-take-le, refl, string_bytes, subst, sym, take, ℕ, ⊎_elim, ◌+◌, ◌++◌, ◌-◌, ◌<◌, ◌^◌, ◌∙◌, ◌≡◌, ◌≤◌, ◌⊎◌}
-use Rattle.std.specs.Bool.{⊤}
+use Rattle.std.proofs.Common.{Err, IsUtf8, List, Ok, Option, Some, Result, String, append-nil, ap, ap₂, arith, chars, drop, drop-drop, false, inr, length, length-drop, length-take-le, refl, string_bytes, subst, sym, take, ℕ, ⊎_elim, ◌+◌, ◌++◌, ◌-◌, ◌<◌, ◌^◌, ◌∙◌, ◌≡◌, ◌≤◌, ◌⊎◌}
 use Rattle.std.specs.Prelude.{slice_index}
 use Rattle.std.specs.Str.{encode_utf8_all}
 use Rattle.std.specs.declared.alloc.Global.{Global}
@@ -25,7 +24,7 @@ use Rattle.canon_model.specs.Tree.{Tree, bits, text}
 use Rattle.canon_types.specs.Table.{TypeTable, shape_of}
 use Rattle.canon_types.specs.declared.types.InterfaceType.{InterfaceType}
 use Rattle.canon_types.specs.declared.types.InterfaceType.TheVariants as ty
-use Rattle.canon_plan.specs.NoHandle.{IsScalarType, scalar_type}
+use Rattle.canon_plan.specs.NoHandle.{scalar_type}
 use Rattle.canon_plan.proofs.ScalarTypes.{scalar_shape}
 use Rattle.canon_val.specs.Value.{HasScalar, IsLiftedFrom}
 use Rattle.canon_val.specs.declared.val.Val.{Val}
@@ -34,7 +33,7 @@ use Rattle.canon_image_parts.proofs.Bytes.{le_number_bytes}
 use Rattle.canon_image_parts.proofs.Fields.{length-le_bytes}
 use Rattle.canon_image_parts.proofs.Reading.{first_span}
 use Rattle.canon_image_parts.specs.Read.{NumberReadTo, ReadsTo, Spans}
-use Rattle.canon_image_parts.specs.Stops.{IsSpelling, NumberStops, StopsAt, TextStops, malformed, truncated}
+use Rattle.canon_image_parts.specs.Stops.{IsSpelling}
 use Rattle.canon_image_parts.specs.declared.error.ImageError.TheVariants as error
 
 -- ---- a number at a place

@@ -1,5 +1,5 @@
 -- Flags at the end of some bytes.
-use Rattle.std.proofs.Common.{Err, List, Ok, Result, String, Vec, [], append-nil, ap, arith, drop, get_or, inl, inr, length, length-append, length-drop, length-take-le, refl, replicate, subst, sym, take, ℕ, ⊎_elim, ◌*◌, ◌+◌, ◌++◌, ◌-◌, ◌⊎◌, ◌<◌, ◌^◌, ◌∙◌, ◌≡◌, ◌≤◌}
+use Rattle.std.proofs.Common.{Err, List, Ok, Result, String, Vec, [], append-nil, ap, arith, drop, inl, inr, length, length-append, length-drop, length-take-le, refl, replicate, subst, sym, take, ℕ, ⊎_elim, ◌+◌, ◌++◌, ◌-◌, ◌⊎◌, ◌<◌, ◌^◌, ◌∙◌, ◌≡◌, ◌≤◌}
 use Rattle.std.specs.Prelude.{slice_index}
 use Rattle.std.specs.declared.alloc.Global.{Global}
 use Rattle.std.proofs.lemmas.Bool.{cases_lt, false≢true}

@@ -1,9 +1,9 @@
 -- A map, read pair by pair.
-use Rattle.std.proofs.Common.{Err, List, Ok, Result, Vec, [], append-nil, append_assoc, ap, arith, drop, inl, inr, length, length-append, refl, subst, suc, sym, true, zero, ℕ, ◌+◌, ◌++◌, ◌-◌, ◌<◌, ◌^◌, ◌∙◌, ◌∷◌, ◌≡◌, ◌≤◌}
+use Rattle.std.proofs.Common.{Err, List, Ok, Vec, [], append-nil, append_assoc, ap, arith, drop, inl, inr, length, refl, subst, suc, sym, true, ℕ, ◌+◌, ◌++◌, ◌-◌, ◌<◌, ◌^◌, ◌∙◌, ◌∷◌, ◌≡◌, ◌≤◌}
 use Rattle.std.specs.Bool.{⊤}
 use Rattle.std.specs.declared.alloc.Global.{Global}
-use Rattle.canon_model.specs.Image.{EachImage, Image, IsField, le_bytes}
-use Rattle.canon_model.specs.Shape.{Shape, list, map_of, of_pairs}
+use Rattle.canon_model.specs.Image.{EachImage, Image, le_bytes}
+use Rattle.canon_model.specs.Shape.{Shape}
 use Rattle.canon_model.specs.Tree.{Tree, Trees, items, no_trees, parts, tree, tree_count}
 use Rattle.canon_types.specs.Depth.{element_shape}
 use Rattle.canon_plan.specs.Element.{IsMap, first_of, second_of}
@@ -13,8 +13,8 @@ use Rattle.canon_val.specs.declared.val.Val.TheVariants as val
 use Rattle.canon_value_parts.proofs.Contents.{each_count}
 use Rattle.canon_image_parts.proofs.Reading.{first_span, first_stops, spans_join, spans_none, stops_as, stops_later}
 use Rattle.canon_image_parts.proofs.PairsWriting.{pair_of}
-use Rattle.canon_image_parts.specs.Read.{NumberReadTo, PairsReadTo, ReadsTo, Spans, StopsFrom}
-use Rattle.canon_image_parts.specs.Stops.{RowStops, Stop, StopsAt}
+use Rattle.canon_image_parts.specs.Read.{NumberReadTo, ReadsTo, Spans, StopsFrom}
+use Rattle.canon_image_parts.specs.Stops.{RowStops, StopsAt}
 use Rattle.canon_image_parts.specs.declared.error.ImageError.{ImageError}
 
 abbrev pub PairsRead : List ℕ → ℕ → ℕ → Shape → ℕ → List (Val × Val) → Type 0

@@ -1,26 +1,26 @@
 -- Steps of reading an image, over plain lists.
-use Rattle.std.proofs.Common.{Err, List, Ok, Result, Vec, [], append-nil, append_assoc, ap, arith, drop, drop-drop, inl, inr, length, length-append, length-drop, refl, subst, suc, sym, true, zero, ℕ, ◌%◌, ◌+◌, ◌++◌, ◌<◌, ◌^◌, ◌∙◌, ◌∷◌, ◌≡◌, ◌≤◌, ◌⊎◌}
+use Rattle.std.proofs.Common.{Err, List, Ok, Vec, [], append-nil, append_assoc, ap, arith, drop, inl, inr, length, length-append, refl, subst, suc, sym, true, zero, ℕ, ◌+◌, ◌++◌, ◌<◌, ◌^◌, ◌∙◌, ◌∷◌, ◌≡◌, ◌≤◌}
 use Rattle.std.specs.Bool.{⊤}
 use Rattle.std.specs.declared.alloc.Global.{Global}
 use Rattle.canon_lowering.specs.Copies.{case_members, case_tree, copies}
-use Rattle.canon_model.specs.Image.{CaseImage, EachImage, Image, IsField, MembersImage, le_bytes}
+use Rattle.canon_model.specs.Image.{Image, IsField, MembersImage, le_bytes}
 use Rattle.canon_model.specs.Layout.{tag_size}
-use Rattle.canon_model.specs.Shape.{Cases, Members, Name, Shape, VariantKind, bare, borrow, case_count, fixed, flags, list, member, member_count, no_cases, no_members, of_items, of_pairs, own, payload, product, scalar, string, variant}
-use Rattle.canon_model.specs.Tree.{Tree, Trees, items, no_trees, parts, tree, tree_count}
+use Rattle.canon_model.specs.Shape.{Cases, Members, Shape, VariantKind, bare, borrow, case_count, fixed, flags, list, member, member_count, no_cases, no_members, of_items, own, payload, product, scalar, string, variant}
+use Rattle.canon_model.specs.Tree.{Trees, items, no_trees, parts, tree}
 use Rattle.canon_types.specs.Depth.{variant_cases}
 use Rattle.canon_types.specs.Table.{TypeTable, shape_of}
 use Rattle.canon_plan.specs.Plan.{IsSlot, LiesAs, members_from}
 use Rattle.canon_plan.specs.declared.plan.Slot.{Slot}
-use Rattle.canon_plan.proofs.Lookups.{copies_count, members_from-all}
+use Rattle.canon_plan.proofs.Lookups.{members_from-all}
 use Rattle.canon_value_parts.specs.Plan.{IsCaseRebuilt, IsRebuilt, parts_of}
-use Rattle.canon_val.specs.Value.{AreLiftedFrom, EachHas, HaveTreesAs, IsLiftedFrom}
+use Rattle.canon_val.specs.Value.{AreLiftedFrom}
 use Rattle.canon_val.specs.declared.val.Val.{Val}
 use Rattle.canon_val.specs.declared.val.Val.TheVariants as val
 use Rattle.canon_value_parts.proofs.Walks.{copies_have}
-use Rattle.canon_image_parts.proofs.Fields.{field_length, length-le_bytes}
+use Rattle.canon_image_parts.proofs.Fields.{length-le_bytes}
 use Rattle.canon_image_parts.proofs.Writing.{case_imaged, copies_image}
-use Rattle.canon_image_parts.specs.Read.{NumberReadTo, PartsReadTo, ReadsTo, Spans, StopsFrom}
-use Rattle.canon_image_parts.specs.Stops.{CaseStops, FirstStops, MembersStop, NumberStops, RowStops, Stop, StopsAt, malformed, truncated}
+use Rattle.canon_image_parts.specs.Read.{NumberReadTo, ReadsTo, Spans, StopsFrom}
+use Rattle.canon_image_parts.specs.Stops.{CaseStops, FirstStops, MembersStop, RowStops, Stop, StopsAt, malformed, truncated}
 use Rattle.canon_image_parts.specs.declared.error.ImageError.{ImageError}
 use Rattle.canon_image_parts.specs.declared.error.ImageError.TheVariants as error
 

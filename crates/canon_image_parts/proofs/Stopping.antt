@@ -1,14 +1,13 @@
 -- Reading stops nowhere in an image, and otherwise at one place and in one way.
-use Rattle.std.proofs.Common.{IsTrue, List, [], append-nil, append_assoc, ap, arith, inl, inr, length, refl, subst, suc, sym, take, zero, ℕ, ◌+◌, ◌++◌, ◌<◌, ◌^◌, ◌∙◌, ◌∷◌, ◌≡◌, ◌≤◌, ◌⊎◌}
+use Rattle.std.proofs.Common.{IsTrue, List, [], append_assoc, ap, arith, inl, inr, length, refl, subst, suc, sym, take, zero, ℕ, ◌+◌, ◌++◌, ◌<◌, ◌^◌, ◌∙◌, ◌∷◌, ◌≡◌}
 use Rattle.std.specs.Bool.{⊤}
 use Rattle.std.specs.Str.{all_scalars, encode_utf8_all}
 use Rattle.canon_model.proofs.Images.{image_front}
 use Rattle.canon_model.specs.Image.{CaseImage, EachImage, Image, IsField, MembersImage}
 use Rattle.canon_model.specs.Layout.{flags_size, scalar_size, tag_size}
-use Rattle.canon_model.specs.Rep.{IsLeast, ScalarIs, bits_of}
 use Rattle.canon_model.specs.Shape.{Cases, Members, Shape, bare, borrow, case_count, fixed, flags, list, member, no_cases, no_members, own, payload, product, scalar, string, variant}
 use Rattle.canon_model.specs.Tree.{Tree, Trees, no_trees, tree, tree_count}
-use Rattle.canon_image_parts.proofs.Fields.{append_parts, field_front, field_length, field_once, field_then, length-join}
+use Rattle.canon_image_parts.proofs.Fields.{field_length, field_once, field_then, length-join}
 use Rattle.canon_image_parts.specs.Laws.{StopsOnce}
 use Rattle.canon_image_parts.specs.Stops.{CaseStops, FirstStops, IsSpelling, MembersStop, NumberStops, RowStops, Stop, StopsAt, TextStops, malformed, truncated}
 

@@ -1,11 +1,11 @@
 -- Bytes that are read to their end.
-use Rattle.std.proofs.Common.{Err, List, Ok, Result, [], append-nil, ap, arith, drop, length, length-drop, refl, subst, sym, ℕ, ◌+◌, ◌++◌, ◌<◌, ◌∙◌, ◌≡◌, ◌≤◌}
+use Rattle.std.proofs.Common.{Err, List, Ok, [], append-nil, ap, arith, drop, length, length-drop, subst, sym, ℕ, ◌+◌, ◌++◌, ◌<◌, ◌∙◌, ◌≡◌, ◌≤◌}
 use Rattle.canon_model.specs.Image.{Image}
 use Rattle.canon_model.specs.Shape.{Shape}
 use Rattle.canon_plan.specs.NoHandle.{HasNoHandle}
 use Rattle.canon_plan.proofs.Lookups.{drop_all}
 use Rattle.canon_val.specs.declared.val.Val.{Val}
-use Rattle.canon_image_parts.specs.Read.{IsRead, ReadsTo, StopsFrom}
+use Rattle.canon_image_parts.specs.Read.{IsRead, ReadsTo}
 use Rattle.canon_image_parts.specs.Stops.{StopsAt, malformed, truncated}
 use Rattle.canon_image_parts.specs.declared.error.ImageError.{ImageError}
 use Rattle.canon_image_parts.specs.declared.error.ImageError.TheVariants as error

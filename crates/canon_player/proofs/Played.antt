@@ -7,7 +7,6 @@ use Rattle.std.proofs.lemmas.List.{length-map, with_items_is}
 use Rattle.std.proofs.lemmas.Option.{none-some}
 use Rattle.canon_func.proofs.Legs.{asks_so, legs_as, legs_so}
 use Rattle.canon_func.specs.Asks.{Limits}
-use Rattle.canon_model.specs.Memory.{Block}
 use Rattle.canon_host.specs.HostSide.{Giving, HostSide, host_side}
 use Rattle.canon_imports.specs.Imports.{GivesAnswers, entries_of}
 use Rattle.canon_memory.specs.declared.event.Event.{Event}

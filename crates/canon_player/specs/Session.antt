@@ -1,6 +1,5 @@
 -- What a script, played, leaves: one record for each item, in order, and the store between them.
 use Rattle.std.specs.Prelude.{Bool, Err, List, None, Ok, Option, Result, Some, [], false, is_err, length, map, nat_lt, not, replicate, slice_get, true, ℕ, ⊤, ◌⊎◌, ◌++◌, ◌∷◌, ◌≡◌, ◌≢◌, ◌||◌}
-use Rattle.canon_model.specs.Memory.{Block}
 use Rattle.canon_model.specs.Shape.{no_members}
 use Rattle.canon_indices.specs.Options.{encoding_of}
 use Rattle.canon_types.specs.Instance.{Instance}

@@ -1,5 +1,5 @@
-//! Resources: the ledger of a store's handles (of `canon_ledger`), and the resources of the host as values, whose type is
-//! whose types come from their Rust type, from a number or from the value itself, with the conversions between these.
+//! Resources: the ledger of a store's handles (of `canon_ledger`), and the resources of the host as values, whose types come
+//! from their Rust type, from a number or from the value itself, with the conversions between these.
 #![tactic(auto)]
 
 mod any;

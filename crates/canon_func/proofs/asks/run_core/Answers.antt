@@ -25,7 +25,8 @@ returns-in-Err-clause-did g c =
     let before = c.args.core.now in
     let after = c.start.new.core in
     let e = c.in-Err.error in
-    not_started (imports.gives (imports.plan i)) (export_callee before.component c.args.export.now) (allowed before.fuel c.args.turns) (LivesUntil {U = List ℕ} g.G.Guest.seen g.G.Guest.moves (guest_of before) (guest_of after) (Err e)) c.args.words.now (moment_of seen before) (host_side before (imports.log i) (imports.refusals i)) (moment_of seen after)
+    not_started (imports.gives (imports.plan i)) (export_callee before.component c.args.export.now) (allowed before.fuel c.args.turns) (LivesUntil {U = List ℕ} g.G.Guest.seen g.G.Guest.moves (guest_of before) (guest_of after) (Err e))
+    c.args.words.now (moment_of seen before) (host_side before (imports.log i) (imports.refusals i)) (moment_of seen after)
     (host_side after (imports.log i) (imports.refusals i)) e (λ es. OnAnswered {T = Step} (Err e) (moves (guest_of before) es (guest_of after))) (λ es h. retyped Step (List ℕ) e (moves (guest_of before) es (guest_of after)) h)
     (side_same before after (imports.log i) (imports.refusals i) c.in-Err.ensures.same) c.in-Err.ensures.did
 
@@ -82,7 +83,8 @@ returns-in-Err-serve-clause-did g c =
     subst (λ p. Serving (moment_of seen mid) (moment_of seen after) N (Serves (imports.gives p) callee before.fuel index asked (moment_of seen mid) (moment_of seen after) served left (Err e))) c.loop.invariant.plan
     (subst (λ q. Serving (moment_of seen mid) (moment_of seen after) N (Serves (imports.gives (imports.plan j)) (export_callee q.component c.args.export.now) q.fuel index asked (moment_of seen mid) (moment_of seen after) served left (Err e)))
     c.loop.invariant.same c.in-Err-serve.ensures.did) in
-    has_stopped gives callee limits (LivesUntil {U = List ℕ} g.G.Guest.seen g.G.Guest.moves (guest_of before) (guest_of after) (Err e)) words (moment_of seen before) host (moment_of seen mid) (moment_of seen after) served left before_lives N (told_later (moment_of seen before) (moment_of seen mid) _ _ so_far.goes)
+    has_stopped gives callee limits (LivesUntil {U = List ℕ} g.G.Guest.seen g.G.Guest.moves (guest_of before) (guest_of after) (Err e)) words (moment_of seen before) host (moment_of seen mid) (moment_of seen after) served left
+    before_lives N (told_later (moment_of seen before) (moment_of seen mid) _ _ so_far.goes)
     (λ xs ys p q. lives_then seen moves (List ℕ) (Unit {0}) tt (Err e) (guest_of before) (guest_of mid) (guest_of after) g.met.G.Guest.goes_on [] xs ys p (retyped Step (List ℕ) e (moves (guest_of mid) ys (guest_of after)) q))
     (λ legs xs ys p q. lives_ask seen moves (List ℕ) (Unit {0}) tt (Err e) (guest_of before) (guest_of mid) (guest_of after) legs xs ys p (retyped Step (List ℕ) e (moves (guest_of mid) ys (guest_of after)) q))
     c.loop.counter index asked e so_far (omega (arith, c.loop-test.true)) one
@@ -121,7 +123,8 @@ loop-preserved g c =
       same = then_host before mid after c.loop.invariant.same c.in-Ok-serve.ensures.same;
       plan = c.in-Ok-serve.ensures.plan ∙ c.loop.invariant.plan;
       ready = c.in-Ok-serve.ensures.still_ready;
-      stepping = stepping_more gives callee limits (LivesUntil {U = Unit {0}} g.G.Guest.seen g.G.Guest.moves (guest_of before) (guest_of after) (Ok tt)) words (moment_of seen before) host (moment_of seen mid) (moment_of seen after) served left before_lives (λ es. moves (guest_of mid) es (guest_of after))
+      stepping = stepping_more gives callee limits (LivesUntil {U = Unit {0}} g.G.Guest.seen g.G.Guest.moves (guest_of before) (guest_of after) (Ok tt)) words (moment_of seen before) host (moment_of seen mid) (moment_of seen after) served left
+          before_lives (λ es. moves (guest_of mid) es (guest_of after))
           (lives_then seen moves (Unit {0}) (Unit {0}) tt (Ok tt) (guest_of before) (guest_of mid) (guest_of after) g.met.G.Guest.goes_on [])
           (lives_ask seen moves (Unit {0}) (Unit {0}) tt (Ok tt) (guest_of before) (guest_of mid) (guest_of after)) c.loop.counter index asked next did.answers did.events so_far did.goes did.moves one;
     }
@@ -174,5 +177,6 @@ returns-clause-did g c =
     let host = host_side before (imports.log i) (imports.refusals i) in
     let served = host_side now (imports.log j) (imports.refusals j) in
     let lives : List Leg → List Event → Type 0 = LivesUntil {U = Unit {0}} g.G.Guest.seen g.G.Guest.moves (guest_of before) (guest_of now) (Ok tt) in
-    has_exhausted gives callee limits lives c.args.words.now (moment_of seen before) host (moment_of seen now) served c.loop.counter (λ legs xs p. lives_ask seen g.G.Guest.moves (Unit {0}) (Unit {0}) tt (Ok tt) (guest_of before) (guest_of now) (guest_of now) legs xs [] p (g.met.G.Guest.stays (guest_of now))) c.in-Import-step.index c.in-Import-step.words
+    has_exhausted gives callee limits lives c.args.words.now (moment_of seen before) host (moment_of seen now) served c.loop.counter
+    (λ legs xs p. lives_ask seen g.G.Guest.moves (Unit {0}) (Unit {0}) tt (Ok tt) (guest_of before) (guest_of now) (guest_of now) legs xs [] p (g.met.G.Guest.stays (guest_of now))) c.in-Import-step.index c.in-Import-step.words
     (subst (λ st. Stepping gives callee limits lives c.args.words.now (moment_of seen before) (moment_of seen now) host served c.loop.counter st) c.in-Import-step.is c.loop.invariant.stepping) (omega (arith, c.loop-test.false, c.loop.auto.counter-end))

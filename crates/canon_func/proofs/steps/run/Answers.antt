@@ -50,7 +50,8 @@ returns-in-Err-end_scope-clause-did g c =
     subst (λ k. Serving (moment_of seen before) (moment_of seen k) (λ es. OnAnswered {T = List ℕ} (Err e) (moves (guest_of before) es (guest_of k)))
     (RunsToEnd (imports.gives (imports.plan i)) callee limits (LivesUntil {U = List ℕ} seen moves (guest_of before) (guest_of k) (Err e)) c.args.words.now (moment_of seen before) (moment_of seen k) host (host_side k (imports.log j) (imports.refusals j)) (Err e)))
     (sym c.end_scope.ensures.same)
-    (run_unended (imports.gives (imports.plan i)) callee limits (LivesUntil {U = List ℕ} seen moves (guest_of before) (guest_of mid) (Ok returned)) c.args.words.now (moment_of seen before) (moment_of seen mid) host ran (record ran { ledger = after.ledger }) refl returned (LivesUntil {U = List ℕ} seen moves (guest_of before) (guest_of mid) (Err e))
+    (run_unended (imports.gives (imports.plan i)) callee limits (LivesUntil {U = List ℕ} seen moves (guest_of before) (guest_of mid) (Ok returned))
+    c.args.words.now (moment_of seen before) (moment_of seen mid) host ran (record ran { ledger = after.ledger }) refl returned (LivesUntil {U = List ℕ} seen moves (guest_of before) (guest_of mid) (Err e))
     (lives_answered seen moves (List ℕ) (List ℕ) returned (Err e) (guest_of before) (guest_of mid)) e
     (subst (λ k. Ended (export_callee k.component c.args.export.now) returned mid.ledger after.ledger (Err e)) c.run_core.ensures.same
     (subst (λ ws. Ended (export_callee mid.component c.args.export.now) ws mid.ledger after.ledger (Err e)) c.as_slice.ensures c.in-Err-end_scope.ensures.ended)) c.in-Ok.ensures.did)

@@ -1,17 +1,14 @@
-use Rattle.std.proofs.Common.{Err, List, Ok, Vec, [], ap, arith, drop, length, refl, rules, subst, sym, ℕ, ◌*◌, ◌+◌, ◌++◌, ◌-◌, ◌<◌, ◌^◌, ◌∙◌, ◌∷◌, ◌≡◌, ◌≤◌}
-use Rattle.std.specs.declared.alloc.Global.{Global}
-use Rattle.canon_abi.specs.Sizes.{tag_bytes}
-use Rattle.canon_lowering.specs.Copies.{case_members, copies}
+use Rattle.std.proofs.Common.{List, ap, arith, drop, length, subst, sym, ℕ, ◌+◌, ◌-◌, ◌<◌, ◌∙◌, ◌≡◌, ◌≤◌}
+use Rattle.canon_lowering.specs.Copies.{case_members}
 use Rattle.canon_lowering.specs.Storing.{narrow}
-use Rattle.canon_model.specs.Image.{IsField}
 use Rattle.canon_model.specs.Layout.{tag_size}
 use Rattle.canon_model.specs.Memory.{num}
-use Rattle.canon_model.specs.Shape.{Members, Shape, case_count, map_of, member_count}
-use Rattle.canon_types.specs.Depth.{deepest, depth, element_shape, variant_cases}
+use Rattle.canon_model.specs.Shape.{Members, Shape, case_count, member_count}
+use Rattle.canon_types.specs.Depth.{depth, element_shape, variant_cases}
 use Rattle.canon_types.specs.Table.{shape_of}
 use Rattle.canon_types.specs.declared.types.InterfaceType.TheVariants as ty
-use Rattle.canon_plan.specs.NoHandle.{HaveNoHandle, HasNoHandle}
-use Rattle.canon_plan.specs.Plan.{members_from, shapes_of}
+use Rattle.canon_plan.specs.NoHandle.{HasNoHandle}
+use Rattle.canon_plan.specs.Plan.{shapes_of}
 use Rattle.canon_plan.proofs.Pairs.{key_known, map_shape, value_known}
 use Rattle.canon_val.specs.declared.val.Val.{Val}
 use Rattle.canon_value_parts.proofs.Viewing.{lies_no_handle, lies_depth}
@@ -20,7 +17,7 @@ use Rattle.canon_value_parts.proofs.Walks.{copies_no_handle, copies_deepest}
 use Rattle.canon_image_parts.proofs.CaseReading.{case_cut, case_falls, case_none, payload_no_handle, payload_count, tag_here}
 use Rattle.canon_image_parts.proofs.Fetching.{left_short}
 use Rattle.canon_image_parts.proofs.PairsReading.{PairsAreRead, key_stop, map_read, map_stops, pair_read, pairs_begin, pairs_done, value_stop}
-use Rattle.canon_image_parts.proofs.Reading.{AreRead, PartsRead, all_read, begin_read, case_read, case_stopped, items_read, items_stop, member_read, member_stops, whole_count, whole_read, whole_stops}
+use Rattle.canon_image_parts.proofs.Reading.{AreRead, PartsRead, all_read, begin_read, case_read, case_stopped, items_read, items_stop, member_read, whole_count, whole_read, whole_stops}
 use Rattle.canon_image_parts.proofs.PairsWriting.{map_parts}
 use Rattle.canon_image_parts.proofs.Writing.{member_no_handle}
 use Rattle.canon_image_parts.specs.Read.{StopsFrom}

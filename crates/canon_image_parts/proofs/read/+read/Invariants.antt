@@ -1,5 +1,5 @@
 -- A type is deeper than its members; between them stand its members, or its list and its items.
-use Rattle.std.proofs.Common.{◌*◌, ◌+◌, ◌-◌, ◌≡◌, length, ℕ}
+use Rattle.std.proofs.Common.{◌*◌, ◌+◌, ◌-◌}
 use Rattle.canon_types.specs.Depth.{deepest, depth, element_shape}
 use Rattle.canon_types.specs.Table.{shape_of}
 use Rattle.canon_types.specs.declared.types.InterfaceType.TheVariants as ty

@@ -1,4 +1,4 @@
-use Rattle.std.proofs.Common.{arith, sym, ℕ, ◌%◌, ◌+◌, ◌/◌, ◌<◌, ◌∙◌, ◌≡◌, ◌≤◌}
+use Rattle.std.proofs.Common.{arith, sym, ◌%◌, ◌+◌, ◌/◌, ◌∙◌, ◌≡◌}
 use Rattle.std.proofs.lemmas.Nat.Bits.{shr_and_one}
 use Rattle.std.specs.Int.{bit_at}
 use Rattle.std.specs.Prelude.{slice_index}

@@ -1,6 +1,5 @@
-use Rattle.std.proofs.Common.{arith, ap, drop, length, take, w64, ℕ, ◌+◌, ◌-◌, ◌<◌, ◌∙◌, ◌≡◌, ◌≤◌}
+use Rattle.std.proofs.Common.{arith, ap, drop, length, take, w64, ℕ, ◌+◌, ◌-◌, ◌∙◌, ◌≡◌, ◌≤◌}
 use Rattle.std.specs.Int.{from_le_bytes}
-use Rattle.std.specs.Prelude.{slice_index}
 use Rattle.canon_bytes.proofs.Numbers.{num_read_8}
 use Rattle.canon_image_parts.proofs.Fetching.{number_read}
 use Rattle.canon_image_parts.proofs.read.read_count.Goals as goal

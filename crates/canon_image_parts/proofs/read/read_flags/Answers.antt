@@ -1,14 +1,10 @@
-use Rattle.std.proofs.Common.{Ok, arith, ap, length, refl, subst, sym, ℕ, ◌+◌, ◌-◌, ◌<◌, ◌^◌, ◌∙◌, ◌≡◌, ◌≤◌}
+use Rattle.std.proofs.Common.{Ok, arith, length, refl, subst, sym, ℕ, ◌+◌, ◌-◌, ◌<◌, ◌^◌, ◌∙◌, ◌≡◌, ◌≤◌}
 use Rattle.canon_lowering.specs.Storing.{narrow}
 use Rattle.canon_model.specs.Layout.{flags_size}
 use Rattle.canon_model.specs.Memory.{num}
-use Rattle.canon_model.specs.Rep.{bits_of}
-use Rattle.canon_model.specs.Shape.{Shape, flags}
-use Rattle.canon_model.specs.Tree.{bits}
 use Rattle.canon_types.specs.Table.{shape_of}
 use Rattle.canon_types.specs.declared.types.InterfaceType.TheVariants as ty
-use Rattle.canon_value_parts.specs.Flags.{flag_names, names_in_flags}
-use Rattle.canon_val.specs.Value.{IsLiftedFrom}
+use Rattle.canon_value_parts.specs.Flags.{flag_names}
 use Rattle.canon_value_parts.proofs.FlagNames.{flags_are}
 use Rattle.canon_value_parts.proofs.FlagSteps.{flags_bytes}
 use Rattle.canon_image_parts.proofs.CaseReading.{flags_many}

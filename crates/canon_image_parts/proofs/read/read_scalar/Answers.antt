@@ -1,12 +1,7 @@
-use Rattle.std.proofs.Common.{List, Ok, Option, Some, arith, ap, length, refl, subst, sym, ℕ, ◌+◌, ◌-◌, ◌<◌, ◌∙◌, ◌≡◌, ◌≤◌}
-use Rattle.canon_lowering.specs.Storing.{narrow}
-use Rattle.canon_model.proofs.Numbers.{num_1}
+use Rattle.std.proofs.Common.{Ok, arith, length, refl, subst, sym, ℕ, ◌+◌, ◌-◌, ◌∙◌, ◌≡◌, ◌≤◌}
 use Rattle.canon_model.specs.Layout.{scalar_size}
-use Rattle.canon_model.specs.Memory.{num}
-use Rattle.canon_model.specs.Shape.{Scalar, bool}
 use Rattle.canon_model.specs.Text.{utf8}
 use Rattle.canon_types.specs.Table.{shape_of}
-use Rattle.canon_plan.specs.NoHandle.{scalar_type}
 use Rattle.canon_image_parts.specs.Read.{ReadsTo}
 use Rattle.canon_image_parts.proofs.Fetching.{bool_high, bool_low, left_short, scalar_bad, scalar_cut, scalar_good, scalar_no_char, scalar_some, scalar_width}
 use Rattle.canon_image_parts.proofs.read.read_scalar.Goals.{After-from-size}

@@ -1,4 +1,4 @@
-use Rattle.std.proofs.Common.{IsUtf8, List, arith, ap, drop, length, string_bytes, subst, sym, take, ℕ, ◌+◌, ◌-◌, ◌∙◌, ◌≡◌, ◌≤◌}
+use Rattle.std.proofs.Common.{IsUtf8, arith, ap, drop, length, subst, take, ℕ, ◌+◌, ◌-◌, ◌∙◌, ◌≡◌, ◌≤◌}
 use Rattle.canon_image_parts.proofs.Fetching.{text_good}
 use Rattle.canon_image_parts.proofs.read.read_text.Goals as goal
 

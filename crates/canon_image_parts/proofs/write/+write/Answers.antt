@@ -1,7 +1,6 @@
-use Rattle.std.proofs.Common.{List, ap, arith, length, refl, rules, subst, sym, ℕ, ◌*◌, ◌+◌, ◌-◌, ◌<◌, ◌^◌, ◌∙◌, ◌≡◌}
-use Rattle.canon_lowering.specs.Copies.{copies}
-use Rattle.canon_model.specs.Shape.{Members, Shape, map_of, member_count}
-use Rattle.canon_types.specs.Depth.{deepest, depth, element_shape}
+use Rattle.std.proofs.Common.{ap, arith, length, rules, subst, sym, ◌-◌, ◌<◌, ◌^◌, ◌∙◌, ◌≡◌}
+use Rattle.canon_model.specs.Shape.{Shape}
+use Rattle.canon_types.specs.Depth.{depth, element_shape}
 use Rattle.canon_types.specs.Table.{shape_of}
 use Rattle.canon_types.specs.declared.types.InterfaceType.TheVariants as ty
 use Rattle.canon_plan.specs.NoHandle.{HasNoHandle}
@@ -15,7 +14,6 @@ use Rattle.canon_value_parts.proofs.Walks.{copies_no_handle, copies_deepest}
 use Rattle.canon_value_parts.proofs.Steps.{blocks_none}
 use Rattle.canon_image_parts.proofs.PairsWriting.{key_stops, map_parts, map_told, pair_goes_on, pair_here, pairs_end, value_stops}
 use Rattle.canon_image_parts.proofs.Writing.{case_told, end, go_on, items_told, member_no_handle, members_written, misnamed, parts_told, refused, seen_no_handle, stop}
-use Rattle.canon_image_parts.proofs.write.+write.Goals.{write_pairs-After-map-map}
 use Rattle.canon_image_parts.proofs.write.+write.Goals as goal
 
 -- ---- a case

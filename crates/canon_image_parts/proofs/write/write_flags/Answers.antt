@@ -1,5 +1,4 @@
-use Rattle.std.proofs.Common.{List, ap, arith, length, refl, replicate, rules, subst, sym, take, ℕ, ◌+◌, ◌++◌, ◌-◌, ◌∙◌, ◌≡◌}
-use Rattle.std.proofs.Math.Seq.{take-length}
+use Rattle.std.proofs.Common.{List, ap, arith, length, refl, rules, subst, sym, ℕ, ◌+◌, ◌-◌, ◌≡◌}
 use Rattle.canon_model.specs.Layout.{flags_size}
 use Rattle.canon_types.specs.Keeps.{names_of}
 use Rattle.canon_types.specs.Table.{shape_of}

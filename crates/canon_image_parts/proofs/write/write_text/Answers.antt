@@ -1,4 +1,4 @@
-use Rattle.std.proofs.Common.{List, ap, arith, length, rules, subst, sym, ℕ, ◌++◌, ◌<◌, ◌^◌, ◌∙◌, ◌≡◌}
+use Rattle.std.proofs.Common.{List, ap, length, rules, ℕ, ◌++◌, ◌<◌, ◌^◌, ◌∙◌, ◌≡◌}
 use Rattle.canon_image_parts.proofs.Writing.{text_written}
 use Rattle.canon_image_parts.proofs.write.write_text.Goals as goal
 

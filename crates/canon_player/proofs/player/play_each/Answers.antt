@@ -19,7 +19,8 @@ pub play_next-requires-clause-own_types : goal.play_next-requires-clause-own_typ
 play_next-requires-clause-own_types c = c.loop-item.invariant.playing.own_types
 
 pub play_next-requires-clause-playable : goal.play_next-requires-clause-playable
-play_next-requires-clause-playable c = playing_playable c.args.store.now c.args.items.items c.loop-item.store (into_iter_items c.loop-item.item-iterator) (into_iter_items c.next.new.self) c.in-Some.item c.loop-item.list.items c.loop-item.records c.in-Some.ensures.steps.0 c.loop-item.invariant.playing
+play_next-requires-clause-playable c =
+    playing_playable c.args.store.now c.args.items.items c.loop-item.store (into_iter_items c.loop-item.item-iterator) (into_iter_items c.next.new.self) c.in-Some.item c.loop-item.list.items c.loop-item.records c.in-Some.ensures.steps.0 c.loop-item.invariant.playing
 
 pub loop-item-preserved : goal.loop-item-preserved
 loop-item-preserved c = record {

@@ -25,7 +25,8 @@ returns-in-Ok-clause-call g c = λ none.
     let written : c.swap_with_slice.new.self ≡ c.in-Ok.values.items = c.swap_with_slice.ensures.after ∙ c.deref_mut.ensures.value in
     rw c.export_in-export.ensures.found
     (subst (λ (vs : List Val). Adding (moment_of seen store.core) (moment_of seen left.core) (λ es. moves (guest_of store.core) es (guest_of left.core))
-    (λ es. IsCallOf (dynamic callee c.args.params.now) (dynamic_results callee) (LivesUntil {U = Unit {0}} seen moves (guest_of store.core) (guest_of left.core) (Ok tt)) g.G.Guest.leaves (imports.gives (imports.plan store.imports)) callee (allowed store.core.fuel store.turns) (moment_of seen store.core) (moment_of seen left.core)
+    (λ es. IsCallOf (dynamic callee c.args.params.now) (dynamic_results callee) (LivesUntil {U = Unit {0}} seen moves (guest_of store.core) (guest_of left.core) (Ok tt)) g.G.Guest.leaves
+    (imports.gives (imports.plan store.imports)) callee (allowed store.core.fuel store.turns) (moment_of seen store.core) (moment_of seen left.core)
     (host_side store.core (imports.log store.imports) (imports.refusals store.imports)) (host_side left.core (imports.log left.imports) (imports.refusals left.imports)) (Ok vs) es))
     (sym written) c.in-Ok.ensures.call)
 

@@ -31,7 +31,9 @@ pub enter-requires-clause-measured : goal.enter-requires-clause-measured
 enter-requires-clause-measured c =
     let d = FlagsType (names_of c.args.names.items) in
     let count : length (names_of c.args.names.items) ≡ length c.as_slice-count.result.now = length-map c.args.names.items (λ n. string_bytes n) ∙ sym (ap length c.as_slice-count.ensures.value) in
-    let m : IsMeasured c.args.self.now d 1 false = measured_names c.args.self.now d (length c.as_slice-count.result.now) refl (sym count) (ap (λ (k : ℕ). k == 0) (sym count)) c.in_ok-check_name_count.ensures c.in_ok-names.ensures.fits (told_below c.flags-abi.result _ (c.flags-abi.ensures (names_of c.args.names.items) count)) in
+    let m : IsMeasured c.args.self.now d 1 false =
+    measured_names c.args.self.now d (length c.as_slice-count.result.now) refl (sym count) (ap (λ (k : ℕ). k == 0) (sym count)) c.in_ok-check_name_count.ensures c.in_ok-names.ensures.fits
+    (told_below c.flags-abi.result _ (c.flags-abi.ensures (names_of c.args.names.items) count)) in
     subst (λ (x : Definition). IsMeasured c.args.self.now x 1 false) (ap (λ ks. FlagsType (names_of ks)) (sym c.in_ok-names.ensures.ok)) m
 
 pub enter-requires-clause-layout : goal.enter-requires-clause-layout
