@@ -4,14 +4,14 @@ use Rattle.std.specs.Int.{◌∣◌}
 use Rattle.std.specs.Prelude.{IsFalse, ⊤}
 use Rattle.std.proofs.lemmas.Nat.Gcd.{dvd_of_mod-eq-zero}
 use Rattle.std.proofs.Math.Nat.{zero-mod}
-use Rattle.canon_model.specs.Homes.{EachHome, IsTextHome, Homes, MembersHome}
+use Rattle.canon_model.specs.Homes.{EachHome, Homes, IsTextHome, MembersHome, Texts, host_texts}
 use Rattle.canon_model.specs.Layout.{align, members_end, pointer_size, size}
 use Rattle.canon_model.specs.Leaves.{leaves, members_leaves}
 use Rattle.canon_model.specs.Memory.{Block, InsideBlocks, Within, le_number, length_at, memory_of, num, pointer_at}
 use Rattle.canon_model.specs.Rep.{IsList, IsText, MembersStored, Stored}
 use Rattle.canon_model.specs.Requests.{anew, members_requests, requests}
 use Rattle.canon_model.specs.Shape.{ListKind, Members, Shape, list, string}
-use Rattle.canon_model.specs.Text.{Encoding, utf8}
+use Rattle.canon_model.specs.Text.{utf8}
 use Rattle.canon_model.specs.Tree.{EachAt, Tree, Trees, items, list_of_each, tree_count, trees_of}
 use Rattle.canon_memory.specs.Guest.{Moment, Seen, moment}
 use Rattle.canon_memory.specs.Realloc.{block}
@@ -30,47 +30,47 @@ use Rattle.canon_lowering.proofs.WordsKept.{pair_below, ptr_same}
 -- ---- the n items of a list, in the block that is asked for
 
 -- Members, so many in all, that lie as the n values of a row do; each value's tree is made of some of theirs.
-pub record MakesRow (wide : Bool) (enc : Encoding) (s : Shape) (n : ℕ) (ms : Members) (all : ℕ) (group : Trees → Trees) : Type 1 where
+pub record MakesRow (wide : Bool) (texts : Texts) (s : Shape) (n : ℕ) (ms : Members) (all : ℕ) (group : Trees → Trees) : Type 1 where
   pub room : members_end wide 0 ms ≤ n * size wide s
   pub count : (ts : Trees) → tree_count ts ≡ all → tree_count (group ts) ≡ n
-  pub asks : (ts : Trees) → tree_count ts ≡ all → list_of_each (λ t. requests wide enc s t) (group ts) ≡ members_requests wide enc ms ts
+  pub asks : (ts : Trees) → tree_count ts ≡ all → list_of_each (λ t. requests wide texts.asks s t) (group ts) ≡ members_requests wide texts.asks ms ts
   pub leaves_same : (ts : Trees) → tree_count ts ≡ all → list_of_each (λ t. leaves s t) (group ts) ≡ members_leaves ms ts
-  pub home : (pointer : ℕ → ℕ → Type 0) (at : ℕ) (ts : Trees) (xs ys : List ℕ) → tree_count ts ≡ all → MembersHome pointer enc wide ms 0 at ts xs ys
-      → EachHome (λ b t zs vs. Homes pointer enc wide s b t zs vs) (size wide s) at (group ts) xs ys
+  pub home : (pointer : ℕ → ℕ → Type 0) (at : ℕ) (ts : Trees) (xs ys : List ℕ) → tree_count ts ≡ all → MembersHome pointer texts wide ms 0 at ts xs ys
+      → EachHome (λ b t zs vs. Homes pointer texts wide s b t zs vs) (size wide s) at (group ts) xs ys
   pub stored : (readable : ℕ → ℕ → Type 0) (bytes : List ℕ) (at : ℕ) (ts : Trees) → ((b : ℕ) → at ≤ b → b + size wide s ≤ at + n * size wide s → readable b (size wide s))
-      → MembersStored readable true enc (memory_of bytes wide) ms 0 at ts → EachAt (Stored readable true enc (memory_of bytes wide) s) (size wide s) at (group ts) × (tree_count ts ≡ all)
+      → MembersStored readable true texts.encoding (memory_of bytes wide) ms 0 at ts → EachAt (Stored readable true texts.encoding (memory_of bytes wide) s) (size wide s) at (group ts) × (tree_count ts ≡ all)
 
 at_zero : (wide : Bool) (s : Shape) → align wide s ∣ 0
 at_zero wide s = dvd_of_mod-eq-zero (align wide s) (zero-mod _)
 
-pub copies_row : (wide : Bool) (enc : Encoding) (s : Shape) (n : ℕ) → MakesRow wide enc s n (copies n s) n (λ ts. ts)
-copies_row wide enc s n = record {
+pub copies_row : (wide : Bool) (texts : Texts) (s : Shape) (n : ℕ) → MakesRow wide texts s n (copies n s) n (λ ts. ts)
+copies_row wide texts s n = record {
   room = omega (arith, copies_end wide n 0 s (at_zero wide s));
   count = λ ts e. e;
-  asks = copies_ask wide enc n s;
+  asks = copies_ask wide texts n s;
   leaves_same = copies_leaves n s;
-  home = λ pointer at ts xs ys e h. copies_home wide enc pointer n 0 s at at ts xs ys (at_zero wide s) (omega arith) e h;
-  stored = λ readable bytes at ts r h. copies_stored readable true enc (memory_of bytes wide) n 0 s at at ts (at_zero wide s) (omega arith) h;
+  home = λ pointer at ts xs ys e h. copies_home wide texts pointer n 0 s at at ts xs ys (at_zero wide s) (omega arith) e h;
+  stored = λ readable bytes at ts r h. copies_stored readable true texts.encoding (memory_of bytes wide) n 0 s at at ts (at_zero wide s) (omega arith) h;
 }
 
-pub pairs_row : (wide : Bool) (enc : Encoding) (s u : Shape) (n : ℕ) → MakesRow wide enc (pair_shape s u) n (pairs_of n s u) (n + n) paired
-pairs_row wide enc s u n = record {
+pub pairs_row : (wide : Bool) (texts : Texts) (s u : Shape) (n : ℕ) → MakesRow wide texts (pair_shape s u) n (pairs_of n s u) (n + n) paired
+pairs_row wide texts s u n = record {
   room = omega (arith, pairs_end wide s u n 0 0 (at_start wide s u));
   count = paired_count n;
-  asks = pairs_ask wide enc s u n;
+  asks = pairs_ask wide texts s u n;
   leaves_same = pairs_leaves s u n;
-  home = λ pointer at ts xs ys e h. pairs_home wide enc s u pointer n 0 0 at at ts xs ys (at_start wide s u) (omega arith) e h;
-  stored = λ readable bytes at ts r h. pairs_stored readable true enc (memory_of bytes wide) s u n 0 0 at at ts (at_start wide s u) (omega arith) r h;
+  home = λ pointer at ts xs ys e h. pairs_home wide texts s u pointer n 0 0 at at ts xs ys (at_start wide s u) (omega arith) e h;
+  stored = λ readable bytes at ts r h. pairs_stored readable true texts.encoding (memory_of bytes wide) s u n 0 0 at at ts (at_start wide s u) (omega arith) r h;
 }
 
-pub rows_words : {hs : List ℕ} (wide : Bool) (a b c : Moment) (enc : Encoding) (k : ListKind) (s : Shape) (n p all : ℕ) (ms : Members) (group : Trees → Trees) (back : Tree → Trees) (row : MakesRow wide enc s n ms all group)
+pub rows_words : {hs : List ℕ} (wide : Bool) (a b c : Moment) (texts : Texts) (k : ListKind) (s : Shape) (n p all : ℕ) (ms : Members) (group : Trees → Trees) (back : Tree → Trees) (row : MakesRow wide texts s n ms all group)
     (Have : Trees → Type 0) (Has : Tree → Type 0) (e : Ending) → length b.bytes ≤ 2 ^ 32 → (g : Granted a b (items_call wide s n) p) → (IsFalse wide → n < 2 ^ 32)
-    → ((ts : Trees) → Have ts → Has (items (group ts)) × (tree_count ts ≡ all)) → ((t : Tree) → Has t → Have (back t) × (trees_of t ≡ group (back t))) → StoresMembers wide b c enc ms 0 p Have hs e
-    → LowersValue wide a c enc (list k s) (p ∷ n ∷ []) 0 Has hs e
+    → ((ts : Trees) → Have ts → Has (items (group ts)) × (tree_count ts ≡ all)) → ((t : Tree) → Has t → Have (back t) × (trees_of t ≡ group (back t))) → StoresMembers wide b c texts ms 0 p Have hs e
+    → LowersValue wide a c texts (list k s) (p ∷ n ∷ []) 0 Has hs e
 unfolding requests leaves
-rows_words wide a b c enc k s n p all ms group back row Have Has e small g few to from r =
+rows_words wide a b c texts k s n p all ms group back row Have Has e small g few to from r =
     let span : Within (members_span wide ms 0 p ∷ []) (block p (n * size wide s) ∷ []) = within_block _ _ _ _ (omega arith) (omega (arith, row.room)) in
-    attempt_block wide a b c (items_call wide s n) p (members_span wide ms 0 p ∷ []) (members_at wide enc ms 0 p Have) (value_words wide enc (list k s) (p ∷ n ∷ []) 0 Has) e refl small g (members_framed wide enc _ 0 p Have)
+    attempt_block wide a b c (items_call wide s n) p (members_span wide ms 0 p ∷ []) (members_at wide texts ms 0 p Have) (value_words wide texts (list k s) (p ∷ n ∷ []) 0 Has) e refl small g (members_framed wide texts _ 0 p Have)
     span (record {
       turn = λ ts. items (group ts);
       back = back;
@@ -81,13 +81,13 @@ rows_words wide a b c enc k s n p all ms group back row Have Has e small g few t
           let all_of : tree_count (back t) ≡ all = (to (back t) have).1 in
           let count : tree_count (trees_of t) ≡ n = ap tree_count same ∙ row.count (back t) all_of in (
             anew (align wide s) (tree_count (trees_of t) * size wide s),
-            ap (λ rs. anew (align wide s) (tree_count (trees_of t) * size wide s) ∷ rs) (ap (λ us. list_of_each (λ u. requests wide enc s u) us) same ∙ row.asks (back t) all_of),
+            ap (λ rs. anew (align wide s) (tree_count (trees_of t) * size wide s) ∷ rs) (ap (λ us. list_of_each (λ u. requests wide texts.asks s u) us) same ∙ row.asks (back t) all_of),
             λ last. ap (λ j. items_call wide s j) (sym count),
           );
       rep = λ blocks ts is w h.
           let inside : InsideBlocks blocks (memory_of c.bytes wide) p (n * size wide s) = (omega (arith, g.inside, r.lowering.goes.no_shorter), λ i l u. w i (inl (l, u))) in
           let rows = row.stored (InsideBlocks blocks (memory_of c.bytes wide)) c.bytes p ts (λ b l u. (omega (arith, u, inside.0), λ i l2 u2. inside.1 i (omega (arith, l, l2)) (omega (arith, u, u2)))) h in (
-            subst₂ (λ q j. IsList (InsideBlocks blocks (memory_of c.bytes wide)) true enc (memory_of c.bytes wide) (Stored (InsideBlocks blocks (memory_of c.bytes wide)) true enc (memory_of c.bytes wide) s) s q j (items (group ts)))
+            subst₂ (λ q j. IsList (InsideBlocks blocks (memory_of c.bytes wide)) true texts.encoding (memory_of c.bytes wide) (Stored (InsideBlocks blocks (memory_of c.bytes wide)) true texts.encoding (memory_of c.bytes wide) s) s q j (items (group ts)))
                 (sym (ptr_same wide c.bytes p (λ nar. g.narrow))) (sym (ptr_same wide c.bytes n few)) (record {
                   trees = group ts;
                   is = refl;
@@ -102,17 +102,17 @@ rows_words wide a b c enc k s n p all ms group back row Have Has e small g few t
       handles = λ ts is. ap handle_numbers (row.leaves_same ts (to ts is).1);
     }) r
 
-pub list_words : {hs : List ℕ} (wide : Bool) (a b c : Moment) (enc : Encoding) (k : ListKind) (s : Shape) (n p : ℕ) (Have : Trees → Type 0) (Has : Tree → Type 0) (e : Ending) → length b.bytes ≤ 2 ^ 32
-    → (g : Granted a b (items_call wide s n) p) → (IsFalse wide → n < 2 ^ 32) → ((ts : Trees) → Have ts → Has (items ts) × (tree_count ts ≡ n)) → ((t : Tree) → Has t → Have (trees_of t)) → StoresMembers wide b c enc (copies n s) 0 p Have hs e
-    → LowersValue wide a c enc (list k s) (p ∷ n ∷ []) 0 Has hs e
-list_words wide a b c enc k s n p Have Has e small g few to from r =
-    rows_words wide a b c enc k s n p n (copies n s) (λ ts. ts) (λ t. trees_of t) (copies_row wide enc s n) Have Has e small g few to (λ t is. (from t is, refl)) r
+pub list_words : {hs : List ℕ} (wide : Bool) (a b c : Moment) (texts : Texts) (k : ListKind) (s : Shape) (n p : ℕ) (Have : Trees → Type 0) (Has : Tree → Type 0) (e : Ending) → length b.bytes ≤ 2 ^ 32
+    → (g : Granted a b (items_call wide s n) p) → (IsFalse wide → n < 2 ^ 32) → ((ts : Trees) → Have ts → Has (items ts) × (tree_count ts ≡ n)) → ((t : Tree) → Has t → Have (trees_of t)) → StoresMembers wide b c texts (copies n s) 0 p Have hs e
+    → LowersValue wide a c texts (list k s) (p ∷ n ∷ []) 0 Has hs e
+list_words wide a b c texts k s n p Have Has e small g few to from r =
+    rows_words wide a b c texts k s n p n (copies n s) (λ ts. ts) (λ t. trees_of t) (copies_row wide texts s n) Have Has e small g few to (λ t is. (from t is, refl)) r
 
 -- the block isn't given
-pub list_ungiven : {hs : List ℕ} (wide : Bool) (a b : Moment) (enc : Encoding) (k : ListKind) (s : Shape) (n p : ℕ) (ws : List ℕ) (i : ℕ) (Has : Tree → Type 0) (e : Ending) → NotDone e → length b.bytes ≤ 2 ^ 32
-    → ((t : Tree) → Has t → tree_count (trees_of t) ≡ n) → Reallocated a b (items_call wide s n) e p → LowersValue wide a b enc (list k s) ws i Has hs e
+pub list_ungiven : {hs : List ℕ} (wide : Bool) (a b : Moment) (texts : Texts) (k : ListKind) (s : Shape) (n p : ℕ) (ws : List ℕ) (i : ℕ) (Has : Tree → Type 0) (e : Ending) → NotDone e → length b.bytes ≤ 2 ^ 32
+    → ((t : Tree) → Has t → tree_count (trees_of t) ≡ n) → Reallocated a b (items_call wide s n) e p → LowersValue wide a b texts (list k s) ws i Has hs e
 unfolding requests
-list_ungiven wide a b enc k s n p ws i Has e not small count h = attempt_ungiven wide a b (items_call wide s n) p [] (value_words wide enc (list k s) ws i Has) e not small
+list_ungiven wide a b texts k s n p ws i Has e not small count h = attempt_ungiven wide a b (items_call wide s n) p [] (value_words wide texts (list k s) ws i Has) e not small
     (λ t has. (anew (align wide s) (tree_count (trees_of t) * size wide s), _, refl, λ last. ap (λ j. items_call wide s j) (sym (count t has)))) h
 
 -- ---- a pointer and a length after it
@@ -129,13 +129,13 @@ pair_aim wide at p n = record {
 abbrev pub pair_place : Bool → ℕ → Block
 pair_place wide at = block at (2 * pointer_size wide)
 
-pair_framed : (wide : Bool) (at p n : ℕ) → IsFramed wide (pair_aim wide at p n)
+pub pair_framed : (wide : Bool) (at p n : ℕ) → IsFramed wide (pair_aim wide at p n)
 pair_framed wide at p n = record {
   rep = λ blocks more xs ys k u (r, ep, en).
       let same : (b : ℕ) → at ≤ b → b + pointer_size wide ≤ at + 2 * pointer_size wide → num (memory_of ys wide) b (pointer_size wide) ≡ num (memory_of xs wide) b (pointer_size wide) =
-      λ b l h. sym (ap le_number (reads_same wide utf8 blocks more xs ys k at (2 * pointer_size wide) r b (pointer_size wide) l h)) in
-      (reads_more wide utf8 blocks more xs ys k at _ r, same at (omega arith) (omega arith) ∙ ep, same (at + pointer_size wide) (omega arith) (omega arith) ∙ en);
-  home = λ blocks more xs ys k u ps qs (r, ep, en) (q, e). (points_same wide utf8 blocks more xs ys k at _ r at (omega arith) (omega arith) ∙ q, e);
+      λ b l h. sym (ap le_number (reads_same wide (host_texts utf8) blocks more xs ys k at (2 * pointer_size wide) r b (pointer_size wide) l h)) in
+      (reads_more wide (host_texts utf8) blocks more xs ys k at _ r, same at (omega arith) (omega arith) ∙ ep, same (at + pointer_size wide) (omega arith) (omega arith) ∙ en);
+  home = λ blocks more xs ys k u ps qs (r, ep, en) (q, e). (points_same wide (host_texts utf8) blocks more xs ys k at _ r at (omega arith) (omega arith) ∙ q, e);
 }
 
 pub pair_written : (wide : Bool) (g : Seen) (m m2 : List ℕ) (at p n : ℕ) → length m ≤ 2 ^ 32 → at + 2 * pointer_size wide ≤ length m → Writes (pair_place wide at) m m2 → pointer_at (memory_of m2 wide) at ≡ p → length_at (memory_of m2 wide) at ≡ n
@@ -143,43 +143,43 @@ pub pair_written : (wide : Bool) (g : Seen) (m m2 : List ℕ) (at p n : ℕ) →
 pair_written wide g m m2 at p n small room w ep en = attempt_write wide g m m2 (pair_place wide at) (pair_aim wide at p n) tt small w tt (λ u h. refl)
     ((omega (arith, room, w.same_length), λ i l u. inl (l, u)), ep, en) (λ rest. (tt, refl)) (λ rest. (ep, refl))
 
-module _ (wide : Bool) (enc : Encoding) (at p n : ℕ) (Has : Tree → Type 0) (lp : IsFalse wide → p < 2 ^ 32) (ln : IsFalse wide → n < 2 ^ 32) where
-  list_join : (k : ListKind) (s : Shape) → Joins (value_words wide enc (list k s) (p ∷ n ∷ []) 0 Has) (pair_aim wide at p n) (value_at wide enc (list k s) at Has) (λ t u. t)
+module _ (wide : Bool) (texts : Texts) (at p n : ℕ) (Has : Tree → Type 0) (lp : IsFalse wide → p < 2 ^ 32) (ln : IsFalse wide → n < 2 ^ 32) where
+  pub list_join : (k : ListKind) (s : Shape) → Joins (value_words wide texts (list k s) (p ∷ n ∷ []) 0 Has) (pair_aim wide at p n) (value_at wide texts (list k s) at Has) (λ t u. t)
   list_join k s = record {
     is = λ t u has h. has;
     split = λ t has. (t, tt, refl, has, tt);
-    asks = λ t u. sym (append-nil (requests wide enc (list k s) t));
+    asks = λ t u. sym (append-nil (requests wide texts.asks (list k s) t));
     rep = λ blocks bytes t u (h, below) (r, ep, en). (
       r,
-      subst₂ (λ q j. IsList (InsideBlocks blocks (memory_of bytes wide)) true enc (memory_of bytes wide) (Stored (InsideBlocks blocks (memory_of bytes wide)) true enc (memory_of bytes wide) s) s q j t)
+      subst₂ (λ q j. IsList (InsideBlocks blocks (memory_of bytes wide)) true texts.encoding (memory_of bytes wide) (Stored (InsideBlocks blocks (memory_of bytes wide)) true texts.encoding (memory_of bytes wide) s) s q j t)
           (ptr_same wide bytes p lp ∙ sym ep) (ptr_same wide bytes n ln ∙ sym en) h,
     );
-    home = λ pointer t u xs zs ys (us, is, n, each) (q, e). (p, us, q, is, subst (λ z. EachHome (λ b v vs us. Homes pointer enc wide s b v vs us) (size wide s) p (trees_of t) us z) e each);
+    home = λ pointer t u xs zs ys (us, is, n, each) (q, e). (p, us, q, is, subst (λ z. EachHome (λ b v vs us. Homes pointer texts wide s b v vs us) (size wide s) p (trees_of t) us z) e each);
     handles = λ t u. sym (append-nil _);
   }
 
-  string_join : Joins (value_words wide enc string (p ∷ n ∷ []) 0 Has) (pair_aim wide at p n) (value_at wide enc string at Has) (λ t u. t)
+  pub string_join : Joins (value_words wide texts string (p ∷ n ∷ []) 0 Has) (pair_aim wide at p n) (value_at wide texts string at Has) (λ t u. t)
   string_join = record {
     is = λ t u has h. has;
     split = λ t has. (t, tt, refl, has, tt);
-    asks = λ t u. sym (append-nil (requests wide enc string t));
+    asks = λ t u. sym (append-nil (requests wide texts.asks string t));
     rep = λ blocks bytes t u (h, below) (r, ep, en). (
       r,
-      subst₂ (λ q j. IsText (InsideBlocks blocks (memory_of bytes wide)) true enc (memory_of bytes wide) q j t) (ptr_same wide bytes p lp ∙ sym ep) (ptr_same wide bytes n ln ∙ sym en) h,
+      subst₂ (λ q j. IsText (InsideBlocks blocks (memory_of bytes wide)) true texts.encoding (memory_of bytes wide) q j t) (ptr_same wide bytes p lp ∙ sym ep) (ptr_same wide bytes n ln ∙ sym en) h,
     );
-    home = λ pointer t u xs zs ys (n, is) (q, e). (p, q, subst (λ z. IsTextHome enc t p xs z) e is);
+    home = λ pointer t u xs zs ys (n, is) (q, e). (p, q, subst (λ z. IsTextHome texts.asks t p xs z) e is);
     handles = λ t u. sym (append-nil _);
   }
 
   module _ (a : Moment) (g : Seen) (m m2 : List ℕ) (w : Attempt wide (moment g m) (moment g m2) (pair_place wide at ∷ []) (pair_aim wide at p n) [] done) where
-    pub list_stored : {hs : List ℕ} (k : ListKind) (s : Shape) → LowersValue wide a (moment g m) enc (list k s) (p ∷ n ∷ []) 0 Has hs done → StoresValue wide a (moment g m2) enc (list k s) at Has hs done
+    pub list_stored : {hs : List ℕ} (k : ListKind) (s : Shape) → LowersValue wide a (moment g m) texts (list k s) (p ∷ n ∷ []) 0 Has hs done → StoresValue wide a (moment g m2) texts (list k s) at Has hs done
     unfolding size
-    list_stored {hs = hs} k s h = subst (λ xs. StoresValue wide a (moment g m2) enc (list k s) at Has xs done) (append-nil hs)
-        (attempt_then wide a (moment g m) (moment g m2) [] (pair_place wide at ∷ []) (pair_place wide at ∷ []) _ _ (value_at wide enc (list k s) at Has) _ (list_join k s)
-        (words_framed wide enc (list k s) (p ∷ n ∷ []) 0 Has) (pair_framed wide at p n) (λ i q. absurd q) (λ i q. q) (λ i q r. absurd q) h done w)
+    list_stored {hs = hs} k s h = subst (λ xs. StoresValue wide a (moment g m2) texts (list k s) at Has xs done) (append-nil hs)
+        (attempt_then wide a (moment g m) (moment g m2) [] (pair_place wide at ∷ []) (pair_place wide at ∷ []) _ _ (value_at wide texts (list k s) at Has) _ (list_join k s)
+        (words_framed wide texts (list k s) (p ∷ n ∷ []) 0 Has) (pair_framed wide at p n) (λ i q. absurd q) (λ i q. q) (λ i q r. absurd q) h done w)
 
-    pub string_stored : {hs : List ℕ} → LowersValue wide a (moment g m) enc string (p ∷ n ∷ []) 0 Has hs done → StoresValue wide a (moment g m2) enc string at Has hs done
+    pub string_stored : {hs : List ℕ} → LowersValue wide a (moment g m) texts string (p ∷ n ∷ []) 0 Has hs done → StoresValue wide a (moment g m2) texts string at Has hs done
     unfolding size
-    string_stored {hs = hs} h = subst (λ xs. StoresValue wide a (moment g m2) enc string at Has xs done) (append-nil hs)
-        (attempt_then wide a (moment g m) (moment g m2) [] (pair_place wide at ∷ []) (pair_place wide at ∷ []) _ _ (value_at wide enc string at Has) _ string_join
-        (words_framed wide enc string (p ∷ n ∷ []) 0 Has) (pair_framed wide at p n) (λ i q. absurd q) (λ i q. q) (λ i q r. absurd q) h done w)
+    string_stored {hs = hs} h = subst (λ xs. StoresValue wide a (moment g m2) texts string at Has xs done) (append-nil hs)
+        (attempt_then wide a (moment g m) (moment g m2) [] (pair_place wide at ∷ []) (pair_place wide at ∷ []) _ _ (value_at wide texts string at Has) _ string_join
+        (words_framed wide texts string (p ∷ n ∷ []) 0 Has) (pair_framed wide at p n) (λ i q. absurd q) (λ i q. q) (λ i q r. absurd q) h done w)

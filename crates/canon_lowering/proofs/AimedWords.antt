@@ -2,6 +2,7 @@
 use Rattle.std.proofs.Common.{Bool, List, [], ap, length, refl, true, ℕ, ◌%◌, ◌++◌, ◌+◌, ◌<◌, ◌^◌, ◌∷◌, ◌≡◌, ◌≤◌}
 use Rattle.std.specs.Prelude.{slice_index}
 use Rattle.canon_model.proofs.Along.{flat_along, members_flat_along, same_words}
+use Rattle.canon_model.specs.Homes.{Texts}
 use Rattle.canon_model.specs.Flat.{AreBelow, Flat, IsLeastWord, MembersFlat, SameWords, flat_bits, low_number}
 use Rattle.canon_model.specs.Layout.{flag_words, flat, members_flat}
 use Rattle.canon_model.specs.Leaves.{leaves}
@@ -9,7 +10,6 @@ use Rattle.canon_model.specs.Memory.{Block, InsideBlocks, low, memory_of}
 use Rattle.canon_model.specs.Rep.{ScalarIs, bits_of}
 use Rattle.canon_model.specs.Requests.{requests}
 use Rattle.canon_model.specs.Shape.{Members, Name, ProductKind, Scalar, Shape, borrow, fixed, flags, member, own, product, scalar}
-use Rattle.canon_model.specs.Text.{Encoding}
 use Rattle.canon_model.specs.Tree.{Tree, Trees, bits, handle, parts, tree, tree_count, trees_of}
 use Rattle.canon_memory.specs.Guest.{Moment}
 use Rattle.canon_lowering.specs.Lowering.{Ending, done}
@@ -24,64 +24,64 @@ use Rattle.canon_lowering.proofs.WordsKept.{flat_homes_kept, flat_homes_moved, m
 
 -- ---- what is read stays
 
-module _ (wide : Bool) (enc : Encoding) (blocks more : List Block) (xs ys : List ℕ) (k : Keeps blocks more xs ys) (ws vs : List ℕ) where
-  pub flat_kept : (s : Shape) (i j : ℕ) (t : Tree) → SameWords ws i vs j (flat s) → Flat (InsideBlocks blocks (memory_of xs wide)) true enc (memory_of xs wide) ws s i t → Flat (InsideBlocks more (memory_of ys wide)) true enc (memory_of ys wide) vs s j t
-  flat_kept s i j t same h = flat_along _ _ true true (λ e. e) enc xs ys wide (reads_more wide enc blocks more xs ys k) (reads_same wide enc blocks more xs ys k) ws vs s i j t same h
+module _ (wide : Bool) (texts : Texts) (blocks more : List Block) (xs ys : List ℕ) (k : Keeps blocks more xs ys) (ws vs : List ℕ) where
+  pub flat_kept : (s : Shape) (i j : ℕ) (t : Tree) → SameWords ws i vs j (flat s) → Flat (InsideBlocks blocks (memory_of xs wide)) true texts.encoding (memory_of xs wide) ws s i t → Flat (InsideBlocks more (memory_of ys wide)) true texts.encoding (memory_of ys wide) vs s j t
+  flat_kept s i j t same h = flat_along _ _ true true (λ e. e) texts.encoding xs ys wide (reads_more wide texts blocks more xs ys k) (reads_same wide texts blocks more xs ys k) ws vs s i j t same h
 
-  pub members_flat_kept : (ms : Members) (i j : ℕ) (ts : Trees) → SameWords ws i vs j (members_flat ms) → MembersFlat (InsideBlocks blocks (memory_of xs wide)) true enc (memory_of xs wide) ws ms i ts
-      → MembersFlat (InsideBlocks more (memory_of ys wide)) true enc (memory_of ys wide) vs ms j ts
-  members_flat_kept ms i j ts same h = members_flat_along _ _ true true (λ e. e) enc xs ys wide (reads_more wide enc blocks more xs ys k) (reads_same wide enc blocks more xs ys k) ws vs ms i j ts same h
+  pub members_flat_kept : (ms : Members) (i j : ℕ) (ts : Trees) → SameWords ws i vs j (members_flat ms) → MembersFlat (InsideBlocks blocks (memory_of xs wide)) true texts.encoding (memory_of xs wide) ws ms i ts
+      → MembersFlat (InsideBlocks more (memory_of ys wide)) true texts.encoding (memory_of ys wide) vs ms j ts
+  members_flat_kept ms i j ts same h = members_flat_along _ _ true true (λ e. e) texts.encoding xs ys wide (reads_more wide texts blocks more xs ys k) (reads_same wide texts blocks more xs ys k) ws vs ms i j ts same h
 
-pub words_framed : (wide : Bool) (enc : Encoding) (s : Shape) (ws : List ℕ) (i : ℕ) (Has : Tree → Type 0) → IsFramed wide (value_words wide enc s ws i Has)
-words_framed wide enc s ws i Has = record {
-  rep = λ blocks more xs ys k t h. flat_kept wide enc blocks more xs ys k ws ws s i i t (same_words ws i (flat s)) h;
-  home = λ blocks more xs ys k t ps qs h g. flat_homes_kept wide enc blocks more xs ys k ws s i t ps qs h g;
+pub words_framed : (wide : Bool) (texts : Texts) (s : Shape) (ws : List ℕ) (i : ℕ) (Has : Tree → Type 0) → IsFramed wide (value_words wide texts s ws i Has)
+words_framed wide texts s ws i Has = record {
+  rep = λ blocks more xs ys k t h. flat_kept wide texts blocks more xs ys k ws ws s i i t (same_words ws i (flat s)) h;
+  home = λ blocks more xs ys k t ps qs h g. flat_homes_kept wide texts blocks more xs ys k ws s i t ps qs h g;
 }
 
-pub members_words_framed : (wide : Bool) (enc : Encoding) (ms : Members) (ws : List ℕ) (i : ℕ) (Have : Trees → Type 0) → IsFramed wide (members_words wide enc ms ws i Have)
-members_words_framed wide enc ms ws i Have = record {
-  rep = λ blocks more xs ys k ts h. members_flat_kept wide enc blocks more xs ys k ws ws ms i i ts (same_words ws i (members_flat ms)) h;
-  home = λ blocks more xs ys k ts ps qs h g. members_flat_homes_kept wide enc blocks more xs ys k ws ms i ts ps qs h g;
+pub members_words_framed : (wide : Bool) (texts : Texts) (ms : Members) (ws : List ℕ) (i : ℕ) (Have : Trees → Type 0) → IsFramed wide (members_words wide texts ms ws i Have)
+members_words_framed wide texts ms ws i Have = record {
+  rep = λ blocks more xs ys k ts h. members_flat_kept wide texts blocks more xs ys k ws ws ms i i ts (same_words ws i (members_flat ms)) h;
+  home = λ blocks more xs ys k ts ps qs h g. members_flat_homes_kept wide texts blocks more xs ys k ws ms i ts ps qs h g;
 }
 
 -- the same words elsewhere
-pub words_moved : {hs : List ℕ} (wide : Bool) (a b : Moment) (enc : Encoding) (s : Shape) (ws vs : List ℕ) (i j : ℕ) (Has : Tree → Type 0) (e : Ending) → ((t : Tree) → Has t → Fits s t) → SameWords ws i vs j (flat s)
-    → LowersValue wide a b enc s ws i Has hs e → LowersValue wide a b enc s vs j Has hs e
-words_moved wide a b enc s ws vs i j Has e fits same h = attempt_as wide a b [] [] _ (value_words wide enc s vs j Has) e (λ k q. q) (record {
+pub words_moved : {hs : List ℕ} (wide : Bool) (a b : Moment) (texts : Texts) (s : Shape) (ws vs : List ℕ) (i j : ℕ) (Has : Tree → Type 0) (e : Ending) → ((t : Tree) → Has t → Fits s t) → SameWords ws i vs j (flat s)
+    → LowersValue wide a b texts s ws i Has hs e → LowersValue wide a b texts s vs j Has hs e
+words_moved wide a b texts s ws vs i j Has e fits same h = attempt_as wide a b [] [] _ (value_words wide texts s vs j Has) e (λ k q. q) (record {
   turn = λ t. t;
   back = λ t. t;
   is = λ t has. has;
   is_back = λ t has. has;
   asks = λ t has. refl;
-  rep = λ fresh t has g. flat_kept wide enc fresh fresh b.bytes b.bytes (keeps_same _ _ _ (λ k q. q)) ws vs s i j t same g;
-  home = λ pointer t xs ys has g. flat_homes_moved wide pointer enc ws vs s i j t xs ys (fits t has) same g;
+  rep = λ fresh t has g. flat_kept wide texts fresh fresh b.bytes b.bytes (keeps_same _ _ _ (λ k q. q)) ws vs s i j t same g;
+  home = λ pointer t xs ys has g. flat_homes_moved wide pointer texts ws vs s i j t xs ys (fits t has) same g;
   handles = λ t has. refl;
 }) h
 
 -- ---- values that ask for nothing
 
-module _ (wide : Bool) (a : Moment) (enc : Encoding) (ws : List ℕ) (i : ℕ) (Has : Tree → Type 0) (small : length a.bytes ≤ 2 ^ 32) where
-  pub scalar_words : (k : Scalar) (t : Tree) → ScalarIs k (slice_index ws i % 2 ^ flat_bits k) t → IsLeastWord k (slice_index ws i) → Has t → LowersValue wide a a enc (scalar k) ws i Has [] done
+module _ (wide : Bool) (a : Moment) (texts : Texts) (ws : List ℕ) (i : ℕ) (Has : Tree → Type 0) (small : length a.bytes ≤ 2 ^ 32) where
+  pub scalar_words : (k : Scalar) (t : Tree) → ScalarIs k (slice_index ws i % 2 ^ flat_bits k) t → IsLeastWord k (slice_index ws i) → Has t → LowersValue wide a a texts (scalar k) ws i Has [] done
   unfolding requests leaves
-  scalar_words k t is least has = attempt_none wide a [] (value_words wide enc (scalar k) ws i Has) t small has (λ u h. refl) (is, λ s. least) (λ pointer rest. ((is, least), refl))
+  scalar_words k t is least has = attempt_none wide a [] (value_words wide texts (scalar k) ws i Has) t small has (λ u h. refl) (is, λ s. least) (λ pointer rest. ((is, least), refl))
 
-  pub own_words : (r : ℕ) → slice_index ws i < 2 ^ 32 → Has (handle (low (slice_index ws i))) → LowersValue wide a a enc (own r) ws i Has (low (slice_index ws i) ∷ []) done
+  pub own_words : (r : ℕ) → slice_index ws i < 2 ^ 32 → Has (handle (low (slice_index ws i))) → LowersValue wide a a texts (own r) ws i Has (low (slice_index ws i) ∷ []) done
   unfolding requests leaves
-  own_words r lt has = attempt_none wide a [] (value_words wide enc (own r) ws i Has) _ small has (λ u h. refl) (refl, λ s. lt) (λ pointer rest. ((refl, lt), refl))
+  own_words r lt has = attempt_none wide a [] (value_words wide texts (own r) ws i Has) _ small has (λ u h. refl) (refl, λ s. lt) (λ pointer rest. ((refl, lt), refl))
 
-  pub borrow_words : (r : ℕ) → slice_index ws i < 2 ^ 32 → Has (handle (low (slice_index ws i))) → LowersValue wide a a enc (borrow r) ws i Has (low (slice_index ws i) ∷ []) done
+  pub borrow_words : (r : ℕ) → slice_index ws i < 2 ^ 32 → Has (handle (low (slice_index ws i))) → LowersValue wide a a texts (borrow r) ws i Has (low (slice_index ws i) ∷ []) done
   unfolding requests leaves
-  borrow_words r lt has = attempt_none wide a [] (value_words wide enc (borrow r) ws i Has) _ small has (λ u h. refl) (refl, λ s. lt) (λ pointer rest. ((refl, lt), refl))
+  borrow_words r lt has = attempt_none wide a [] (value_words wide texts (borrow r) ws i Has) _ small has (λ u h. refl) (refl, λ s. lt) (λ pointer rest. ((refl, lt), refl))
 
   pub flags_words : (names : List Name) → AreBelow (2 ^ 32) ws i (i + flag_words (length names)) → low_number ws i (flag_words (length names)) < 2 ^ length names
-      → Has (bits (bits_of (length names) (low_number ws i (flag_words (length names))))) → LowersValue wide a a enc (flags names) ws i Has [] done
+      → Has (bits (bits_of (length names) (low_number ws i (flag_words (length names))))) → LowersValue wide a a texts (flags names) ws i Has [] done
   unfolding requests leaves
-  flags_words names below least has = attempt_none wide a [] (value_words wide enc (flags names) ws i Has) _ small has (λ u h. refl) (refl, λ s. (below, least)) (λ pointer rest. ((refl, below, least), refl))
+  flags_words names below least has = attempt_none wide a [] (value_words wide texts (flags names) ws i Has) _ small has (λ u h. refl) (refl, λ s. (below, least)) (λ pointer rest. ((refl, below, least), refl))
 
 -- ---- members in words
 
-module _ (wide : Bool) (enc : Encoding) (name : Name) (s : Shape) (ms : Members) (i : ℕ) (Has : Tree → Type 0) (Have : Trees → Type 0) (vs : List ℕ) where
-  words_join : Joins (value_words wide enc s vs i Has) (members_words wide enc ms vs (i + flat s) Have) (members_words wide enc (member name s ms) vs i (FirstAnd Has Have)) (λ t ts. tree t ts)
+module _ (wide : Bool) (texts : Texts) (name : Name) (s : Shape) (ms : Members) (i : ℕ) (Has : Tree → Type 0) (Have : Trees → Type 0) (vs : List ℕ) where
+  pub words_join : Joins (value_words wide texts s vs i Has) (members_words wide texts ms vs (i + flat s) Have) (members_words wide texts (member name s ms) vs i (FirstAnd Has Have)) (λ t ts. tree t ts)
   unfolding requests leaves
   words_join = record {
     is = λ t ts has have. (t, ts, refl, has, have);
@@ -92,19 +92,19 @@ module _ (wide : Bool) (enc : Encoding) (name : Name) (s : Shape) (ms : Members)
     handles = λ t ts. handle_numbers_append (leaves s t) _;
   }
 
-  pub members_words_cons : {hs ks : List ℕ} (a b c : Moment) (ws : List ℕ) (e : Ending) → ((t : Tree) → Has t → Fits s t) → SameWords ws i vs i (flat s) → LowersValue wide a b enc s ws i Has hs done
-      → LowersMembers wide b c enc ms vs (i + flat s) Have ks e → LowersMembers wide a c enc (member name s ms) vs i (FirstAnd Has Have) (hs ++ ks) e
-  members_words_cons a b c ws e fits same h r = attempt_then wide a b c [] [] [] _ _ _ _ words_join (words_framed wide enc s vs i Has) (members_words_framed wide enc ms vs _ Have) (λ k q. q) (λ k q. q) (λ k q r. q)
-      (words_moved wide a b enc s ws vs i i Has done fits same h) e r
+  pub members_words_cons : {hs ks : List ℕ} (a b c : Moment) (ws : List ℕ) (e : Ending) → ((t : Tree) → Has t → Fits s t) → SameWords ws i vs i (flat s) → LowersValue wide a b texts s ws i Has hs done
+      → LowersMembers wide b c texts ms vs (i + flat s) Have ks e → LowersMembers wide a c texts (member name s ms) vs i (FirstAnd Has Have) (hs ++ ks) e
+  members_words_cons a b c ws e fits same h r = attempt_then wide a b c [] [] [] _ _ _ _ words_join (words_framed wide texts s vs i Has) (members_words_framed wide texts ms vs _ Have) (λ k q. q) (λ k q. q) (λ k q r. q)
+      (words_moved wide a b texts s ws vs i i Has done fits same h) e r
 
-  pub members_words_stop : {hs ks : List ℕ} (a b : Moment) (ws : List ℕ) (e : Ending) → NotDone e → LowersValue wide a b enc s ws i Has hs e → LowersMembers wide a b enc (member name s ms) vs i (FirstAnd Has Have) ks e
-  members_words_stop {hs = hs} a b ws e not h = attempt_stop wide a b b [] [] [] _ _ _ _ words_join (words_framed wide enc s vs i Has) (members_words_framed wide enc ms vs _ Have) (λ k q. q) (λ k q. q) (λ k q r. q) e not
-      (attempt_other {ks = hs} wide a b [] _ (value_words wide enc s vs i Has) e not (λ t has. (has, refl)) h)
+  pub members_words_stop : {hs ks : List ℕ} (a b : Moment) (ws : List ℕ) (e : Ending) → NotDone e → LowersValue wide a b texts s ws i Has hs e → LowersMembers wide a b texts (member name s ms) vs i (FirstAnd Has Have) ks e
+  members_words_stop {hs = hs} a b ws e not h = attempt_stop wide a b b [] [] [] _ _ _ _ words_join (words_framed wide texts s vs i Has) (members_words_framed wide texts ms vs _ Have) (λ k q. q) (λ k q. q) (λ k q r. q) e not
+      (attempt_other {ks = hs} wide a b [] _ (value_words wide texts s vs i Has) e not (λ t has. (has, refl)) h)
 
-pub product_words : {hs : List ℕ} (wide : Bool) (a c : Moment) (enc : Encoding) (k : ProductKind) (ms : Members) (ws : List ℕ) (i : ℕ) (Have : Trees → Type 0) (Has : Tree → Type 0) (e : Ending)
-    → ((ts : Trees) → Have ts → Has (parts ts)) → ((t : Tree) → Has t → Have (trees_of t)) → LowersMembers wide a c enc ms ws i Have hs e → LowersValue wide a c enc (product k ms) ws i Has hs e
+pub product_words : {hs : List ℕ} (wide : Bool) (a c : Moment) (texts : Texts) (k : ProductKind) (ms : Members) (ws : List ℕ) (i : ℕ) (Have : Trees → Type 0) (Has : Tree → Type 0) (e : Ending)
+    → ((ts : Trees) → Have ts → Has (parts ts)) → ((t : Tree) → Has t → Have (trees_of t)) → LowersMembers wide a c texts ms ws i Have hs e → LowersValue wide a c texts (product k ms) ws i Has hs e
 unfolding requests leaves
-product_words wide a c enc k ms ws i Have Has e to from h = attempt_as wide a c [] [] _ (value_words wide enc (product k ms) ws i Has) e (λ k q. q) (record {
+product_words wide a c texts k ms ws i Have Has e to from h = attempt_as wide a c [] [] _ (value_words wide texts (product k ms) ws i Has) e (λ k q. q) (record {
   turn = λ ts. parts ts;
   back = λ t. trees_of t;
   is = to;
@@ -115,17 +115,17 @@ product_words wide a c enc k ms ws i Have Has e to from h = attempt_as wide a c 
   handles = λ ts is. refl;
 }) h
 
-pub fixed_words : {hs : List ℕ} (wide : Bool) (a c : Moment) (enc : Encoding) (n : ℕ) (s : Shape) (ws : List ℕ) (i : ℕ) (Have : Trees → Type 0) (Has : Tree → Type 0) (e : Ending)
-    → ((ts : Trees) → Have ts → Has (parts ts) × (tree_count ts ≡ n)) → ((t : Tree) → Has t → Have (trees_of t)) → LowersMembers wide a c enc (copies n s) ws i Have hs e
-    → LowersValue wide a c enc (fixed n s) ws i Has hs e
+pub fixed_words : {hs : List ℕ} (wide : Bool) (a c : Moment) (texts : Texts) (n : ℕ) (s : Shape) (ws : List ℕ) (i : ℕ) (Have : Trees → Type 0) (Has : Tree → Type 0) (e : Ending)
+    → ((ts : Trees) → Have ts → Has (parts ts) × (tree_count ts ≡ n)) → ((t : Tree) → Has t → Have (trees_of t)) → LowersMembers wide a c texts (copies n s) ws i Have hs e
+    → LowersValue wide a c texts (fixed n s) ws i Has hs e
 unfolding requests leaves
-fixed_words wide a c enc n s ws i Have Has e to from h = attempt_as wide a c [] [] _ (value_words wide enc (fixed n s) ws i Has) e (λ k q. q) (record {
+fixed_words wide a c texts n s ws i Have Has e to from h = attempt_as wide a c [] [] _ (value_words wide texts (fixed n s) ws i Has) e (λ k q. q) (record {
   turn = λ ts. parts ts;
   back = λ t. trees_of t;
   is = λ ts is. (to ts is).0;
   is_back = from;
-  asks = λ t is. copies_ask wide enc n s (trees_of t) (to (trees_of t) (from t is)).1;
-  rep = λ fresh ts is g. let rows = copies_in_words (InsideBlocks fresh (memory_of c.bytes wide)) true enc (memory_of c.bytes wide) ws n s i ts g in record { trees = ts; is = refl; count = rows.1; each = rows.0 };
-  home = λ pointer ts xs ys is g. copies_flat_home wide enc pointer ws n s i ts xs ys (to ts is).1 g;
+  asks = λ t is. copies_ask wide texts n s (trees_of t) (to (trees_of t) (from t is)).1;
+  rep = λ fresh ts is g. let rows = copies_in_words (InsideBlocks fresh (memory_of c.bytes wide)) true texts.encoding (memory_of c.bytes wide) ws n s i ts g in record { trees = ts; is = refl; count = rows.1; each = rows.0 };
+  home = λ pointer ts xs ys is g. copies_flat_home wide texts pointer ws n s i ts xs ys (to ts is).1 g;
   handles = λ ts is. ap handle_numbers (copies_leaves n s ts (to ts is).1);
 }) h

@@ -3,14 +3,14 @@ use Rattle.canon_model.specs.Tree.{Tree, Trees, tree}
 use Rattle.std.proofs.Common.{Bool, List, None, [], ap, ap₂, arith, inl, inr, length, refl, subst, sym, ℕ, ⊎_elim, ◌++◌, ◌<◌, ◌^◌, ◌∙◌, ◌∷◌, ◌≡◌, ◌≤◌, ◌+◌}
 use Rattle.std.specs.Prelude.{slice_index}
 use Rattle.canon_model.proofs.Blocks.{in_either, in_left, in_right}
-use Rattle.canon_model.specs.Homes.{PointsTo}
+use Rattle.canon_model.specs.Homes.{AnyPointer, PointsTo}
 use Rattle.canon_model.specs.Memory.{Block, InBlocks, Within, memory_of}
 use Rattle.canon_model.specs.Requests.{Call, Request, call_of}
 use Rattle.canon_memory.specs.Guest.{Moment, Seen, moment}
 use Rattle.canon_memory.specs.Realloc.{new_block, block}
 use Rattle.canon_lowering.specs.Steps.{Apart, Writes}
 use Rattle.canon_lowering.specs.Lowering.{AllLawful, Answer, AtMostOne, BeginsWith, Ending, Granted, Lowering, Reallocated, Requested, WhenDone, addresses_of, done, misaligned, out_of_bounds, refused, short, trapped}
-use Rattle.canon_lowering.specs.Attempt.{Aim, AnyPointer, AreHeld, Attempt, Shown}
+use Rattle.canon_lowering.specs.Attempt.{Aim, AreHeld, Attempt, Shown}
 use Rattle.canon_lowering.proofs.Lowerings.{NotDone, addresses_append, answer, lowering_anew, lowering_filled, lowering_write, requested_cons, requested_stopped, stopped, stopped_asked, in_first, in_second, lawful_first, lawful_second, lowering_none, lowering_refused, lowering_then, lowering_within, requested_later, requested_none, requested_part, requested_then, tidy_first, tidy_second, when, when_not}
 
 -- blocks of one memory whose bytes another memory keeps, among these blocks

@@ -14,3 +14,7 @@ pub mod WordsKept
 pub mod AimedWords
 pub mod AimedPairs
 pub mod AimedCases
+pub mod Loosened
+pub mod LoosenedParts
+pub mod TellingParts
+pub mod TellingWords

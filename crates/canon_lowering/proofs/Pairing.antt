@@ -7,7 +7,7 @@ use Rattle.std.proofs.lemmas.List.{append_assoc}
 use Rattle.std.proofs.lemmas.Nat.Gcd.{dvd_of_mod-eq-zero, dvd_trans}
 use Rattle.std.specs.Int.{◌∣◌}
 use Rattle.canon_model.proofs.Layouts.{align-dvd-align, align_pos, align_to-dvd, alignment, align_to-le, multiple}
-use Rattle.canon_model.specs.Homes.{EachHome, Homes, MembersHome}
+use Rattle.canon_model.specs.Homes.{EachHome, Homes, MembersHome, Texts}
 use Rattle.canon_model.specs.Layout.{align, align_to, begins, ends, members_end, size}
 use Rattle.canon_model.specs.Leaves.{leaves, members_leaves}
 use Rattle.canon_model.specs.Memory.{Memory}
@@ -127,28 +127,28 @@ pairs_leaves s u (suc n) (tree t (tree w ts)) e =
     let more = list_of_each (λ v. leaves (pair_shape s u) v) (paired ts) in
     append_assoc first (second ++ []) more ∙ (ap (λ ls. first ++ (ls ++ more)) (append-nil second) ∙ ap (λ ls. first ++ (second ++ ls)) (pairs_leaves s u n ts (omega (arith, e))))
 
-module _ (wide : Bool) (enc : Encoding) (s u : Shape) where
-  pub pairs_ask : (n : ℕ) (ts : Trees) → tree_count ts ≡ n + n → list_of_each (λ t. requests wide enc (pair_shape s u) t) (paired ts) ≡ members_requests wide enc (pairs_of n s u) ts
+module _ (wide : Bool) (texts : Texts) (s u : Shape) where
+  pub pairs_ask : (n : ℕ) (ts : Trees) → tree_count ts ≡ n + n → list_of_each (λ t. requests wide texts.asks (pair_shape s u) t) (paired ts) ≡ members_requests wide texts.asks (pairs_of n s u) ts
   unfolding requests
   pairs_ask zero no_trees e = refl
   pairs_ask zero (tree t ts) e = absurd (omega (arith, e))
   pairs_ask (suc n) no_trees e = absurd (omega (arith, e))
   pairs_ask (suc n) (tree t no_trees) e = absurd (omega (arith, e))
   pairs_ask (suc n) (tree t (tree w ts)) e =
-      let first = requests wide enc s t in
-      let second = requests wide enc u w in
-      let more = list_of_each (λ v. requests wide enc (pair_shape s u) v) (paired ts) in
+      let first = requests wide texts.asks s t in
+      let second = requests wide texts.asks u w in
+      let more = list_of_each (λ v. requests wide texts.asks (pair_shape s u) v) (paired ts) in
       append_assoc first (second ++ []) more ∙ (ap (λ rs. first ++ (rs ++ more)) (append-nil second) ∙ ap (λ rs. first ++ (second ++ rs)) (pairs_ask n ts (omega (arith, e))))
 
   pub pairs_home : (pointer : ℕ → ℕ → Type 0) (n o base at b : ℕ) (ts : Trees) (xs ys : List ℕ) → IsNext wide s u o base → at + base ≡ b → tree_count ts ≡ n + n
-      → MembersHome pointer enc wide (pairs_of n s u) o at ts xs ys → EachHome (λ c t zs vs. Homes pointer enc wide (pair_shape s u) c t zs vs) (pair_size wide s u) b (paired ts) xs ys
+      → MembersHome pointer texts wide (pairs_of n s u) o at ts xs ys → EachHome (λ c t zs vs. Homes pointer texts wide (pair_shape s u) c t zs vs) (pair_size wide s u) b (paired ts) xs ys
   pairs_home pointer zero o base at b no_trees xs ys h is e g = g
   pairs_home pointer zero o base at b (tree t ts) xs ys h is e g = absurd (omega (arith, e))
   pairs_home pointer (suc n) o base at b no_trees xs ys h is e g = absurd (omega (arith, e))
   pairs_home pointer (suc n) o base at b (tree t no_trees) xs ys h is e g = absurd (omega (arith, e))
   pairs_home pointer (suc n) o base at b (tree t (tree w ts)) xs ys h is e (zs, g, (vs, k, more)) = (
     vs,
-    (zs, subst (λ c. Homes pointer enc wide s c t xs zs) (first_at wide s u o base h at b is) g, (vs, subst (λ c. Homes pointer enc wide u c w zs vs) (second_at wide s u o base h at b is) k, refl)),
+    (zs, subst (λ c. Homes pointer texts wide s c t xs zs) (first_at wide s u o base h at b is) g, (vs, subst (λ c. Homes pointer texts wide u c w zs vs) (second_at wide s u o base h at b is) k, refl)),
     pairs_home pointer n (ends wide (ends wide o s) u) (base + pair_size wide s u) at (b + pair_size wide s u) ts vs ys (next_pair wide s u o base h) (omega (arith, is)) (omega (arith, e)) more,
   )
 

@@ -1,14 +1,13 @@
 -- An attempt to lower something: what stands at its places afterwards, with which handles and requests, or why not.
-use Rattle.std.specs.Prelude.{Bool, List, Option, [], true, ℕ, ⊤, ◌++◌, ◌*◌, ◌+◌, ◌-◌, ◌∷◌, ◌≡◌, ◌⊎◌}
+use Rattle.std.specs.Prelude.{Bool, List, Option, [], true, ℕ, ◌++◌, ◌*◌, ◌+◌, ◌-◌, ◌∷◌, ◌≡◌, ◌⊎◌}
 use Rattle.canon_model.specs.Flat.{Flat, MembersFlat, RepValuesIn, max_params}
-use Rattle.canon_model.specs.Homes.{FlatHomes, Homes, MembersFlatHome, MembersHome, ParamsHome, PointsTo}
+use Rattle.canon_model.specs.Homes.{AnyPointer, FlatHomes, Homes, MembersFlatHome, MembersHome, ParamsHome, PointsTo, Texts}
 use Rattle.canon_model.specs.Layout.{align, members_align, members_end, size}
 use Rattle.canon_model.specs.Leaves.{Leaf, leaves, members_leaves}
 use Rattle.canon_model.specs.Memory.{Block, InsideBlocks, Within, memory_of}
 use Rattle.canon_model.specs.Rep.{MembersStored, RepMemIn}
 use Rattle.canon_model.specs.Requests.{Call, Request, members_requests, params_requests, requests}
 use Rattle.canon_model.specs.Shape.{Members, Shape, of_places, product}
-use Rattle.canon_model.specs.Text.{Encoding}
 use Rattle.canon_model.specs.Tree.{Tree, Trees}
 use Rattle.canon_memory.specs.Guest.{Moment}
 use Rattle.canon_memory.specs.Realloc.{block, call}
@@ -19,10 +18,6 @@ use Rattle.canon_lowering.specs.Lowering.{AllLawful, AllTidy, Answer, Ending, Lo
 abbrev pub handle_numbers : List Leaf → List ℕ
 handle_numbers [] = []
 handle_numbers (leaf ∷ others) = leaf.index ∷ handle_numbers others
-
--- any pointer, for homes by the answers alone
-abbrev pub AnyPointer : ℕ → ℕ → Type 0
-AnyPointer a p = ⊤
 
 -- What is to be lowered, told by an x as a tree, or trees in a row: which x it is, what it asks for, what blocks and memory
 -- are to represent, which answers are its homes, and which handles it has, in order.
@@ -59,40 +54,40 @@ module _ {X : Type 0} (wide : Bool) (before after : Moment) (places : List Block
 -- ---- the aims
 
 -- a value in memory, and members from where the one before them ends, at offset o
-abbrev pub value_at : Bool → Encoding → Shape → ℕ → (Tree → Type 0) → Aim Tree
-value_at wide enc s at Has = record {
+abbrev pub value_at : Bool → Texts → Shape → ℕ → (Tree → Type 0) → Aim Tree
+value_at wide texts s at Has = record {
   Is = Has;
-  asks = λ t. requests wide enc s t;
-  Rep = λ blocks bytes t. RepMemIn blocks true enc (memory_of bytes wide) at s t;
-  Home = λ pointer t xs ys. Homes pointer enc wide s at t xs ys;
+  asks = λ t. requests wide texts.asks s t;
+  Rep = λ blocks bytes t. RepMemIn blocks true texts.encoding (memory_of bytes wide) at s t;
+  Home = λ pointer t xs ys. Homes pointer texts wide s at t xs ys;
   handles = λ t. handle_numbers (leaves s t);
 }
 
-abbrev pub members_at : Bool → Encoding → Members → ℕ → ℕ → (Trees → Type 0) → Aim Trees
-members_at wide enc ms o at Have = record {
+abbrev pub members_at : Bool → Texts → Members → ℕ → ℕ → (Trees → Type 0) → Aim Trees
+members_at wide texts ms o at Have = record {
   Is = Have;
-  asks = λ ts. members_requests wide enc ms ts;
-  Rep = λ blocks bytes ts. MembersStored (InsideBlocks blocks (memory_of bytes wide)) true enc (memory_of bytes wide) ms o at ts;
-  Home = λ pointer ts xs ys. MembersHome pointer enc wide ms o at ts xs ys;
+  asks = λ ts. members_requests wide texts.asks ms ts;
+  Rep = λ blocks bytes ts. MembersStored (InsideBlocks blocks (memory_of bytes wide)) true texts.encoding (memory_of bytes wide) ms o at ts;
+  Home = λ pointer ts xs ys. MembersHome pointer texts wide ms o at ts xs ys;
   handles = λ ts. handle_numbers (members_leaves ms ts);
 }
 
 -- the same in words from word i on
-abbrev pub value_words : Bool → Encoding → Shape → List ℕ → ℕ → (Tree → Type 0) → Aim Tree
-value_words wide enc s ws i Has = record {
+abbrev pub value_words : Bool → Texts → Shape → List ℕ → ℕ → (Tree → Type 0) → Aim Tree
+value_words wide texts s ws i Has = record {
   Is = Has;
-  asks = λ t. requests wide enc s t;
-  Rep = λ blocks bytes t. Flat (InsideBlocks blocks (memory_of bytes wide)) true enc (memory_of bytes wide) ws s i t;
-  Home = λ pointer t xs ys. FlatHomes pointer enc wide ws s i t xs ys;
+  asks = λ t. requests wide texts.asks s t;
+  Rep = λ blocks bytes t. Flat (InsideBlocks blocks (memory_of bytes wide)) true texts.encoding (memory_of bytes wide) ws s i t;
+  Home = λ pointer t xs ys. FlatHomes pointer texts wide ws s i t xs ys;
   handles = λ t. handle_numbers (leaves s t);
 }
 
-abbrev pub members_words : Bool → Encoding → Members → List ℕ → ℕ → (Trees → Type 0) → Aim Trees
-members_words wide enc ms ws i Have = record {
+abbrev pub members_words : Bool → Texts → Members → List ℕ → ℕ → (Trees → Type 0) → Aim Trees
+members_words wide texts ms ws i Have = record {
   Is = Have;
-  asks = λ ts. members_requests wide enc ms ts;
-  Rep = λ blocks bytes ts. MembersFlat (InsideBlocks blocks (memory_of bytes wide)) true enc (memory_of bytes wide) ws ms i ts;
-  Home = λ pointer ts xs ys. MembersFlatHome pointer enc wide ws ms i ts xs ys;
+  asks = λ ts. members_requests wide texts.asks ms ts;
+  Rep = λ blocks bytes ts. MembersFlat (InsideBlocks blocks (memory_of bytes wide)) true texts.encoding (memory_of bytes wide) ws ms i ts;
+  Home = λ pointer ts xs ys. MembersFlatHome pointer texts wide ws ms i ts xs ys;
   handles = λ ts. handle_numbers (members_leaves ms ts);
 }
 
@@ -104,17 +99,17 @@ members_span wide ms o at = block (at + o) (members_end wide o ms - o)
 
 -- ---- the attempts
 
-abbrev pub StoresValue : Bool → Moment → Moment → Encoding → Shape → ℕ → (Tree → Type 0) → List ℕ → Ending → Type 0
-StoresValue wide before after enc s at Has hs ending = Attempt wide before after (value_place wide s at ∷ []) (value_at wide enc s at Has) hs ending
+abbrev pub StoresValue : Bool → Moment → Moment → Texts → Shape → ℕ → (Tree → Type 0) → List ℕ → Ending → Type 0
+StoresValue wide before after texts s at Has hs ending = Attempt wide before after (value_place wide s at ∷ []) (value_at wide texts s at Has) hs ending
 
-abbrev pub StoresMembers : Bool → Moment → Moment → Encoding → Members → ℕ → ℕ → (Trees → Type 0) → List ℕ → Ending → Type 0
-StoresMembers wide before after enc ms o at Have hs ending = Attempt wide before after (members_span wide ms o at ∷ []) (members_at wide enc ms o at Have) hs ending
+abbrev pub StoresMembers : Bool → Moment → Moment → Texts → Members → ℕ → ℕ → (Trees → Type 0) → List ℕ → Ending → Type 0
+StoresMembers wide before after texts ms o at Have hs ending = Attempt wide before after (members_span wide ms o at ∷ []) (members_at wide texts ms o at Have) hs ending
 
-abbrev pub LowersValue : Bool → Moment → Moment → Encoding → Shape → List ℕ → ℕ → (Tree → Type 0) → List ℕ → Ending → Type 0
-LowersValue wide before after enc s ws i Has hs ending = Attempt wide before after [] (value_words wide enc s ws i Has) hs ending
+abbrev pub LowersValue : Bool → Moment → Moment → Texts → Shape → List ℕ → ℕ → (Tree → Type 0) → List ℕ → Ending → Type 0
+LowersValue wide before after texts s ws i Has hs ending = Attempt wide before after [] (value_words wide texts s ws i Has) hs ending
 
-abbrev pub LowersMembers : Bool → Moment → Moment → Encoding → Members → List ℕ → ℕ → (Trees → Type 0) → List ℕ → Ending → Type 0
-LowersMembers wide before after enc ms ws i Have hs ending = Attempt wide before after [] (members_words wide enc ms ws i Have) hs ending
+abbrev pub LowersMembers : Bool → Moment → Moment → Texts → Members → List ℕ → ℕ → (Trees → Type 0) → List ℕ → Ending → Type 0
+LowersMembers wide before after texts ms ws i Have hs ending = Attempt wide before after [] (members_words wide texts ms ws i Have) hs ending
 
 -- ---- the blocks that are asked for
 
@@ -128,14 +123,14 @@ args_call wide ms = call 0 0 (members_align wide ms) (size wide (product of_plac
 -- ---- parameters
 
 -- a function's parameters, whose words these are: in a row, or a pointer to them
-abbrev pub args_in : Bool → Encoding → Members → List ℕ → (Trees → Type 0) → Aim Trees
-args_in wide enc ms ws Have = record {
+abbrev pub args_in : Bool → Texts → Members → List ℕ → (Trees → Type 0) → Aim Trees
+args_in wide texts ms ws Have = record {
   Is = Have;
-  asks = λ ts. params_requests wide enc ms ts;
-  Rep = λ blocks bytes ts. RepValuesIn blocks max_params true enc (memory_of bytes wide) ws ms ts;
-  Home = λ pointer ts xs ys. ParamsHome pointer enc wide ws ms ts xs ys;
+  asks = λ ts. params_requests wide texts.asks ms ts;
+  Rep = λ blocks bytes ts. RepValuesIn blocks max_params true texts.encoding (memory_of bytes wide) ws ms ts;
+  Home = λ pointer ts xs ys. ParamsHome pointer texts wide ws ms ts xs ys;
   handles = λ ts. handle_numbers (members_leaves ms ts);
 }
 
-abbrev pub LowersArgs : Bool → Moment → Moment → Encoding → Members → (Trees → Type 0) → List ℕ → List ℕ → Ending → Type 0
-LowersArgs wide before after enc ms Have ws hs ending = Attempt wide before after [] (args_in wide enc ms ws Have) hs ending
+abbrev pub LowersArgs : Bool → Moment → Moment → Texts → Members → (Trees → Type 0) → List ℕ → List ℕ → Ending → Type 0
+LowersArgs wide before after texts ms Have ws hs ending = Attempt wide before after [] (args_in wide texts ms ws Have) hs ending

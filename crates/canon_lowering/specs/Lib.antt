@@ -4,3 +4,4 @@ pub mod Storing
 pub mod Texts
 pub mod Attempt
 pub mod Copies
+pub mod Carried

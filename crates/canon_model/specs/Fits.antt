@@ -1,4 +1,5 @@
--- A tree fits a shape as far as lowering to words asks: its lists of fixed length are as long as their type says.
+-- A tree fits a shape as far as lowering to words asks: it has a tree for each member, a case that there is, and its lists of fixed
+-- length are as long as their type says.
 use Rattle.std.specs.Prelude.{suc, zero, ⊤, ℕ, ◌≡◌}
 use Rattle.canon_model.specs.Shape.{Cases, Members, Shape, bare, borrow, fixed, flags, list, member, no_cases, no_members, own, payload, product, scalar, string, variant}
 use Rattle.canon_model.specs.Tree.{Tree, Trees, case_number, no_trees, payload_of, tree, tree_count, trees_of}
@@ -21,11 +22,11 @@ abbrev mutual
 
   pub MembersFit : Members → Trees → Type 0
   MembersFit no_members ts = ⊤
-  MembersFit (member name s ms) no_trees = ⊤
+  MembersFit (member name s ms) no_trees = ⊥
   MembersFit (member name s ms) (tree t ts) = Fits s t × MembersFit ms ts
 
   pub CaseFits : Cases → ℕ → Tree → Type 0
-  CaseFits no_cases i u = ⊤
+  CaseFits no_cases i u = ⊥
   CaseFits (bare name cs) zero u = ⊤
   CaseFits (bare name cs) (suc i) u = CaseFits cs i u
   CaseFits (payload name s cs) zero u = Fits s u
