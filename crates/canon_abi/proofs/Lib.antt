@@ -1,3 +1,4 @@
 pub mod Members
 pub mod Capped
 pub mod Ties
+pub mod Widths

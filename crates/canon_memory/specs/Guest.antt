@@ -1,6 +1,6 @@
 -- What contracts see of a guest.
 use Rattle.std.specs.Prelude.{ℕ, ◌≤◌, ◌≡◌, ◌++◌, Bool, IsTrue, List, [], ◌∷◌, length, Option, Result, Ok, Err}
-use Rattle.canon_model.specs.Memory.{Block}
+use Rattle.canon_model.specs.Memory.{Block, Memory}
 use Rattle.canon_model.specs.Requests.{Call}
 use Rattle.canon_memory.specs.declared.error.GuestFault.{GuestFault}
 use Rattle.canon_memory.specs.declared.error.GuestFault.TheVariants as fault
@@ -31,13 +31,14 @@ pub record Moment : Type 0 where
 abbrev pub moment : Seen → List ℕ → Moment
 moment guest bytes = record { guest = guest; bytes = bytes }
 
--- a guest, whose memory has so many bytes
+-- a guest, whose memory has so many bytes, and pointers of 8 bytes where it is wide
 pub record GuestIn (G : Type 0) : Type 0 where
   pub guest : G
   pub len : ℕ
+  pub wide : Bool
 
-abbrev pub guest_in : {G : Type 0} → G → List ℕ → GuestIn G
-guest_in guest memory = record { guest = guest; len = length memory }
+abbrev pub guest_in : {G : Type 0} → G → Memory → GuestIn G
+guest_in guest memory = record { guest = guest; len = length memory.bytes; wide = memory.wide }
 
 -- A call goes from one to the other: memory isn't shorter, counts never fall, and it adds these marks and, to a told
 -- journal, these events.
@@ -91,7 +92,7 @@ pub record Recorded (G : Type 0) : Type 0 where
 
 -- the guest of one that tells its journal, in the same memory
 abbrev pub of_guest : {G : Type 0} → GuestIn (Recorded G) → GuestIn G
-of_guest j = record { guest = j.guest.guest; len = j.len }
+of_guest j = record { guest = j.guest.guest; len = j.len; wide = j.wide }
 
 -- It moves as its guest does, and no want of memory was answered.
 pub record JournaledMoves {G : Type 0} (Moves : GuestIn G → List Event → GuestIn G → Type 0) (j : GuestIn (Recorded G)) (events : List Event) (k : GuestIn (Recorded G)) : Type 0 where

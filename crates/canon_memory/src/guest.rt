@@ -1,6 +1,6 @@
 //! The trait of a component's code: it starts, resumes, reallocates, and runs post-return and destructors.
 
-ghost use Rattle.std.specs.Prelude.{ℕ, ◌<◌, ◌^◌, ◌++◌, List, [], IfOk, OnOk};
+ghost use Rattle.std.specs.Prelude.{ℕ, IsFalse, ◌≡◌, ◌<◌, ◌^◌, ◌++◌, List, [], IfOk, OnOk};
 ghost use Rattle.canon_memory.specs.declared.event.Event.{Event};
 ghost use Rattle.canon_memory.specs.Guest.{Goes, GuestIn, HasCause, OnAnswer, Reallocates, Seen, guest_in, moment};
 ghost use Rattle.canon_memory.specs.Journal.{dtor_events, post_events, realloc_events, resume_events, start_events};
@@ -16,7 +16,7 @@ pub enum Step {
 }
 
 /// The code of a component, which runs in its memory. It may lie in all that it answers, but it doesn't make memory
-/// shorter.
+/// shorter, nor changes how wide its pointers are.
 pub trait Guest {
     /// Its journal, marks, live blocks and counts.
     ghost seen: { Self → Seen };
@@ -35,14 +35,16 @@ pub trait Guest {
         func: u32,
         words: &[ValRaw],
     ) -> Result<Step, GuestFault>
-        ensures goes { Goes (moment (seen self.old) memory.old) (moment (seen self.new) memory.new) [] (start_events func words.now memory.old memory.new result) }
-        ensures moves { OnAnswer result (moves (guest_in self.old memory.old) (start_events func words.now memory.old memory.new result) (guest_in self.new memory.new)) }
+        ensures width { memory.new.wide ≡ memory.old.wide }
+        ensures goes { Goes (moment (seen self.old) memory.old.bytes) (moment (seen self.new) memory.new.bytes) [] (start_events func words.now memory.old.bytes memory.new.bytes result) }
+        ensures moves { OnAnswer result (moves (guest_in self.old memory.old) (start_events func words.now memory.old.bytes memory.new.bytes result) (guest_in self.new memory.new)) }
         ensures cause { HasCause (seen self.old) (seen self.new) result };
 
     /// Lets a guest that asked for an import go on with these words.
     fn resume(&mut self, memory: &mut Memory, words: &[ValRaw]) -> Result<Step, GuestFault>
-        ensures goes { Goes (moment (seen self.old) memory.old) (moment (seen self.new) memory.new) [] (resume_events words.now memory.old memory.new result) }
-        ensures moves { OnAnswer result (moves (guest_in self.old memory.old) (resume_events words.now memory.old memory.new result) (guest_in self.new memory.new)) }
+        ensures width { memory.new.wide ≡ memory.old.wide }
+        ensures goes { Goes (moment (seen self.old) memory.old.bytes) (moment (seen self.new) memory.new.bytes) [] (resume_events words.now memory.old.bytes memory.new.bytes result) }
+        ensures moves { OnAnswer result (moves (guest_in self.old memory.old) (resume_events words.now memory.old.bytes memory.new.bytes result) (guest_in self.new memory.new)) }
         ensures cause { HasCause (seen self.old) (seen self.new) result };
 
     /// Asks for a block of `new_size` bytes, in the place of the block of `old_size` bytes at `old` (CanonicalABI.md,
@@ -59,9 +61,10 @@ pub trait Guest {
         requires narrow { old < 2 ^ 32 }
         requires old_sized { old_size < 2 ^ 32 }
         requires new_sized { new_size < 2 ^ 32 }
-        ensures narrow { IfOk result (λ answer. answer < 2 ^ 32) }
-        ensures does { Reallocates (moment (seen self.old) memory.old) (moment (seen self.new) memory.new) (call old old_size align new_size) result }
-        ensures moves { OnAnswer result (moves (guest_in self.old memory.old) (realloc_events (call old old_size align new_size) memory.old result) (guest_in self.new memory.new)) };
+        ensures narrow { IsFalse memory.old.wide → IfOk result (λ answer. answer < 2 ^ 32) }
+        ensures width { memory.new.wide ≡ memory.old.wide }
+        ensures does { Reallocates (moment (seen self.old) memory.old.bytes) (moment (seen self.new) memory.new.bytes) (call old old_size align new_size) result }
+        ensures moves { OnAnswer result (moves (guest_in self.old memory.old) (realloc_events (call old old_size align new_size) memory.old.bytes result) (guest_in self.new memory.new)) };
 
     /// Tells a guest that its returned words were read (CanonicalABI.md, "post-return").
     fn post_return(
@@ -70,16 +73,18 @@ pub trait Guest {
         func: u32,
         words: &[ValRaw],
     ) -> Result<(), GuestFault>
-        ensures goes { Goes (moment (seen self.old) memory.old) (moment (seen self.new) memory.new) [] (post_events func words.now memory.old result) }
-        ensures moves { OnAnswer result (moves (guest_in self.old memory.old) (post_events func words.now memory.old result) (guest_in self.new memory.new)) }
-        ensures leaves { OnOk result (leaves memory.old memory.new) }
+        ensures width { memory.new.wide ≡ memory.old.wide }
+        ensures goes { Goes (moment (seen self.old) memory.old.bytes) (moment (seen self.new) memory.new.bytes) [] (post_events func words.now memory.old.bytes result) }
+        ensures moves { OnAnswer result (moves (guest_in self.old memory.old) (post_events func words.now memory.old.bytes result) (guest_in self.new memory.new)) }
+        ensures leaves { OnOk result (leaves memory.old.bytes memory.new.bytes) }
         ensures cause { HasCause (seen self.old) (seen self.new) result };
 
     /// Runs the destructor of a resource of this representation.
     fn dtor(&mut self, memory: &mut Memory, func: u32, rep: u32) -> Result<(), GuestFault>
-        ensures goes { Goes (moment (seen self.old) memory.old) (moment (seen self.new) memory.new) [] (dtor_events func rep memory.old result) }
-        ensures moves { OnAnswer result (moves (guest_in self.old memory.old) (dtor_events func rep memory.old result) (guest_in self.new memory.new)) }
-        ensures leaves { OnOk result (leaves memory.old memory.new) }
+        ensures width { memory.new.wide ≡ memory.old.wide }
+        ensures goes { Goes (moment (seen self.old) memory.old.bytes) (moment (seen self.new) memory.new.bytes) [] (dtor_events func rep memory.old.bytes result) }
+        ensures moves { OnAnswer result (moves (guest_in self.old memory.old) (dtor_events func rep memory.old.bytes result) (guest_in self.new memory.new)) }
+        ensures leaves { OnOk result (leaves memory.old.bytes memory.new.bytes) }
         ensures cause { HasCause (seen self.old) (seen self.new) result };
 
     /// It may do nothing.

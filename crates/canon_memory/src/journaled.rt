@@ -87,7 +87,7 @@ impl<G> Journaled<G> {
     fn conclude(&mut self, memory: &Memory, step: &Step) -> Result<(), MemoryError>
         requires { 2 ≤ length self.old.events }
         ensures guest { self.new.guest ≡ self.old.guest }
-        ensures told { OnOk result (self.new.events ≡ take (length self.old.events - 1) self.old.events ++ step_event step.now memory.now ∷ []) }
+        ensures told { OnOk result (self.new.events ≡ take (length self.old.events - 1) self.old.events ++ step_event step.now memory.now.bytes ∷ []) }
         ensures untold { OnErr result (self.new.events ≡ take (length self.old.events - 2) self.old.events) }
         ensures later { self.old.shortages ≤ self.new.shortages }
         ensures same { OnOk result (self.new.shortages ≡ self.old.shortages) }
@@ -244,7 +244,7 @@ impl<G: Guest> Guest for Journaled<G> {
 
 /// Adds a call's event, and the trap that stays where the guest traps.
 fn begin(events: &mut Events, first: Event, memory: &Memory) -> Result<(), MemoryError>
-    ensures ok { OnOk result (events.new ≡ events.old ++ first ∷ trap_event (length memory.now) ∷ []) }
+    ensures ok { OnOk result (events.new ≡ events.old ++ first ∷ trap_event (length memory.now.bytes) ∷ []) }
     ensures err { OnErr result (events.new ≡ events.old) }
 {
     let trap = Event::Trap {
@@ -261,7 +261,7 @@ fn begin_start(
     func: u32,
     words: &[ValRaw],
 ) -> Result<(), MemoryError>
-    ensures ok { OnOk result (events.new ≡ events.old ++ event.Start func words.now memory.now ∷ trap_event (length memory.now) ∷ []) }
+    ensures ok { OnOk result (events.new ≡ events.old ++ event.Start func words.now memory.now.bytes ∷ trap_event (length memory.now.bytes) ∷ []) }
     ensures err { OnErr result (events.new ≡ events.old) }
 {
     let start = Event::Start {
@@ -278,7 +278,7 @@ fn begin_resume(
     memory: &Memory,
     words: &[ValRaw],
 ) -> Result<(), MemoryError>
-    ensures ok { OnOk result (events.new ≡ events.old ++ event.Resume words.now memory.now ∷ trap_event (length memory.now) ∷ []) }
+    ensures ok { OnOk result (events.new ≡ events.old ++ event.Resume words.now memory.now.bytes ∷ trap_event (length memory.now.bytes) ∷ []) }
     ensures err { OnErr result (events.new ≡ events.old) }
 {
     let resume = Event::Resume {
@@ -295,7 +295,7 @@ fn begin_post(
     func: u32,
     words: &[ValRaw],
 ) -> Result<(), MemoryError>
-    ensures ok { OnOk result (events.new ≡ events.old ++ event.Post func words.now ∷ trap_event (length memory.now) ∷ []) }
+    ensures ok { OnOk result (events.new ≡ events.old ++ event.Post func words.now ∷ trap_event (length memory.now.bytes) ∷ []) }
     ensures err { OnErr result (events.new ≡ events.old) }
 {
     let post = Event::Post {
@@ -306,7 +306,7 @@ fn begin_post(
 }
 
 fn event_of(alloc: Global, step: &Step, memory: &Memory) -> Result<Event, MemoryError>
-    ensures { IfOk result (λ e. e ≡ step_event step.now memory.now) }
+    ensures { IfOk result (λ e. e ≡ step_event step.now memory.now.bytes) }
 {
     let memory = Bytes::from_slice(alloc, memory.as_slice())?;
     match step {

@@ -8,6 +8,7 @@ use Rattle.std.proofs.lemmas.List.{get_or_push}
 use Rattle.std.proofs.lemmas.List.Elements.{All-nil, All-cons}
 use Rattle.canon_types.specs.declared.types.InterfaceType.{InterfaceType}
 use Rattle.canon_model.specs.Layout.{size}
+use Rattle.canon_abi.specs.Abi.{wider_size}
 use Rattle.canon_model.specs.Shape.{ListKind, Shape, list}
 use Rattle.canon_types.specs.Depth.{deepest, depth}
 use Rattle.std.proofs.lemmas.Bool.Decides.{nat_tests}
@@ -28,20 +29,20 @@ all_from_list_all test (t ∷ ts) h =
     All-cons (λ type. IsTrue (test type)) t ts both.0 (all_from_list_all test ts both.1)
 
 -- a refusal goes by its three parts
-pub refusal_parts : (t : TypeTable) (d : Definition) → refusal t d ≡ or_else (parts_refusal t (parts d) (is_empty d)) (or_else (names_refusal (names d) (most_names d)) (shape_refusal t (depth (defined_shape (all_shapes t) d)) (size false (laid_shape (all_shapes t) d))))
+pub refusal_parts : (t : TypeTable) (d : Definition) → refusal t d ≡ or_else (parts_refusal t (parts d) (is_empty d)) (or_else (names_refusal (names d) (most_names d)) (shape_refusal t (depth (defined_shape (all_shapes t) d)) (wider_size (laid_shape (all_shapes t) d))))
 refusal_parts t d = refl
 
 pub refused_at_parts : (t : TypeTable) (d : Definition) (e : TypeError) → parts_refusal t (parts d) (is_empty d) ≡ Some e → refusal t d ≡ Some e
-refused_at_parts t d e h = refusal_parts t d ∙ ap (λ (o : Option TypeError). or_else o (or_else (names_refusal (names d) (most_names d)) (shape_refusal t (depth (defined_shape (all_shapes t) d)) (size false (laid_shape (all_shapes t) d))))) h
+refused_at_parts t d e h = refusal_parts t d ∙ ap (λ (o : Option TypeError). or_else o (or_else (names_refusal (names d) (most_names d)) (shape_refusal t (depth (defined_shape (all_shapes t) d)) (wider_size (laid_shape (all_shapes t) d))))) h
 
-pub refused_at_names : (t : TypeTable) (d : Definition) (o : Option TypeError) → parts_refusal t (parts d) (is_empty d) ≡ None → names_refusal (names d) (most_names d) ≡ o → refusal t d ≡ or_else o (shape_refusal t (depth (defined_shape (all_shapes t) d)) (size false (laid_shape (all_shapes t) d)))
+pub refused_at_names : (t : TypeTable) (d : Definition) (o : Option TypeError) → parts_refusal t (parts d) (is_empty d) ≡ None → names_refusal (names d) (most_names d) ≡ o → refusal t d ≡ or_else o (shape_refusal t (depth (defined_shape (all_shapes t) d)) (wider_size (laid_shape (all_shapes t) d)))
 refused_at_names t d o parts_pass h =
     refusal_parts t d
-    ∙ ap (λ (x : Option TypeError). or_else x (or_else (names_refusal (names d) (most_names d)) (shape_refusal t (depth (defined_shape (all_shapes t) d)) (size false (laid_shape (all_shapes t) d))))) parts_pass
-    ∙ ap (λ (x : Option TypeError). or_else x (shape_refusal t (depth (defined_shape (all_shapes t) d)) (size false (laid_shape (all_shapes t) d)))) h
+    ∙ ap (λ (x : Option TypeError). or_else x (or_else (names_refusal (names d) (most_names d)) (shape_refusal t (depth (defined_shape (all_shapes t) d)) (wider_size (laid_shape (all_shapes t) d))))) parts_pass
+    ∙ ap (λ (x : Option TypeError). or_else x (shape_refusal t (depth (defined_shape (all_shapes t) d)) (wider_size (laid_shape (all_shapes t) d)))) h
 
 -- past the parts and the names, the shape decides
-pub refused_at_shape : (t : TypeTable) (d : Definition) → parts_refusal t (parts d) (is_empty d) ≡ None → names_refusal (names d) (most_names d) ≡ None → refusal t d ≡ shape_refusal t (depth (defined_shape (all_shapes t) d)) (size false (laid_shape (all_shapes t) d))
+pub refused_at_shape : (t : TypeTable) (d : Definition) → parts_refusal t (parts d) (is_empty d) ≡ None → names_refusal (names d) (most_names d) ≡ None → refusal t d ≡ shape_refusal t (depth (defined_shape (all_shapes t) d)) (wider_size (laid_shape (all_shapes t) d))
 refused_at_shape t d parts_pass names_pass = refused_at_names t d None parts_pass names_pass
 
 accepted_passes : (t : TypeTable) (d : Definition) → refusal t d ≡ None → parts_refusal t (parts d) (is_empty d) ≡ None
@@ -86,9 +87,9 @@ shape_large : (t : TypeTable) (deep bytes : ℕ) → deep ≤ 100 → 2 ^ 32 ≤
 shape_large t deep bytes h k = grind (arith, nat_tests)
 
 pub refused_deep : (t : TypeTable) (d : Definition) → Passes t d → 100 < depth (defined_shape (all_shapes t) d) → refusal t d ≡ Some error.TooDeep
-refused_deep t d p h = refused_at_shape t d p.parts_pass p.names_pass ∙ shape_deep t _ (size false (laid_shape (all_shapes t) d)) h
+refused_deep t d p h = refused_at_shape t d p.parts_pass p.names_pass ∙ shape_deep t _ (wider_size (laid_shape (all_shapes t) d)) h
 
-pub refused_large : (t : TypeTable) (d : Definition) → Passes t d → depth (defined_shape (all_shapes t) d) ≤ 100 → 2 ^ 32 ≤ size false (laid_shape (all_shapes t) d) → refusal t d ≡ Some error.SizeTooLarge
+pub refused_large : (t : TypeTable) (d : Definition) → Passes t d → depth (defined_shape (all_shapes t) d) ≤ 100 → 2 ^ 32 ≤ wider_size (laid_shape (all_shapes t) d) → refusal t d ≡ Some error.SizeTooLarge
 refused_large t d p h k = refused_at_shape t d p.parts_pass p.names_pass ∙ shape_large t _ _ h k
 
 -- parts, names and depth are as they should be
@@ -109,16 +110,16 @@ deep_refused t d types measured empty same_types same_measured same_empty h name
     refused_deep t d (passes_by t d types empty same_types same_empty h names_pass)
     (omega (arith, depth_defined (all_shapes t) d, deep, ap (λ (ts : List InterfaceType). deepest (members_of t ts)) same_measured))
 
-pub large_refused : (t : TypeTable) (d : Definition) → Before t d → 2 ^ 32 ≤ size false (laid_shape (all_shapes t) d) → refusal t d ≡ Some error.SizeTooLarge
+pub large_refused : (t : TypeTable) (d : Definition) → Before t d → 2 ^ 32 ≤ wider_size (laid_shape (all_shapes t) d) → refusal t d ≡ Some error.SizeTooLarge
 large_refused t d b h = refused_large t d b.passes b.shallow h
 
 shape_room : (t : TypeTable) (deep bytes : ℕ) → deep ≤ 100 → bytes < 2 ^ 32 → shape_refusal t deep bytes ≡ first_error ((is_full_for 1 t, error.TooManyTypes) ∷ [])
 shape_room t deep bytes h k = grind (arith, nat_tests)
 
-pub fits_with_room : (t : TypeTable) (d : Definition) → Before t d → size false (laid_shape (all_shapes t) d) < 2 ^ 32 → FitsWithRoom t d
+pub fits_with_room : (t : TypeTable) (d : Definition) → Before t d → wider_size (laid_shape (all_shapes t) d) < 2 ^ 32 → FitsWithRoom t d
 fits_with_room t d b h = refused_at_shape t d b.passes.parts_pass b.passes.names_pass ∙ shape_room t _ _ b.shallow h
 
-pub list_small : (k : ListKind) (s : Shape) → size false (list k s) < 2 ^ 32
+pub list_small : (k : ListKind) (s : Shape) → wider_size (list k s) < 2 ^ 32
 unfolding size
 list_small k s = lit< tt
 

@@ -1,9 +1,9 @@
 -- The numbers of parts, in order, are those of the members or the cases that the parts make.
-use Rattle.std.proofs.Common.{◌≡◌, ℕ, suc, ◌+◌, ◌<◌, ◌≤◌, ◌^◌, max, false, Option, Some, None, List, [], ◌∷◌, ◌++◌, length, map, take, get_or, refl, sym, ap, ◌∙◌, subst, arith}
+use Rattle.std.proofs.Common.{Bool, true, ◌≡◌, ℕ, suc, ◌+◌, ◌<◌, ◌≤◌, ◌^◌, max, false, Option, Some, None, List, [], ◌∷◌, ◌++◌, length, map, take, get_or, refl, sym, ap, ◌∙◌, subst, arith}
 use Rattle.std.specs.List.{AllZip}
 use Rattle.std.proofs.lemmas.List.{take_more}
-use Rattle.canon_abi.specs.Numbers.{flat_within}
-use Rattle.canon_abi.specs.Abi.{AreOfCases, AreOfMembers, HasInfo, HasLayout, TellsLayout, TellsVariant}
+use Rattle.canon_abi.specs.Numbers.{align_in, flat_within, size_in}
+use Rattle.canon_abi.specs.Abi.{AreOfCases, AreOfMembers, HasInfo, HasLayout, TellsLayout, TellsVariant, wider_size}
 use Rattle.canon_abi.specs.declared.abi.CanonicalAbiInfo.{CanonicalAbiInfo}
 use Rattle.canon_abi.specs.declared.abi.VariantInfo.{VariantInfo}
 use Rattle.canon_model.specs.Layout.{align, align_to, cases_align, cases_flat, cases_size, ends, flat, members_align, members_end, members_flat, payload_offset, size, tag_size}
@@ -53,32 +53,38 @@ cases_laid known (Some a ∷ abis) (None ∷ ps) h = absurd h.0
 
 -- ---- names are no part of a layout
 
-fields_end : (known : List Shape) (o : ℕ) (fs : List (Name × InterfaceType)) → members_end false o (fields_in known fs) ≡ members_end false o (members_in known (map (λ f. f.1) fs))
-unfolding size
-fields_end known o [] = refl
-fields_end known o (f ∷ fs) = fields_end known (ends false o (shape_in known f.1)) fs
+wider_same : (s v : Shape) → ((wide : Bool) → size wide s ≡ size wide v) → wider_size s ≡ wider_size v
+wider_same s v h = ap (λ (n : ℕ). max n (size true s)) (h false) ∙ ap (λ (n : ℕ). max (size false v) n) (h true)
 
-fields_align : (known : List Shape) (fs : List (Name × InterfaceType)) → members_align false (fields_in known fs) ≡ members_align false (members_in known (map (λ f. f.1) fs))
+fields_end : (wide : Bool) (known : List Shape) (o : ℕ) (fs : List (Name × InterfaceType)) → members_end wide o (fields_in known fs) ≡ members_end wide o (members_in known (map (λ f. f.1) fs))
+unfolding size
+fields_end wide known o [] = refl
+fields_end wide known o (f ∷ fs) = fields_end wide known (ends wide o (shape_in known f.1)) fs
+
+fields_align : (wide : Bool) (known : List Shape) (fs : List (Name × InterfaceType)) → members_align wide (fields_in known fs) ≡ members_align wide (members_in known (map (λ f. f.1) fs))
 unfolding align
-fields_align known [] = refl
-fields_align known (f ∷ fs) = ap (max (align false (shape_in known f.1))) (fields_align known fs)
+fields_align wide known [] = refl
+fields_align wide known (f ∷ fs) = ap (max (align wide (shape_in known f.1))) (fields_align wide known fs)
 
 fields_flat : (known : List Shape) (fs : List (Name × InterfaceType)) → members_flat (fields_in known fs) ≡ members_flat (members_in known (map (λ f. f.1) fs))
 unfolding flat
 fields_flat known [] = refl
 fields_flat known (f ∷ fs) = ap (λ (n : ℕ). flat (shape_in known f.1) + n) (fields_flat known fs)
 
-pub fields_size : (known : List Shape) (k j : ProductKind) (fs : List (Name × InterfaceType)) → size false (product k (fields_in known fs)) ≡ size false (product j (members_in known (map (λ f. f.1) fs)))
+fields_size : (wide : Bool) (known : List Shape) (k j : ProductKind) (fs : List (Name × InterfaceType)) → size wide (product k (fields_in known fs)) ≡ size wide (product j (members_in known (map (λ f. f.1) fs)))
 unfolding size
-fields_size known k j fs =
-    ap (λ (n : ℕ). align_to n (members_align false (fields_in known fs))) (fields_end known 0 fs)
-    ∙ ap (align_to (members_end false 0 (members_in known (map (λ f. f.1) fs)))) (fields_align known fs)
+fields_size wide known k j fs =
+    ap (λ (n : ℕ). align_to n (members_align wide (fields_in known fs))) (fields_end wide known 0 fs)
+    ∙ ap (align_to (members_end wide 0 (members_in known (map (λ f. f.1) fs)))) (fields_align wide known fs)
+
+pub fields_bytes : (known : List Shape) (k j : ProductKind) (fs : List (Name × InterfaceType)) → wider_size (product k (fields_in known fs)) ≡ wider_size (product j (members_in known (map (λ f. f.1) fs)))
+fields_bytes known k j fs = wider_same _ _ (λ wide. fields_size wide known k j fs)
 
 pub fields_laid : (known : List Shape) (abi : CanonicalAbiInfo) (k j : ProductKind) (fs : List (Name × InterfaceType)) → HasLayout abi (product j (members_in known (map (λ f. f.1) fs))) → HasLayout abi (product k (fields_in known fs))
 unfolding align flat
 fields_laid known abi k j fs h = record {
-  size = h.size ∙ sym (fields_size known k j fs);
-  align = h.align ∙ sym (fields_align known fs);
+  size = λ wide. h.size wide ∙ sym (fields_size wide known k j fs);
+  align = λ wide. h.align wide ∙ sym (fields_align wide known fs);
   flat = h.flat ∙ ap flat_within (sym (fields_flat known fs));
 }
 
@@ -87,17 +93,17 @@ unnamed_count known [] = refl
 unnamed_count known ((name, None) ∷ cs) = ap (λ (n : ℕ). suc n) (unnamed_count known cs)
 unnamed_count known ((name, Some t) ∷ cs) = ap (λ (n : ℕ). suc n) (unnamed_count known cs)
 
-unnamed_align : (known : List Shape) (cs : List (Name × Option InterfaceType)) → cases_align false (cases_in known cs) ≡ cases_align false (unnamed_cases known (map (λ c. c.1) cs))
+unnamed_align : (wide : Bool) (known : List Shape) (cs : List (Name × Option InterfaceType)) → cases_align wide (cases_in known cs) ≡ cases_align wide (unnamed_cases known (map (λ c. c.1) cs))
 unfolding align
-unnamed_align known [] = refl
-unnamed_align known ((name, None) ∷ cs) = unnamed_align known cs
-unnamed_align known ((name, Some t) ∷ cs) = ap (max (align false (shape_in known t))) (unnamed_align known cs)
+unnamed_align wide known [] = refl
+unnamed_align wide known ((name, None) ∷ cs) = unnamed_align wide known cs
+unnamed_align wide known ((name, Some t) ∷ cs) = ap (max (align wide (shape_in known t))) (unnamed_align wide known cs)
 
-unnamed_size : (known : List Shape) (cs : List (Name × Option InterfaceType)) → cases_size false (cases_in known cs) ≡ cases_size false (unnamed_cases known (map (λ c. c.1) cs))
+unnamed_size : (wide : Bool) (known : List Shape) (cs : List (Name × Option InterfaceType)) → cases_size wide (cases_in known cs) ≡ cases_size wide (unnamed_cases known (map (λ c. c.1) cs))
 unfolding size
-unnamed_size known [] = refl
-unnamed_size known ((name, None) ∷ cs) = unnamed_size known cs
-unnamed_size known ((name, Some t) ∷ cs) = ap (max (size false (shape_in known t))) (unnamed_size known cs)
+unnamed_size wide known [] = refl
+unnamed_size wide known ((name, None) ∷ cs) = unnamed_size wide known cs
+unnamed_size wide known ((name, Some t) ∷ cs) = ap (max (size wide (shape_in known t))) (unnamed_size wide known cs)
 
 unnamed_flat : (known : List Shape) (cs : List (Name × Option InterfaceType)) → cases_flat (cases_in known cs) ≡ cases_flat (unnamed_cases known (map (λ c. c.1) cs))
 unfolding flat
@@ -108,57 +114,57 @@ unnamed_flat known ((name, Some t) ∷ cs) = ap (max (flat (shape_in known t))) 
 -- cases of the same count, alignment, size and words
 record SameCases (cs ds : Cases) : Type 0 where
   count : case_count cs ≡ case_count ds
-  align : cases_align false cs ≡ cases_align false ds
-  size : cases_size false cs ≡ cases_size false ds
+  align : (wide : Bool) → cases_align wide cs ≡ cases_align wide ds
+  size : (wide : Bool) → cases_size wide cs ≡ cases_size wide ds
   flat : cases_flat cs ≡ cases_flat ds
 
-same_offset : (cs ds : Cases) → SameCases cs ds → payload_offset false cs ≡ payload_offset false ds
-same_offset cs ds h =
-    ap (λ (n : ℕ). align_to (tag_size n) (cases_align false cs)) h.count ∙ ap (align_to (tag_size (case_count ds))) h.align
+same_offset : (wide : Bool) (cs ds : Cases) → SameCases cs ds → payload_offset wide cs ≡ payload_offset wide ds
+same_offset wide cs ds h =
+    ap (λ (n : ℕ). align_to (tag_size n) (cases_align wide cs)) h.count ∙ ap (align_to (tag_size (case_count ds))) (h.align wide)
 
-same_align : (k j : VariantKind) (cs ds : Cases) → SameCases cs ds → align false (variant k cs) ≡ align false (variant j ds)
+same_align : (wide : Bool) (k j : VariantKind) (cs ds : Cases) → SameCases cs ds → align wide (variant k cs) ≡ align wide (variant j ds)
 unfolding align
-same_align k j cs ds h =
-    ap (λ (n : ℕ). max (tag_size n) (cases_align false cs)) h.count ∙ ap (max (tag_size (case_count ds))) h.align
+same_align wide k j cs ds h =
+    ap (λ (n : ℕ). max (tag_size n) (cases_align wide cs)) h.count ∙ ap (max (tag_size (case_count ds))) (h.align wide)
 
-abbrev both : Cases → ℕ
-both cs = max (tag_size (case_count cs)) (cases_align false cs)
+abbrev both : Bool → Cases → ℕ
+both wide cs = max (tag_size (case_count cs)) (cases_align wide cs)
 
-same_both : (cs ds : Cases) → SameCases cs ds → both cs ≡ both ds
-same_both cs ds h = ap (λ (n : ℕ). max (tag_size n) (cases_align false cs)) h.count ∙ ap (max (tag_size (case_count ds))) h.align
+same_both : (wide : Bool) (cs ds : Cases) → SameCases cs ds → both wide cs ≡ both wide ds
+same_both wide cs ds h = ap (λ (n : ℕ). max (tag_size n) (cases_align wide cs)) h.count ∙ ap (max (tag_size (case_count ds))) (h.align wide)
 
-same_size : (k j : VariantKind) (cs ds : Cases) → SameCases cs ds → size false (variant k cs) ≡ size false (variant j ds)
+same_size : (wide : Bool) (k j : VariantKind) (cs ds : Cases) → SameCases cs ds → size wide (variant k cs) ≡ size wide (variant j ds)
 unfolding size
-same_size k j cs ds h =
-    ap (λ (o : ℕ). align_to (o + cases_size false cs) (both cs)) (same_offset cs ds h)
-    ∙ ap (λ (n : ℕ). align_to (payload_offset false ds + n) (both cs)) h.size
-    ∙ ap (align_to (payload_offset false ds + cases_size false ds)) (same_both cs ds h)
+same_size wide k j cs ds h =
+    ap (λ (o : ℕ). align_to (o + cases_size wide cs) (both wide cs)) (same_offset wide cs ds h)
+    ∙ ap (λ (n : ℕ). align_to (payload_offset wide ds + n) (both wide cs)) (h.size wide)
+    ∙ ap (align_to (payload_offset wide ds + cases_size wide ds)) (same_both wide cs ds h)
 
 same_laid : (abi : CanonicalAbiInfo) (k j : VariantKind) (cs ds : Cases) → SameCases cs ds → HasLayout abi (variant j ds) → HasLayout abi (variant k cs)
 unfolding flat
 same_laid abi k j cs ds h laid = record {
-  size = laid.size ∙ sym (same_size k j cs ds h);
-  align = laid.align ∙ sym (same_align k j cs ds h);
+  size = λ wide. laid.size wide ∙ sym (same_size wide k j cs ds h);
+  align = λ wide. laid.align wide ∙ sym (same_align wide k j cs ds h);
   flat = laid.flat ∙ ap (λ (n : ℕ). flat_within (1 + n)) (sym h.flat);
 }
 
 same_info : (info : VariantInfo) (cs ds : Cases) → SameCases cs ds → HasInfo info ds → HasInfo info cs
 same_info info cs ds h has = record {
   size = has.size ∙ ap tag_size (sym h.count);
-  offset = has.offset ∙ sym (same_offset cs ds h);
+  offset = λ wide. has.offset wide ∙ sym (same_offset wide cs ds h);
   few = omega (arith, has.few, h.count);
 }
 
 named_same : (known : List Shape) (cs : List (Name × Option InterfaceType)) → SameCases (cases_in known cs) (unnamed_cases known (map (λ c. c.1) cs))
 named_same known cs = record {
   count = unnamed_count known cs;
-  align = unnamed_align known cs;
-  size = unnamed_size known cs;
+  align = λ wide. unnamed_align wide known cs;
+  size = λ wide. unnamed_size wide known cs;
   flat = unnamed_flat known cs;
 }
 
-pub variant_bytes : (known : List Shape) (k j : VariantKind) (cs : List (Name × Option InterfaceType)) → size false (variant k (cases_in known cs)) ≡ size false (variant j (unnamed_cases known (map (λ c. c.1) cs)))
-variant_bytes known k j cs = same_size k j _ _ (named_same known cs)
+pub variant_bytes : (known : List Shape) (k j : VariantKind) (cs : List (Name × Option InterfaceType)) → wider_size (variant k (cases_in known cs)) ≡ wider_size (variant j (unnamed_cases known (map (λ c. c.1) cs)))
+variant_bytes known k j cs = wider_same _ _ (λ wide. same_size wide k j _ _ (named_same known cs))
 
 pub variant_laid : (known : List Shape) (abi : CanonicalAbiInfo) (k j : VariantKind) (cs : List (Name × Option InterfaceType)) → HasLayout abi (variant j (unnamed_cases known (map (λ c. c.1) cs))) → HasLayout abi (variant k (cases_in known cs))
 variant_laid known abi k j cs = same_laid abi k j _ _ (named_same known cs)
@@ -177,9 +183,9 @@ pub kind_laid : (abi : CanonicalAbiInfo) (k j : VariantKind) (cs : Cases) → Ha
 unfolding size align flat
 kind_laid abi k j cs h = record { size = h.size; align = h.align; flat = h.flat }
 
-pub result_bytes : (known : List Shape) (ok error : Option InterfaceType) → size false (variant of_option (unnamed_cases known (ok ∷ error ∷ []))) ≡ size false (result_of (payload_in known ok) (payload_in known error))
+pub result_bytes : (known : List Shape) (ok error : Option InterfaceType) → wider_size (variant of_option (unnamed_cases known (ok ∷ error ∷ []))) ≡ wider_size (result_of (payload_in known ok) (payload_in known error))
 unfolding size
-result_bytes known ok error = ap (λ (cs : Cases). size false (variant of_result cs)) (result_cases known ok error)
+result_bytes known ok error = ap (λ (cs : Cases). wider_size (variant of_result cs)) (result_cases known ok error)
 
 pub result_laid : (known : List Shape) (abi : CanonicalAbiInfo) (ok error : Option InterfaceType) → HasLayout abi (variant of_option (unnamed_cases known (ok ∷ error ∷ []))) → HasLayout abi (result_of (payload_in known ok) (payload_in known error))
 result_laid known abi ok error h =
@@ -198,8 +204,8 @@ variant_answered known answer abis laid payloads h same are =
     h of_option (unnamed_cases known payloads) (subst (λ (xs : List (Option CanonicalAbiInfo)). AreOfCases xs (unnamed_cases known payloads)) (sym same) (cases_laid known laid payloads are))
 
 -- a size that is told is below 2 ^ 32
-pub told_below : (abi : CanonicalAbiInfo) (s : Shape) → HasLayout abi s → size false s < 2 ^ 32
-told_below abi s h = omega (arith, h.size, abi.in_range)
+pub told_below : (abi : CanonicalAbiInfo) (s : Shape) → HasLayout abi s → wider_size s < 2 ^ 32
+told_below abi s h = omega (arith, h.size false, h.size true, abi.in_range, abi.in_range64)
 
 pub length_laid : (known : List Shape) (abis : List (Option CanonicalAbiInfo)) (payloads : List (Option InterfaceType)) → ArePayloadsLaid known abis payloads → length abis ≡ length payloads
 length_laid known [] [] h = refl
@@ -209,17 +215,19 @@ length_laid known (a ∷ abis) (p ∷ ps) h = ap (λ (n : ℕ). suc n) (length_l
 
 -- ---- pairs
 
-pair_at : (ka kb : CanonicalAbiInfo) (a b : Shape) (o : ℕ) → HasLayout ka a → HasLayout kb b → o ≡ align_to 0 ka.align32 + ka.size32 → align_to o kb.align32 + kb.size32 ≡ ends false (ends false 0 a) b
-pair_at ka kb a b o ha hb e =
-    let first : o ≡ ends false 0 a = e ∙ ap (λ (n : ℕ). align_to 0 n + ka.size32) ha.align ∙ ap (λ (n : ℕ). align_to 0 (align false a) + n) ha.size in
-    ap (λ (n : ℕ). align_to n kb.align32 + kb.size32) first
-    ∙ ap (λ (n : ℕ). align_to (ends false 0 a) n + kb.size32) hb.align
-    ∙ ap (λ (n : ℕ). align_to (ends false 0 a) (align false b) + n) hb.size
+pair_at : (wide : Bool) (ka kb : CanonicalAbiInfo) (a b : Shape) (o : ℕ) → HasLayout ka a → HasLayout kb b → o ≡ align_to 0 (align_in wide ka) + size_in wide ka
+    → align_to o (align_in wide kb) + size_in wide kb ≡ ends wide (ends wide 0 a) b
+pair_at wide ka kb a b o ha hb e =
+    let first : o ≡ ends wide 0 a = e ∙ ap (λ (n : ℕ). align_to 0 n + size_in wide ka) (ha.align wide) ∙ ap (λ (n : ℕ). align_to 0 (align wide a) + n) (ha.size wide) in
+    ap (λ (n : ℕ). align_to n (align_in wide kb) + size_in wide kb) first
+    ∙ ap (λ (n : ℕ). align_to (ends wide 0 a) n + size_in wide kb) (hb.align wide)
+    ∙ ap (λ (n : ℕ). align_to (ends wide 0 a) (align wide b) + n) (hb.size wide)
 
-pair_end : (a b : Shape) → ends false (ends false 0 a) b ≤ size false (tuple (a ∷ b ∷ []))
+pair_end : (wide : Bool) (a b : Shape) → ends wide (ends wide 0 a) b ≤ size wide (tuple (a ∷ b ∷ []))
 unfolding size
-pair_end a b = members_end-le-size false of_places (unnamed_members (a ∷ b ∷ []))
+pair_end wide a b = members_end-le-size wide of_places (unnamed_members (a ∷ b ∷ []))
 
 -- the value of a pair ends inside it
-pub pair_fits : (ka kb : CanonicalAbiInfo) (a b : Shape) (o : ℕ) → HasLayout ka a → HasLayout kb b → o ≡ align_to 0 ka.align32 + ka.size32 → size false (tuple (a ∷ b ∷ [])) < 2 ^ 32 → align_to o kb.align32 + kb.size32 < 2 ^ 32
-pair_fits ka kb a b o ha hb e small = omega (arith, pair_at ka kb a b o ha hb e, pair_end a b)
+pub pair_fits : (wide : Bool) (ka kb : CanonicalAbiInfo) (a b : Shape) (o : ℕ) → HasLayout ka a → HasLayout kb b → o ≡ align_to 0 (align_in wide ka) + size_in wide ka
+    → size wide (tuple (a ∷ b ∷ [])) < 2 ^ 32 → align_to o (align_in wide kb) + size_in wide kb < 2 ^ 32
+pair_fits wide ka kb a b o ha hb e small = omega (arith, pair_at wide ka kb a b o ha hb e, pair_end wide a b)

@@ -2,7 +2,7 @@
 use Rattle.std.proofs.Common.{◌≡◌, ℕ, ◌+◌, ◌<◌, ◌≤◌, ◌^◌, ◌==◌, length, Bool, true, false, nat_lt, Option, Some, None, List, [], ◌∷◌, All, refl, sym, ap, ◌∙◌, subst, arith}
 use Rattle.std.proofs.lemmas.Bool.Decides.{nat_tests}
 use Rattle.std.proofs.lemmas.List.Elements.{All-nil}
-use Rattle.canon_model.specs.Layout.{size}
+use Rattle.canon_abi.specs.Abi.{wider_size}
 use Rattle.canon_model.specs.Shape.{Name}
 use Rattle.canon_types.specs.declared.error.TypeError.{TypeError}
 use Rattle.canon_types.specs.declared.error.TypeError.TheVariants as error
@@ -51,7 +51,7 @@ module _ (t : TypeTable) (d : Definition) (types : List InterfaceType) (empty : 
 
 -- a definition that fits
 pub measured_by : (t : TypeTable) (d : Definition) (types : List InterfaceType) (m : ℕ) (b : Bool) → Before t d → types ≡ parts d → All (Knows t) types → m ≡ 1 + deepest (members_of t types) → b ≡ member_borrows (members_of t types)
-    → has_repeats (names d) ≡ false → size false (laid_shape (all_shapes t) d) < 2 ^ 32 → IsMeasured t d m b
+    → has_repeats (names d) ≡ false → wider_size (laid_shape (all_shapes t) d) < 2 ^ 32 → IsMeasured t d m b
 measured_by t d types m b so_far same known deep borrows apart small = record {
   fits = fits_with_room t d so_far small;
   known = subst (λ (ts : List InterfaceType). All (Knows t) ts) same known;
@@ -88,7 +88,7 @@ module _ (t : TypeTable) (d : Definition) (n : ℕ) (no_parts : [] ≡ parts d) 
       let few : length (names d) ≤ most_names d = omega (arith, count, pass.1) in
       names_refused t d [] (n == 0) error.RepeatedName no_parts same_empty (some_names t n pass.0) (names_repeat (names d) (most_names d) few twice)
 
-  pub measured_names : None ≡ first_error ((n == 0, error.Empty) ∷ (nat_lt (most_names d) n, error.TooManyNames) ∷ []) → has_repeats (names d) ≡ false → size false (laid_shape (all_shapes t) d) < 2 ^ 32 → IsMeasured t d 1 false
+  pub measured_names : None ≡ first_error ((n == 0, error.Empty) ∷ (nat_lt (most_names d) n, error.TooManyNames) ∷ []) → has_repeats (names d) ≡ false → wider_size (laid_shape (all_shapes t) d) < 2 ^ 32 → IsMeasured t d 1 false
   measured_names h apart small =
       let pass = count_by (most_names d) n h in
       let few : length (names d) ≤ most_names d = omega (arith, count, pass.1) in
@@ -98,7 +98,7 @@ module _ (t : TypeTable) (d : Definition) (n : ℕ) (no_parts : [] ≡ parts d) 
 -- ---- definitions without names
 
 pub measured : (t : TypeTable) (d : Definition) (types : List InterfaceType) (empty : Bool) (m : ℕ) (b : Bool) → types ≡ parts d → empty ≡ is_empty d → names d ≡ [] → None ≡ measure_refusal t types empty
-    → m ≡ 1 + deepest (members_of t types) → b ≡ member_borrows (members_of t types) → size false (laid_shape (all_shapes t) d) < 2 ^ 32 → IsMeasured t d m b
+    → m ≡ 1 + deepest (members_of t types) → b ≡ member_borrows (members_of t types) → wider_size (laid_shape (all_shapes t) d) < 2 ^ 32 → IsMeasured t d m b
 measured t d types empty m b same_types same_empty unnamed h deep borrows small =
     let pass : names_refusal (names d) (most_names d) ≡ None = ap (λ (ns : List Name). names_refusal ns (most_names d)) unnamed ∙ names_pass [] (most_names d) (omega arith) refl in
     measured_by t d types m b (before_measured t d types empty same_types same_empty pass m h deep) same_types (measured_parts t types empty h) deep borrows (ap has_repeats unnamed) small

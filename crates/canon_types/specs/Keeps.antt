@@ -1,5 +1,5 @@
 -- How the struct `ComponentTypes` keeps a table.
-use Rattle.std.specs.Prelude.{◌≡◌, ℕ, ◌<◌, Some, Option, String, List, length, map, get_or, slice_get, All, string_bytes, false, ⊤}
+use Rattle.std.specs.Prelude.{Bool, if◌then◌else◌, ◌≡◌, ℕ, ◌<◌, Some, Option, String, List, length, map, get_or, slice_get, All, string_bytes, false, ⊤}
 use Rattle.canon_abi.specs.Abi.{HasInfo, HasLayout}
 use Rattle.canon_model.specs.Layout.{offset}
 use Rattle.canon_model.specs.Shape.{Members, Name, Scalar, Shape, borrow, own, scalar, string}
@@ -92,10 +92,13 @@ entry_of t = record { item = item.Tuple t.tuple; depth = t.depth; has_borrow = t
 
 -- ---- numbers
 
+abbrev pub value_offset_in : Bool → TypeMap → ℕ
+value_offset_in wide m = if wide then m.value_offset64 else m.value_offset32
+
 -- the numbers of the pair of a map, and where its value begins
 pub record HasPair (m : TypeMap) (s : Shape) : Type 0 where
   pub abi : HasLayout m.entry_abi (element_shape s)
-  pub value : m.value_offset32 ≡ offset false (product_members (element_shape s)) 1
+  pub value : (wide : Bool) → value_offset_in wide m ≡ offset wide (product_members (element_shape s)) 1
 
 -- the numbers that an item keeps are those of its shape
 abbrev pub KeepsLayout : Item → Shape → Type 0

@@ -1,7 +1,7 @@
 -- When a definition is not added to a table, and what adding it gives.
 use Rattle.std.specs.Prelude.{◌≡◌, ℕ, ◌+◌, max, Bool, true, false, not, ◌||◌, ◌&&◌, ◌==◌, nat_lt, if◌then◌else◌, List, [], ◌∷◌, ◌++◌, length, map, bytes_eq, Option, Some, None}
 use Rattle.std.specs.List.{list_all, list_any}
-use Rattle.canon_model.specs.Layout.{size}
+use Rattle.canon_abi.specs.Abi.{wider_size}
 use Rattle.canon_model.specs.Shape.{Name, Shape, of_places, product, tuple}
 use Rattle.canon_types.specs.Depth.{depth, has_borrow}
 use Rattle.canon_types.specs.declared.error.TypeError.{TypeError}
@@ -90,7 +90,7 @@ abbrev pub refusal : TypeTable → Definition → Option TypeError
 refusal t d =
     or_else (parts_refusal t (parts d) (is_empty d))
     (or_else (names_refusal (names d) (most_names d))
-    (shape_refusal t (depth (defined_shape (all_shapes t) d)) (size false (laid_shape (all_shapes t) d))))
+    (shape_refusal t (depth (defined_shape (all_shapes t) d)) (wider_size (laid_shape (all_shapes t) d))))
 
 abbrev pub empty_type_table : TypeTable
 empty_type_table = record { definitions = []; funcs = []; resources = [] }
@@ -126,7 +126,7 @@ func_refusal t params results =
     or_else (func_parts_refusal t params results)
     (first_error (
     (nat_lt 100 (max (depth ps) (depth rs)), error.TooDeep)
-    ∷ (nat_lt 4294967295 (max (size false ps) (size false rs)), error.SizeTooLarge)
+    ∷ (nat_lt 4294967295 (max (wider_size ps) (wider_size rs)), error.SizeTooLarge)
     ∷ (has_borrow rs, error.BorrowInResult)
     ∷ (is_full_for 3 t, error.TooManyTypes)
     ∷ []))

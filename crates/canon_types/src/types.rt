@@ -85,6 +85,23 @@ pub struct TypeMap {
     pub entry_abi: CanonicalAbiInfo,
     /// Where the value begins in a pair.
     pub value_offset32: u32,
+    pub value_offset64: u32,
+}
+
+impl TypeMap {
+    ghost use Rattle.std.specs.Prelude.{◌≡◌};
+    ghost use Rattle.canon_types.specs.Keeps.{value_offset_in};
+
+    /// Where the value begins in a pair, for pointers of 64 bits where `wide`, else of 32.
+    pub fn value_offset(&self, wide: bool) -> u32
+        ensures { result ≡ value_offset_in wide self.now }
+    {
+        if wide {
+            self.value_offset64
+        } else {
+            self.value_offset32
+        }
+    }
 }
 
 #[derive(Drop)]

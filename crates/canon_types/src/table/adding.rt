@@ -3,7 +3,7 @@
 ghost use Rattle.std.specs.Prelude.{◌≡◌, ◌≢◌, ◌+◌, ◌^◌, ◌&&◌, ◌||◌, ◌≤◌, ◌<◌, ◌++◌, ◌∷◌, [], All, true, false, filter_map, length, map, option_to_list, Some, None, IfOk, OnOk, IfErr, OnErr, string_bytes};
 ghost use Rattle.std.specs.List.{list_all, list_any};
 ghost use Rattle.std.specs.Result.{result_err};
-ghost use Rattle.canon_abi.specs.Abi.{AreOfCases, AreOfMembers, HasInfo, HasLayout, TellsLayout};
+ghost use Rattle.canon_abi.specs.Abi.{AreOfCases, AreOfMembers, HasInfo, HasLayout, TellsLayout, wider_size};
 ghost use Rattle.canon_model.specs.Layout.{offset, size};
 ghost use Rattle.canon_model.specs.Shape.{VariantKind, fixed, of_option, of_places, product, tuple, unnamed_members, variant};
 ghost use Rattle.canon_types.specs.Depth.{deepest, has_borrow, member_borrows};
@@ -86,8 +86,8 @@ impl ComponentTypes {
     fn record_abi(&self, types: &[InterfaceType]) -> Result<CanonicalAbiInfo, TypeError>
         requires { All (Knows self.now) types.now }
         ensures ok { IfOk result (λ abi. HasLayout abi (product of_places (members_of self.now types.now))) }
-        ensures fits { OnOk result (size false (product of_places (members_of self.now types.now)) < 2 ^ 32) }
-        ensures cause { IfErr result (λ e. e ≢ TypeError.OutOfMemory → (e ≡ TypeError.SizeTooLarge) × (2 ^ 32 ≤ size false (product of_places (members_of self.now types.now)))) }
+        ensures fits { OnOk result (wider_size (product of_places (members_of self.now types.now)) < 2 ^ 32) }
+        ensures cause { IfErr result (λ e. e ≢ TypeError.OutOfMemory → (e ≡ TypeError.SizeTooLarge) × (2 ^ 32 ≤ wider_size (product of_places (members_of self.now types.now)))) }
     {
         let abis = self.abis(types)?;
         match CanonicalAbiInfo::record(&abis) {
@@ -119,8 +119,8 @@ impl ComponentTypes {
         requires few { length payloads.now ≤ 2 ^ 32 }
         ensures abi { IfOk result (λ p. HasLayout p.0 (variant of_option (unnamed_cases (all_shapes self.now) payloads.now))) }
         ensures info { IfOk result (λ p. HasInfo p.1 (unnamed_cases (all_shapes self.now) payloads.now)) }
-        ensures fits { OnOk result (size false (variant of_option (unnamed_cases (all_shapes self.now) payloads.now)) < 2 ^ 32) }
-        ensures cause { IfErr result (λ e. e ≢ TypeError.OutOfMemory → (e ≡ TypeError.SizeTooLarge) × (2 ^ 32 ≤ size false (variant of_option (unnamed_cases (all_shapes self.now) payloads.now)))) }
+        ensures fits { OnOk result (wider_size (variant of_option (unnamed_cases (all_shapes self.now) payloads.now)) < 2 ^ 32) }
+        ensures cause { IfErr result (λ e. e ≢ TypeError.OutOfMemory → (e ≡ TypeError.SizeTooLarge) × (2 ^ 32 ≤ wider_size (variant of_option (unnamed_cases (all_shapes self.now) payloads.now)))) }
     {
         let abis = self.payload_abis(payloads)?;
         let told = abis.as_slice();
@@ -294,12 +294,14 @@ impl ComponentTypes {
         let parts = [key, value];
         let (depth, has_borrow) = self.measure_parts(&parts, false)?;
         let entry_abi = self.record_abi(&parts)?;
-        let value_offset32 = self.value_offset(&parts[0], &parts[1]);
+        let value_offset32 = self.value_offset(false, &parts[0], &parts[1]);
+        let value_offset64 = self.value_offset(true, &parts[0], &parts[1]);
         let item = Item::Map(TypeMap {
             key: parts[0],
             value: parts[1],
             entry_abi,
             value_offset32,
+            value_offset64,
         });
         let place = self.enter(Entry {
             item,
@@ -309,16 +311,16 @@ impl ComponentTypes {
         Ok(InterfaceType::Map(TypeMapIndex::from_u32(place)))
     }
 
-    /// Where the value of a pair begins.
-    fn value_offset(&self, key: &InterfaceType, value: &InterfaceType) -> u32
+    /// Where the value of a pair begins, for pointers of one width.
+    fn value_offset(&self, wide: bool, key: &InterfaceType, value: &InterfaceType) -> u32
         requires key { Knows self.now key.now }
         requires value { Knows self.now value.now }
-        requires fits { size false (tuple (shape_of self.now key.now ∷ shape_of self.now value.now ∷ [])) < 2 ^ 32 }
-        ensures { result ≡ offset false (unnamed_members (shape_of self.now key.now ∷ shape_of self.now value.now ∷ [])) 1 }
+        requires fits { size wide (tuple (shape_of self.now key.now ∷ shape_of self.now value.now ∷ [])) < 2 ^ 32 }
+        ensures { result ≡ offset wide (unnamed_members (shape_of self.now key.now ∷ shape_of self.now value.now ∷ [])) 1 }
     {
         let mut end = 0;
-        self.canonical_abi(key).next_field32(&mut end);
-        self.canonical_abi(value).next_field32(&mut end)
+        self.canonical_abi(key).next_field(wide, &mut end);
+        self.canonical_abi(value).next_field(wide, &mut end) as u32
     }
 
     pub(super) fn add_variant(

@@ -2,8 +2,4 @@ use Rattle.canon_abi.proofs.Ties.{flags_answer}
 use Rattle.canon_abi.proofs.abi.CanonicalAbiInfo.flags.Goals as goal
 
 pub returns : goal.returns
-returns c = flags_answer c.flags_numbers.result c.args.count (record {
-  size = c.flags_numbers.ensures.size;
-  align = c.flags_numbers.ensures.align;
-  words = c.flags_numbers.ensures.words;
-})
+returns c = flags_answer c.flags_numbers.result c.args.count c.flags_numbers.ensures

@@ -1,8 +1,8 @@
-use Rattle.std.proofs.Common.{All, List, String, Option, Some, None, ap, arith, false, filter_map, length, map, refl, string_bytes, subst, sym, ℕ, ◌<◌, ◌==◌, ◌^◌, ◌∙◌, ◌≡◌, ◌≤◌}
+use Rattle.std.proofs.Common.{All, List, String, Option, Some, None, ap, arith, filter_map, length, map, refl, string_bytes, subst, sym, ℕ, ◌<◌, ◌==◌, ◌^◌, ◌∙◌, ◌≡◌, ◌≤◌}
 use Rattle.std.proofs.lemmas.Bool.Decides.{nat_tests}
 use Rattle.std.proofs.lemmas.Grind.{common_steps}
 use Rattle.canon_abi.specs.Abi.{HasInfo, HasLayout}
-use Rattle.canon_model.specs.Layout.{size}
+use Rattle.canon_abi.specs.Abi.{wider_size}
 use Rattle.canon_model.specs.Shape.{Name, of_cases, of_option, variant}
 use Rattle.canon_types.specs.Depth.{variant_cases}
 use Rattle.canon_types.specs.Keeps.{cases_type}
@@ -19,9 +19,9 @@ use Rattle.canon_types.proofs.Measured.{measured_by}
 use Rattle.canon_types.proofs.table.ComponentTypes.add_variant.Goals as goal
 
 bytes_same : {Z : Type 0} (t : TypeTable) (cases : List (String Z × Option InterfaceType)) (ps : List (Option InterfaceType)) → ps ≡ map (λ (x : Name × Option InterfaceType). x.1) (map (λ x. (string_bytes x.0, x.1)) cases)
-    → size false (variant of_option (unnamed_cases (all_shapes t) ps)) ≡ size false (variant of_cases (cases_in (all_shapes t) (map (λ x. (string_bytes x.0, x.1)) cases)))
+    → wider_size (variant of_option (unnamed_cases (all_shapes t) ps)) ≡ wider_size (variant of_cases (cases_in (all_shapes t) (map (λ x. (string_bytes x.0, x.1)) cases)))
 bytes_same {Z} t cases ps whole =
-    ap (λ (xs : List (Option InterfaceType)). size false (variant of_option (unnamed_cases (all_shapes t) xs))) whole
+    ap (λ (xs : List (Option InterfaceType)). wider_size (variant of_option (unnamed_cases (all_shapes t) xs))) whole
     ∙ sym (variant_bytes (all_shapes t) of_cases of_option (map (λ x. (string_bytes x.0, x.1)) cases))
 
 pub returns-in_err-check_parts-clause-cause : goal.returns-in_err-check_parts-clause-cause

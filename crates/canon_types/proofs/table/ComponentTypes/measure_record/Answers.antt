@@ -1,8 +1,8 @@
-use Rattle.std.proofs.Common.{List, Some, None, ap, arith, false, length, map, string_bytes, subst, sym, ℕ, ◌<◌, ◌==◌, ◌^◌, ◌∙◌, ◌≡◌, ◌≤◌}
+use Rattle.std.proofs.Common.{List, Some, None, ap, arith, length, map, string_bytes, subst, sym, ℕ, ◌<◌, ◌==◌, ◌^◌, ◌∙◌, ◌≡◌, ◌≤◌}
 use Rattle.std.proofs.lemmas.Bool.Decides.{nat_tests}
 use Rattle.std.proofs.lemmas.Grind.{common_steps}
 use Rattle.canon_abi.specs.Abi.{HasLayout}
-use Rattle.canon_model.specs.Layout.{size}
+use Rattle.canon_abi.specs.Abi.{wider_size}
 use Rattle.canon_model.specs.Shape.{Name, of_fields, of_places, product}
 use Rattle.canon_types.specs.Keeps.{fields_type}
 use Rattle.canon_types.specs.declared.types.InterfaceType.{InterfaceType}
@@ -10,16 +10,16 @@ use Rattle.canon_types.specs.declared.types.RecordField.{RecordField}
 use Rattle.canon_types.specs.Refusal.{is_empty, names, names_refusal, refusal}
 use Rattle.canon_types.specs.Table.{TypeTable, all_shapes, fields_in, members_of, parts}
 use Rattle.canon_types.proofs.Adding.{Before, before, deep_refused, large_refused, passed_parts, refused_by_parts}
-use Rattle.canon_types.proofs.Laid.{fields_laid, fields_size}
+use Rattle.canon_types.proofs.Laid.{fields_laid, fields_bytes}
 use Rattle.canon_types.proofs.Made.{caused, field_names, field_parts, fields_empty, names_apart, names_refused}
 use Rattle.canon_types.proofs.Measured.{measured_by}
 use Rattle.canon_types.proofs.table.ComponentTypes.measure_record.Goals as goal
 
 bytes_same : (t : TypeTable) (fields : List RecordField) (types : List InterfaceType) → types ≡ parts (fields_type fields)
-    → size false (product of_places (members_of t types)) ≡ size false (product of_fields (fields_in (all_shapes t) (map (λ f. (string_bytes f.name, f.ty)) fields)))
+    → wider_size (product of_places (members_of t types)) ≡ wider_size (product of_fields (fields_in (all_shapes t) (map (λ f. (string_bytes f.name, f.ty)) fields)))
 bytes_same t fields types same =
-    ap (λ (ts : List InterfaceType). size false (product of_places (members_of t ts))) same
-    ∙ sym (fields_size (all_shapes t) of_fields of_places (map (λ f. (string_bytes f.name, f.ty)) fields))
+    ap (λ (ts : List InterfaceType). wider_size (product of_places (members_of t ts))) same
+    ∙ sym (fields_bytes (all_shapes t) of_fields of_places (map (λ f. (string_bytes f.name, f.ty)) fields))
 
 pub returns-in_err-check_parts-clause-cause : goal.returns-in_err-check_parts-clause-cause
 returns-in_err-check_parts-clause-cause c =
