@@ -3,3 +3,4 @@ pub mod Guest
 pub mod Journal
 pub mod Memory
 pub mod Realloc
+pub mod Watch

@@ -1,0 +1,6 @@
+use Rattle.std.proofs.Common.{rules, arith}
+use Rattle.canon_memory.proofs.Watch.{apart_tested}
+use Rattle.canon_memory.proofs.law.are_apart.Goals as goal
+
+pub returns : goal.returns
+returns c = apart_tested _ _ _ _ (search rules) (search rules)

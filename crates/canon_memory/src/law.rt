@@ -1,0 +1,256 @@
+//! The law of `realloc`, tested on one answer.
+
+ghost use Rattle.std.specs.Prelude.{◌≡◌, ◌+◌, ◌<◌, ◌≤◌, ◌^◌, ◌++◌, ◌∷◌, ◌↔◌, [], List, ℕ, IsTrue, length, min, slice_index};
+ghost use Rattle.std.specs.List.{All};
+ghost use Rattle.std.specs.Vec.{vec_capacity, vec_len};
+ghost use Rattle.canon_memory.specs.Realloc.{IsTidy, block, call};
+ghost use Rattle.canon_memory.specs.Guest.{Mark};
+ghost use Rattle.canon_memory.specs.Watch.{AreApart, EndsBy, IsExact, IsShot, IsSpared, LawHolds, SameBytes, listed, others, relisted, same_block};
+
+use std::marker::Model;
+
+/// What was seen of an answer of `realloc`: whether it kept the law, and whether no byte outside its block changed.
+#[derive(Clone, Copy, Debug)]
+pub struct AnswerMark {
+    pub lawful: bool,
+    pub tidy: bool,
+}
+
+impl Model for AnswerMark {
+    ghost use Rattle.canon_memory.specs.Guest.{Mark};
+
+    ghost Value = { Mark };
+
+    ghost view = { λ m. record { lawful = m.lawful; tidy = m.tidy } };
+
+    ghost inverse = { λ m. record { lawful = m.lawful; tidy = m.tidy } };
+}
+
+/// A block that lives.
+#[derive(Clone, Copy, Debug)]
+pub(crate) struct LiveBlock {
+    start: u32,
+    size: u32,
+}
+
+impl Model for LiveBlock {
+    ghost use Rattle.canon_model.specs.Memory.{Block};
+
+    ghost Value = { Block };
+
+    ghost view = { λ b. record { start = b.start; size = b.size } };
+
+    ghost inverse = { λ b. record { start = b.start; size = b.size } };
+}
+
+impl LiveBlock {
+    ghost use Rattle.std.specs.Prelude.{◌≡◌, ◌+◌, ◌<◌, ◌^◌};
+    ghost use Rattle.canon_memory.specs.Realloc.{block};
+
+    fn end(self) -> u64
+        ensures value { result ≡ self.start + self.size }
+    {
+        u64::from(self.start) + u64::from(self.size)
+    }
+
+    pub(crate) fn new(start: u64, size: u64) -> Self
+        requires start { start < 2 ^ 32 }
+        requires size { size < 2 ^ 32 }
+        ensures { result ≡ block start size }
+    {
+        LiveBlock {
+            start: start as u32,
+            size: size as u32,
+        }
+    }
+}
+
+fn is_same(b: LiveBlock, c: LiveBlock) -> bool
+    ensures { result ≡ same_block b c }
+{
+    b.start == c.start && b.size == c.size
+}
+
+/// The byte at an address, or 0 past the end.
+fn byte_at(bytes: &[u8], at: u64) -> u8
+    ensures { result ≡ slice_index bytes.now at }
+{
+    match bytes.get(at as usize) {
+        Some(byte) => *byte,
+        None => 0,
+    }
+}
+
+/// Whether `count` bytes from `at` on stand in `after` from `to` on. Past an end there are zeros.
+fn are_same(before: &[u8], at: u64, after: &[u8], to: u64, count: u64) -> bool
+    requires before { at + count < 2 ^ 64 }
+    requires after { to + count < 2 ^ 64 }
+    ensures { IsTrue result ↔ SameBytes before.now at after.now to count }
+{
+    for k in 0..count {
+        if byte_at(after, to + k) != byte_at(before, at + k) {
+            return false;
+        }
+    }
+    true
+}
+
+/// Whether two blocks have no address in common.
+fn are_apart(b: LiveBlock, c: LiveBlock) -> bool
+    ensures { IsTrue result ↔ AreApart b c }
+{
+    b.end().min(c.end()) <= u64::from(b.start.max(c.start))
+}
+
+/// Whether a block keeps its bytes.
+fn is_kept(b: LiveBlock, before: &[u8], after: &[u8]) -> bool
+    ensures { IsTrue result ↔ SameBytes before.now b.start after.now b.start b.size }
+{
+    let start = u64::from(b.start);
+    are_same(before, start, after, start, u64::from(b.size))
+}
+
+/// Whether a block is the old one, or is apart from the new one and keeps its bytes.
+fn is_spared(b: LiveBlock, old: LiveBlock, new: LiveBlock, before: &[u8], after: &[u8]) -> bool
+    ensures { IsTrue result ↔ IsSpared before.now after.now old new b }
+{
+    is_same(b, old) || are_apart(b, new) && is_kept(b, before, after)
+}
+
+/// Whether all blocks are.
+fn are_spared(
+    live: &[LiveBlock],
+    old: LiveBlock,
+    new: LiveBlock,
+    before: &[u8],
+    after: &[u8],
+) -> bool
+    ensures { IsTrue result ↔ All (IsSpared before.now after.now old new) live.now }
+{
+    for b in live {
+        if !is_spared(*b, old, new, before, after) {
+            return false;
+        }
+    }
+    true
+}
+
+/// Whether the bytes of the old block stand in the new one, up to the smaller size.
+fn is_copied(old: LiveBlock, new: LiveBlock, before: &[u8], after: &[u8]) -> bool
+    ensures { IsTrue result ↔ SameBytes before.now old.start after.now new.start (min old.size new.size) }
+{
+    let count = u64::from(old.size.min(new.size));
+    are_same(
+        before,
+        u64::from(old.start),
+        after,
+        u64::from(new.start),
+        count,
+    )
+}
+
+/// Whether an answer kept the law of `realloc`.
+fn is_lawful(
+    live: &[LiveBlock],
+    old: LiveBlock,
+    align: u32,
+    new: LiveBlock,
+    before: &[u8],
+    after: &[u8],
+) -> bool
+    requires { 0 < align }
+    ensures { IsTrue result ↔ LawHolds live.now before.now after.now (call old.start old.size align new.size) new.start }
+{
+    new.start % align == 0
+        && new.end() <= after.len() as u64
+        && is_copied(old, new, before, after)
+        && are_spared(live, old, new, before, after)
+}
+
+/// Whether no byte outside a block changed.
+fn is_tidy(before: &[u8], after: &[u8], new: LiveBlock) -> bool
+    ensures { IsTrue result ↔ IsTidy before.now after.now new }
+{
+    let len = before.len() as u64;
+    let start = u64::from(new.start).min(len);
+    let end = new.end().min(len);
+    are_same(before, 0, after, 0, start) && are_same(before, end, after, end, len - end)
+}
+
+/// The same where every byte is watched, and otherwise `false`.
+fn is_seen_tidy(whole: bool, before: &[u8], after: &[u8], new: LiveBlock) -> bool
+    ensures tidy { IsTrue result → IsTrue whole × IsTidy before.now after.now new }
+    ensures told { IsTrue whole → IsTidy before.now after.now new → IsTrue result }
+{
+    whole && is_tidy(before, after, new)
+}
+
+/// Where the last of some blocks ends, or `least` if they all end before it.
+fn end_of(live: &[LiveBlock], least: u64) -> u64
+    ensures least { least ≤ result }
+    ensures ends { All (EndsBy result) live.now }
+{
+    let mut end = least;
+    for b in live {
+        end = end.max(b.end());
+    }
+    end
+}
+
+fn reach(end: u64, len: u64, whole: bool) -> u64
+    ensures end { end ≤ result }
+    ensures whole { IsTrue whole → len ≤ result }
+{
+    if whole { end.max(len) } else { end }
+}
+
+/// What is to be kept of memory before a call.
+pub(crate) fn shot<'a>(live: &[LiveBlock], old_end: u64, whole: bool, memory: &'a [u8]) -> &'a [u8]
+    ensures { IsShot whole live.now old_end memory.now result.now }
+{
+    let len = memory.len() as u64;
+    let end = reach(end_of(live, old_end), len, whole);
+    &memory[..end.min(len) as usize]
+}
+
+/// Lists the new block, for which there is room, unless it is empty, in the place of the old one.
+fn relist(live: &mut Vec<LiveBlock>, old: LiveBlock, new: LiveBlock)
+    requires { vec_len live.old < vec_capacity live.old }
+    ensures { live.new.items ≡ others live.old.items old ++ listed new }
+{
+    live.retain(|b| !is_same(*b, old));
+    if new.size > 0 {
+        let _ = live.push(new);
+    }
+}
+
+/// Marks an answer, for which there is room, by what was seen of memory before and after it, and lists its block.
+#[allow(clippy::too_many_arguments)]
+pub(crate) fn mark_answer(
+    live: &mut Vec<LiveBlock>,
+    marks: &mut Vec<AnswerMark>,
+    old: u64,
+    old_size: u64,
+    align: u32,
+    new_size: u64,
+    answer: u64,
+    whole: bool,
+    before: &[u8],
+    after: &[u8],
+)
+    requires aligned { 0 < align }
+    requires narrow { (old < 2 ^ 32) × (old_size < 2 ^ 32) × (new_size < 2 ^ 32) × (answer < 2 ^ 32) }
+    requires block_room { vec_len live.old < vec_capacity live.old }
+    requires mark_room { vec_len marks.old < vec_capacity marks.old }
+    ensures listed { live.new.items ≡ relisted live.old.items (call old old_size align new_size) answer }
+    ensures marked { (mark : Mark) × (marks.new.items ≡ marks.old.items ++ mark ∷ []) × ((memory : List ℕ) → IsShot whole live.old.items (old + old_size) memory before.now → length memory ≤ length after.now → IsExact whole live.old.items live.new.items memory after.now (call old old_size align new_size) answer mark) }
+{
+    let old = LiveBlock::new(old, old_size);
+    let new = LiveBlock::new(answer, new_size);
+    let mark = AnswerMark {
+        lawful: is_lawful(live, old, align, new, before, after),
+        tidy: is_seen_tidy(whole, before, after, new),
+    };
+    relist(live, old, new);
+    let _ = marks.push(mark);
+}

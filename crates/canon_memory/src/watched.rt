@@ -1,0 +1,210 @@
+//! A guest whose answers of `realloc` are tested against their law.
+
+ghost use Rattle.std.specs.Prelude.{◌≡◌, ◌+◌, ◌≤◌, List, [], ◌∷◌, ◌++◌, length};
+ghost use Rattle.std.proofs.Common.{refl, ◌∙◌};
+ghost use Rattle.canon_memory.specs.Watch.{WatchedMoves, Watching, along_both, watched_guest};
+
+use crate::law::{AnswerMark, LiveBlock, mark_answer, shot};
+use crate::{Bytes, Guest, GuestFault, Memory, Step, ValRaw};
+use std::alloc::Global;
+use std::marker::Model;
+
+/// A guest, and what was seen of its answers of `realloc`: each is tested, over the blocks that it gave since it last ran.
+#[derive(Drop)]
+pub struct Watched<G> {
+    alloc: Global,
+    guest: G,
+    whole: bool,
+    live: Vec<LiveBlock>,
+    marks: Vec<AnswerMark>,
+    shortages: u64,
+}
+
+impl<G> Model for Watched<G> {
+    ghost Value = { Watching G };
+
+    ghost view = { λ w. record { guest = w.guest; whole = w.whole; live = w.live.items; marks = w.marks.items; shortages = w.shortages } };
+}
+
+impl<G> Watched<G> {
+    ghost use Rattle.std.specs.Prelude.{◌≡◌, ◌≤◌, [], false, true};
+    ghost use Rattle.std.specs.Borrow.{Lends, sem};
+    ghost use Rattle.canon_memory.specs.Counts.{Rose};
+    ghost use Rattle.canon_memory.specs.contracts.watched.Watched.{the_row};
+
+    /// A guest that has given nothing yet. Every byte is watched: each request costs a copy of all memory.
+    pub fn new(alloc: Global, guest: G) -> Self
+        ensures { result ≡ record { guest = guest; whole = true; live = []; marks = []; shortages = 0 } }
+    {
+        Watched {
+            alloc,
+            guest,
+            whole: true,
+            live: Vec::new(alloc),
+            marks: Vec::new(alloc),
+            shortages: 0,
+        }
+    }
+
+    /// The same, but no byte outside the blocks is watched, and no answer is marked as tidy. A request costs a copy of memory up
+    /// to where the last block ends that lives, so the first one costs none.
+    pub fn lawful_only(alloc: Global, guest: G) -> Self
+        ensures { result ≡ record { guest = guest; whole = false; live = []; marks = []; shortages = 0 } }
+    {
+        Watched {
+            alloc,
+            guest,
+            whole: false,
+            live: Vec::new(alloc),
+            marks: Vec::new(alloc),
+            shortages: 0,
+        }
+    }
+
+    pub fn guest(&self) -> &G
+        ensures { result.now ≡ self.now.guest }
+    {
+        &self.guest
+    }
+
+    pub fn guest_mut(&mut self) -> &mut G
+        ensures* writes_back { sem 𝓛 (Lends (the_row G.row) G.row self.entry result (λ g. record self.old { guest = g })) }
+        ensures value { result.now ≡ self.old.guest }
+    {
+        &mut self.guest
+    }
+
+    /// The marks of its answers so far.
+    pub fn marks(&self) -> &[AnswerMark]
+        ensures { result.now ≡ self.now.marks }
+    {
+        &self.marks
+    }
+
+    /// Forgets the marks.
+    pub fn clear_marks(&mut self)
+        ensures { self.new ≡ record self.old { marks = [] } }
+    {
+        self.marks.clear();
+    }
+
+    /// Counts want of memory.
+    fn count(&mut self, fault: GuestFault) -> GuestFault
+        ensures same { result ≡ fault }
+        ensures kept { self.new ≡ record self.old { shortages = self.new.shortages } }
+        ensures trap { fault ≡ GuestFault.Trap → self.new ≡ self.old }
+        ensures later { self.old.shortages ≤ self.new.shortages }
+        ensures rose { fault ≡ GuestFault.OutOfMemory → Rose self.old.shortages self.new.shortages }
+    {
+        if fault == GuestFault::OutOfMemory {
+            self.shortages = self.shortages.saturating_add(1);
+        }
+        fault
+    }
+}
+
+#[tactic(auto, using(crate::proofs::Watch::after_step))]
+impl<G: Guest> Guest for Watched<G> {
+    ghost use Rattle.std.specs.Prelude.{◌≡◌, ◌<◌, ◌^◌, IfOk, OnErr};
+    ghost use Rattle.canon_memory.specs.Guest.{OnAnswer, Reallocates, guest_in, moment};
+    ghost use Rattle.canon_memory.specs.Journal.{realloc_events};
+    ghost use Rattle.canon_memory.specs.Realloc.{call};
+    ghost use Rattle.canon_memory.specs.Watch.{Marks, WatchedMoves, watched_seen};
+
+    ghost seen = { λ w. watched_seen G.seen w };
+
+    ghost moves = { λ w events x. WatchedMoves G.moves w events x };
+
+    ghost leaves = { λ m n. G.leaves m n };
+
+    ghost stays = { λ w. record { moves = G.stays (watched_guest w); live = refl; shortages = refl } };
+
+    ghost goes_on = { λ u v w xs ys f g. record { moves = G.goes_on (watched_guest u) (watched_guest v) (watched_guest w) xs ys f.moves g.moves; live = along_both _ _ _ xs ys f.live g.live; shortages = g.shortages ∙ f.shortages } };
+
+    fn start(
+        &mut self,
+        memory: &mut Memory,
+        func: u32,
+        words: &[ValRaw],
+    ) -> Result<Step, GuestFault> {
+        self.live.clear();
+        match self.guest.start(memory, func, words) {
+            Ok(step) => Ok(step),
+            Err(fault) => Err(self.count(fault)),
+        }
+    }
+
+    fn resume(&mut self, memory: &mut Memory, words: &[ValRaw]) -> Result<Step, GuestFault> {
+        self.live.clear();
+        match self.guest.resume(memory, words) {
+            Ok(step) => Ok(step),
+            Err(fault) => Err(self.count(fault)),
+        }
+    }
+
+    fn realloc(
+        &mut self,
+        memory: &mut Memory,
+        old: u64,
+        old_size: u64,
+        align: u32,
+        new_size: u64,
+    ) -> Result<u64, GuestFault>
+        requires aligned { 0 < align }
+        requires narrow { old < 2 ^ 32 }
+        requires old_sized { old_size < 2 ^ 32 }
+        requires new_sized { new_size < 2 ^ 32 }
+        ensures narrow { IfOk result (λ answer. answer < 2 ^ 32) }
+        ensures does { Reallocates (moment (watched_seen G.seen self.old) memory.old) (moment (watched_seen G.seen self.new) memory.new) (call old old_size align new_size) result }
+        ensures moves { OnAnswer result (WatchedMoves G.moves (guest_in self.old memory.old) (realloc_events (call old old_size align new_size) memory.old result) (guest_in self.new memory.new)) }
+        ensures exact { IfOk result (λ answer. Marks self.old self.new memory.old memory.new (call old old_size align new_size) answer) }
+        ensures kept { OnErr result ((self.new.marks ≡ self.old.marks) × (self.new.live ≡ self.old.live)) }
+    {
+        let kept = shot(&self.live, old + old_size, self.whole, memory.as_slice());
+        let Ok(before) = Bytes::from_slice(self.alloc, kept) else {
+            return Err(self.count(GuestFault::OutOfMemory));
+        };
+        if self.live.reserve(1).is_err() || self.marks.reserve(1).is_err() {
+            return Err(self.count(GuestFault::OutOfMemory));
+        }
+        match self.guest.realloc(memory, old, old_size, align, new_size) {
+            Ok(answer) => {
+                mark_answer(
+                    &mut self.live,
+                    &mut self.marks,
+                    old,
+                    old_size,
+                    align,
+                    new_size,
+                    answer,
+                    self.whole,
+                    before.as_slice(),
+                    memory.as_slice(),
+                );
+                Ok(answer)
+            }
+            Err(fault) => Err(self.count(fault)),
+        }
+    }
+
+    fn post_return(
+        &mut self,
+        memory: &mut Memory,
+        func: u32,
+        words: &[ValRaw],
+    ) -> Result<(), GuestFault> {
+        self.live.clear();
+        match self.guest.post_return(memory, func, words) {
+            Ok(()) => Ok(()),
+            Err(fault) => Err(self.count(fault)),
+        }
+    }
+
+    fn dtor(&mut self, memory: &mut Memory, func: u32, rep: u32) -> Result<(), GuestFault> {
+        self.live.clear();
+        match self.guest.dtor(memory, func, rep) {
+            Ok(()) => Ok(()),
+            Err(fault) => Err(self.count(fault)),
+        }
+    }
+}
