@@ -90,7 +90,7 @@ pub record Watching (G : Type 0) : Type 0 where
 
 -- the guest of one that is watched, in the same memory
 abbrev pub watched_guest : {G : Type 0} → GuestIn (Watching G) → GuestIn G
-watched_guest w = record { guest = w.guest.guest; len = w.len }
+watched_guest w = record { guest = w.guest.guest; len = w.len; wide = w.wide }
 
 -- It moves as its guest does, the live blocks follow the events, and no want of memory was answered.
 pub record WatchedMoves {G : Type 0} (Moves : GuestIn G → List Event → GuestIn G → Type 0) (w : GuestIn (Watching G)) (events : List Event) (x : GuestIn (Watching G)) : Type 0 where

@@ -105,7 +105,7 @@ impl<G> Watched<G> {
 
 #[tactic(auto, using(crate::proofs::Watch::after_step))]
 impl<G: Guest> Guest for Watched<G> {
-    ghost use Rattle.std.specs.Prelude.{◌≡◌, ◌<◌, ◌^◌, IfOk, OnErr};
+    ghost use Rattle.std.specs.Prelude.{◌≡◌, ◌<◌, ◌^◌, IfOk, IsFalse, OnErr};
     ghost use Rattle.canon_memory.specs.Guest.{OnAnswer, Reallocates, guest_in, moment};
     ghost use Rattle.canon_memory.specs.Journal.{realloc_events};
     ghost use Rattle.canon_memory.specs.Realloc.{call};
@@ -154,10 +154,11 @@ impl<G: Guest> Guest for Watched<G> {
         requires narrow { old < 2 ^ 32 }
         requires old_sized { old_size < 2 ^ 32 }
         requires new_sized { new_size < 2 ^ 32 }
-        ensures narrow { IfOk result (λ answer. answer < 2 ^ 32) }
-        ensures does { Reallocates (moment (watched_seen G.seen self.old) memory.old) (moment (watched_seen G.seen self.new) memory.new) (call old old_size align new_size) result }
-        ensures moves { OnAnswer result (WatchedMoves G.moves (guest_in self.old memory.old) (realloc_events (call old old_size align new_size) memory.old result) (guest_in self.new memory.new)) }
-        ensures exact { IfOk result (λ answer. Marks self.old self.new memory.old memory.new (call old old_size align new_size) answer) }
+        ensures narrow { IsFalse memory.old.wide → IfOk result (λ answer. answer < 2 ^ 32) }
+        ensures width { memory.new.wide ≡ memory.old.wide }
+        ensures does { Reallocates (moment (watched_seen G.seen self.old) memory.old.bytes) (moment (watched_seen G.seen self.new) memory.new.bytes) (call old old_size align new_size) result }
+        ensures moves { OnAnswer result (WatchedMoves G.moves (guest_in self.old memory.old) (realloc_events (call old old_size align new_size) memory.old.bytes result) (guest_in self.new memory.new)) }
+        ensures exact { IfOk result (λ answer. Marks self.old self.new memory.old.bytes memory.new.bytes (call old old_size align new_size) answer) }
         ensures kept { OnErr result ((self.new.marks ≡ self.old.marks) × (self.new.live ≡ self.old.live)) }
     {
         let kept = shot(&self.live, old + old_size, self.whole, memory.as_slice());
