@@ -24,12 +24,13 @@ use Rattle.canon_lowering.specs.Attempt.{LowersArgs, StoresValue, args_call, arg
 use Rattle.canon_lowering.specs.Lowering.{AtMostOne, BeginsWith, CauseOf, refused}
 use Rattle.canon_memory.specs.Guest.{Moment}
 use Rattle.canon_memory.specs.Realloc.{block}
+use Rattle.canon_model.specs.Homes.{host_texts}
 use Rattle.canon_model.specs.Flat.{max_params}
 use Rattle.canon_model.specs.Layout.{members_align, members_flat, size}
 use Rattle.canon_model.specs.Leaves.{leaves}
 use Rattle.canon_model.specs.Memory.{InsideBlocks, memory_of, ptr}
 use Rattle.canon_model.specs.Rep.{Stored}
-use Rattle.canon_model.specs.Requests.{requests, tuple_request}
+use Rattle.canon_model.specs.Requests.{host_asks, requests, tuple_request}
 use Rattle.canon_model.specs.Shape.{Members, Shape, of_places, product}
 use Rattle.canon_types.specs.Instance.{Instance}
 use Rattle.canon_model.specs.Text.{Encoding}
@@ -41,7 +42,7 @@ use Rattle.canon_args.specs.Params.{AreSmallIn, BlamesIn, InParts, TypedParams}
 
 -- what is stored at p, said of the word that points there
 far_points : (enc : Encoding) (ms : Members) (Has : Tree → Type 0) (after : Moment) (p : ℕ) → AreProducts Has → max_params < members_flat ms → p % members_align false ms ≡ 0 → p < 2 ^ 32
-    → Points (block p (size false (product of_places ms))) (args_call false ms) p (value_at false enc (product of_places ms) p Has) (args_in false enc ms (p ∷ []) (InParts Has)) after
+    → Points (block p (size false (product of_places ms))) (args_call false ms) p (value_at false (host_texts enc) (product of_places ms) p Has) (args_in false (host_texts enc) ms (p ∷ []) (InParts Has)) after
 unfolding requests leaves
 far_points enc ms Has after p shaped far aligned narrow =
     let m = memory_of after.bytes false in
@@ -51,7 +52,7 @@ far_points enc ms Has after p shaped far aligned narrow =
       back = parts;
       is = its_parts Has shaped;
       is_back = λ ts has. has;
-      asks = λ ts has. (tuple_request false enc ms, cond-false (nat_le (members_flat ms) max_params) _ _ (lt-leb (members_flat ms) max_params far), λ last. refl);
+      asks = λ ts has. (tuple_request false (host_asks enc) ms, cond-false (nat_le (members_flat ms) max_params) _ _ (lt-leb (members_flat ms) max_params far), λ last. refl);
       rep = λ blocks t is w h. record {
         near = λ l. absurd (omega (arith, far, l));
         far = λ l. (
@@ -76,12 +77,12 @@ module _ {D G : Type 0} (L : GuestLaws G) (options : ℕ) (a : Parts D G) (ms : 
   -- the block isn't given
   pub heap_ungiven : (b : Parts D G) (ws : List ℕ) (e : Fault) → AsksFor L.seen L.moves a b (args_call false ms) (Err e) → TypedParams L.seen L.moves options a b ms ws Has gives (Err e)
   heap_ungiven b ws e h =
-      let asked = far_ungiven false enc ms (InParts Has) (InParts Has) [] (moment_of L.seen a) (moment_of L.seen b) ws (fault_ending e) 0 far (not_done e) h.small h.does in
+      let asked = far_ungiven false (host_texts enc) ms (InParts Has) (InParts Has) [] (moment_of L.seen a) (moment_of L.seen b) ws (fault_ending e) 0 far (not_done e) h.small h.does in
       record {
         handles = [];
         ending = fault_ending e;
         ends = inl refl;
-        lowered = record { lowered = args_ungiven false enc ms (InParts Has) (InParts Has) (moment_of L.seen a) (moment_of L.seen b) ws (fault_ending e) 0 far (not_done e) h.small h.does; asks = λ many. (asked.0, λ quiet. asked.1) };
+        lowered = record { lowered = args_ungiven false (host_texts enc) ms (InParts Has) (InParts Has) (moment_of L.seen a) (moment_of L.seen b) ws (fault_ending e) 0 far (not_done e) h.small h.does; asks = λ many. (asked.0, λ quiet. asked.1) };
         passed = cross_stopped a.ledger b.ledger gives e (same_ledger a b h.same) (ungiven_elsewhere (moment_of L.seen a) (moment_of L.seen b) (args_call false ms) e 0 h.does);
         moved = h.moved;
         same = same_handles a b h.same;
@@ -92,15 +93,15 @@ module _ {D G : Type 0} (L : GuestLaws G) (options : ℕ) (a : Parts D G) (ms : 
 
   -- it is, and they are stored in it
   module _ (b c : Parts D G) (p : ℕ) (shaped : AreProducts Has) (g : AsksFor L.seen L.moves a b (args_call false ms) (Ok p)) (r : Result (Unit {0}) Fault) (h : TypedStores L.seen L.moves options b c (product of_places ms) p Has gives r) where
-    stored : StoresValue false (moment_of L.seen b) (moment_of L.seen c) enc (product of_places ms) p Has h.handles h.ending
-    stored = subst (λ (x : Encoding). StoresValue false (moment_of L.seen b) (moment_of L.seen c) x (product of_places ms) p Has h.handles h.ending) (same_encoding a b options g.same) h.attempt
+    stored : StoresValue false (moment_of L.seen b) (moment_of L.seen c) (host_texts enc) (product of_places ms) p Has h.handles h.ending
+    stored = subst (λ (x : Encoding). StoresValue false (moment_of L.seen b) (moment_of L.seen c) (host_texts x) (product of_places ms) p Has h.handles h.ending) (same_encoding a b options g.same) h.attempt
 
-    points : Points (block p (size false (product of_places ms))) (args_call false ms) p (value_at false enc (product of_places ms) p Has) (args_in false enc ms (p ∷ []) (InParts Has)) (moment_of L.seen c)
+    points : Points (block p (size false (product of_places ms))) (args_call false ms) p (value_at false (host_texts enc) (product of_places ms) p Has) (args_in false (host_texts enc) ms (p ∷ []) (InParts Has)) (moment_of L.seen c)
     points = far_points enc ms Has (moment_of L.seen c) p shaped far g.does.aligned g.does.narrow
 
-    low : LowersArgs false (moment_of L.seen a) (moment_of L.seen c) enc ms (InParts Has) (p ∷ []) h.handles h.ending
-    low = attempt_block false (moment_of L.seen a) (moment_of L.seen b) (moment_of L.seen c) (args_call false ms) p (value_place false (product of_places ms) p ∷ []) (value_at false enc (product of_places ms) p Has)
-        (args_in false enc ms (p ∷ []) (InParts Has)) h.ending refl g.small g.does (value_framed false enc (product of_places ms) p Has) (λ i q. q) points stored
+    low : LowersArgs false (moment_of L.seen a) (moment_of L.seen c) (host_texts enc) ms (InParts Has) (p ∷ []) h.handles h.ending
+    low = attempt_block false (moment_of L.seen a) (moment_of L.seen b) (moment_of L.seen c) (args_call false ms) p (value_place false (product of_places ms) p ∷ []) (value_at false (host_texts enc) (product of_places ms) p Has)
+        (args_in false (host_texts enc) ms (p ∷ []) (InParts Has)) h.ending refl g.small g.does (value_framed false (host_texts enc) (product of_places ms) p Has) (λ i q. q) points stored
 
     first : BeginsWith (args_call false ms) h.ending low.answers low.trap
     unfolding low

@@ -10,6 +10,7 @@ use Rattle.canon_lower_parts.specs.Words.{TypedLowers}
 use Rattle.canon_lowering.proofs.Attempts.{Turns, attempt_as}
 use Rattle.canon_lowering.specs.Attempt.{args_in, value_words}
 use Rattle.canon_memory.specs.Guest.{Moment}
+use Rattle.canon_model.specs.Homes.{host_texts}
 use Rattle.canon_model.specs.Flat.{MembersFlat, max_params}
 use Rattle.canon_model.specs.Layout.{members_flat}
 use Rattle.canon_model.specs.Leaves.{leaves}
@@ -40,7 +41,7 @@ products_of Fit Means Walks typed walked i type ms v fits is t has = let (ts, e,
 -- ---- in a row
 
 near_turns : (enc : Encoding) (ms : Members) (Has : Tree → Type 0) (ws : List ℕ) (after : Moment) → AreProducts Has → members_flat ms ≤ max_params → length ws ≡ members_flat ms
-    → Turns false [] [] (value_words false enc (product of_places ms) ws 0 Has) (args_in false enc ms ws (InParts Has)) after
+    → Turns false [] [] (value_words false (host_texts enc) (product of_places ms) ws 0 Has) (args_in false (host_texts enc) ms ws (InParts Has)) after
 unfolding requests leaves
 near_turns enc ms Has ws after shaped near count = record {
   turn = trees_of;
@@ -64,7 +65,7 @@ module _ {D G : Type 0} (L : GuestLaws G) (options : ℕ) (a c : Parts D G) (ms 
     ending = h.ending;
     ends = h.ends;
     lowered = record {
-      lowered = attempt_as false (moment_of L.seen a) (moment_of L.seen c) [] [] (value_words false (encoding_by a options) (product of_places ms) ws 0 Has) (args_in false (encoding_by a options) ms ws (InParts Has)) h.ending (λ i q. q)
+      lowered = attempt_as false (moment_of L.seen a) (moment_of L.seen c) [] [] (value_words false (host_texts (encoding_by a options)) (product of_places ms) ws 0 Has) (args_in false (host_texts (encoding_by a options)) ms ws (InParts Has)) h.ending (λ i q. q)
           (near_turns (encoding_by a options) ms Has ws (moment_of L.seen c) shaped near count) h.attempt;
       asks = λ far. absurd (omega (arith, near, far));
     };

@@ -17,6 +17,7 @@ use Rattle.canon_lowering.specs.Lowering.{Ending}
 use Rattle.canon_memory.specs.Guest.{GuestIn, Moment, Seen}
 use Rattle.canon_memory.specs.declared.event.Event.{Event}
 use Rattle.canon_model.proofs.Layouts.{members_end-le-size}
+use Rattle.canon_model.specs.Homes.{host_texts}
 use Rattle.canon_model.specs.Flat.{MembersFlat, max_results}
 use Rattle.canon_model.specs.Layout.{members_flat}
 use Rattle.canon_model.specs.Leaves.{leaves}
@@ -30,7 +31,7 @@ use Rattle.canon_value_parts.specs.Args.{LowersResults}
 
 -- the words of a tuple are those of its members
 row_turns : (enc : Encoding) (ms : Members) (Has : Tree → Type 0) (ws : List ℕ) (after : Moment) → AreProducts Has
-    → Turns false [] [] (value_words false enc (product of_places ms) ws 0 Has) (members_words false enc ms ws 0 (InParts Has)) after
+    → Turns false [] [] (value_words false (host_texts enc) (product of_places ms) ws 0 Has) (members_words false (host_texts enc) ms ws 0 (InParts Has)) after
 unfolding requests leaves
 row_turns enc ms Has ws after shaped = record {
   turn = trees_of;
@@ -45,7 +46,7 @@ row_turns enc ms Has ws after shaped = record {
 
 -- a tuple in memory is its members there
 tuple_turns : (enc : Encoding) (ms : Members) (at : ℕ) (Has : Tree → Type 0) (after : Moment) → AreProducts Has
-    → Turns false (value_place false (product of_places ms) at ∷ []) (value_place false (product of_places ms) at ∷ []) (value_at false enc (product of_places ms) at Has) (members_at false enc ms 0 at (InParts Has)) after
+    → Turns false (value_place false (product of_places ms) at ∷ []) (value_place false (product of_places ms) at ∷ []) (value_at false (host_texts enc) (product of_places ms) at Has) (members_at false (host_texts enc) ms 0 at (InParts Has)) after
 unfolding requests leaves
 tuple_turns enc ms at Has after shaped = record {
   turn = trees_of;
@@ -67,7 +68,7 @@ module _ {D G : Type 0} (seen : G → Seen) (moves : GuestIn G → List Event �
     ending = h.ending;
     ends = h.ends;
     lowered = record {
-      near = λ _. attempt_as false (moment_of seen a) (moment_of seen c) [] [] (value_words false (encoding_by a options) (product of_places ms) ws 0 Has) (members_words false (encoding_by a options) ms ws 0 (InParts Has)) h.ending (λ i q. q)
+      near = λ _. attempt_as false (moment_of seen a) (moment_of seen c) [] [] (value_words false (host_texts (encoding_by a options)) (product of_places ms) ws 0 Has) (members_words false (host_texts (encoding_by a options)) ms ws 0 (InParts Has)) h.ending (λ i q. q)
           (row_turns (encoding_by a options) ms Has ws (moment_of seen c) shaped) h.attempt;
       far = λ far. absurd (omega (arith, near, far));
     };
@@ -87,7 +88,7 @@ module _ {D G : Type 0} (seen : G → Seen) (moves : GuestIn G → List Event �
     ends = h.ends;
     lowered = record {
       near = λ near. absurd (omega (arith, near, far));
-      far = λ _. attempt_as false (moment_of seen a) (moment_of seen c) _ _ (value_at false (encoding_by a options) (product of_places ms) at Has) (members_at false (encoding_by a options) ms 0 at (InParts Has)) h.ending (λ i q. q)
+      far = λ _. attempt_as false (moment_of seen a) (moment_of seen c) _ _ (value_at false (host_texts (encoding_by a options)) (product of_places ms) at Has) (members_at false (host_texts (encoding_by a options)) ms 0 at (InParts Has)) h.ending (λ i q. q)
           (tuple_turns (encoding_by a options) ms at Has (moment_of seen c) shaped) h.attempt;
     };
     passed = h.passed;
@@ -107,7 +108,7 @@ module _ {D G : Type 0} (seen : G → Seen) (moves : GuestIn G → List Event �
     ending = h.ending;
     ends = h.ends;
     lowered = record {
-      near = λ few. subst (λ xs. LowersMembers false (moment_of seen a) (moment_of seen c) (encoding_by a options) ms xs 0 (InParts Has) h.handles h.ending)
+      near = λ few. subst (λ xs. LowersMembers false (moment_of seen a) (moment_of seen c) (host_texts (encoding_by a options)) ms xs 0 (InParts Has) h.handles h.ending)
           (sym (ap (λ n. take n (ws ++ rest)) (sym (count few)) ∙ take-append_seam ws rest)) (h.lowered.near few);
       far = h.lowered.far;
     };
@@ -128,13 +129,13 @@ as_tuple before after enc ms Have at ws hs ending h =
     let within : Within span place = within_block _ _ _ _ (omega arith) (omega (arith, members_end-le-size false of_places ms)) in
     record {
       near = h.near;
-      far = λ far. attempt_as false before after span place (members_at false enc ms 0 at Have) (members_at false enc ms 0 at Have) ending within (record {
+      far = λ far. attempt_as false before after span place (members_at false (host_texts enc) ms 0 at Have) (members_at false (host_texts enc) ms 0 at Have) ending within (record {
         turn = λ ts. ts;
         back = λ ts. ts;
         is = λ ts have. have;
         is_back = λ ts have. have;
         asks = λ ts have. refl;
-        rep = λ fresh ts is g. (members_framed false enc ms 0 at Have).rep (members_span false ms 0 at ∷ fresh) (value_place false (product of_places ms) at ∷ fresh) after.bytes after.bytes (keeps_same _ _ _ (with_blocks _ _ fresh within)) ts g;
+        rep = λ fresh ts is g. (members_framed false (host_texts enc) ms 0 at Have).rep (members_span false ms 0 at ∷ fresh) (value_place false (product of_places ms) at ∷ fresh) after.bytes after.bytes (keeps_same _ _ _ (with_blocks _ _ fresh within)) ts g;
         home = λ pointer ts xs ys is g. g;
         handles = λ ts is. refl;
       }) (h.far far);

@@ -12,6 +12,7 @@ use Rattle.canon_lowering.specs.Attempt.{Attempt, LowersMembers, members_at, val
 use Rattle.canon_lowering.specs.Lowering.{Ending, refused}
 use Rattle.canon_memory.specs.Guest.{GuestIn, Moment, Seen}
 use Rattle.canon_memory.specs.declared.event.Event.{Event}
+use Rattle.canon_model.specs.Homes.{host_texts}
 use Rattle.canon_model.specs.Flat.{max_results}
 use Rattle.canon_model.specs.Layout.{members_flat}
 use Rattle.canon_model.specs.Shape.{Members, of_places, product}
@@ -21,11 +22,11 @@ use Rattle.canon_model.specs.Tree.{Tree, Trees}
 -- Members were stored as a tuple at an address. Its whole place may have been written, with the bytes behind the last member that align
 -- its end.
 abbrev pub StoresTuple : Moment → Moment → Encoding → Members → ℕ → (Trees → Type 0) → List ℕ → Ending → Type 0
-StoresTuple before after enc ms at Have hs ending = Attempt false before after (value_place false (product of_places ms) at ∷ []) (members_at false enc ms 0 at Have) hs ending
+StoresTuple before after enc ms at Have hs ending = Attempt false before after (value_place false (product of_places ms) at ∷ []) (members_at false (host_texts enc) ms 0 at Have) hs ending
 
 -- A function's results were lowered so, with these handles: to words in a row, or of more words as a tuple at an address.
 pub record LowersTuple (before after : Moment) (enc : Encoding) (ms : Members) (Have : Trees → Type 0) (at : ℕ) (ws hs : List ℕ) (ending : Ending) : Type 0 where
-  pub near : members_flat ms ≤ max_results → LowersMembers false before after enc ms ws 0 Have hs ending
+  pub near : members_flat ms ≤ max_results → LowersMembers false before after (host_texts enc) ms ws 0 Have hs ending
   pub far : max_results < members_flat ms → StoresTuple before after enc ms at Have hs ending
 
 -- Results of these members, which as a tuple have the trees of `Has`, were lowered into these words, or at this address, or why not;

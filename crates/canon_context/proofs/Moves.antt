@@ -1,11 +1,13 @@
 -- What a guest did, one thing after another.
-use Rattle.std.proofs.Common.{◌≡◌, ◌++◌, ◌∙◌, Err, List, None, Ok, Option, Result, Some, [], ap, append_assoc, length, refl, subst, sym, ℕ}
+use Rattle.std.proofs.Common.{◌≡◌, ◌++◌, ◌∙◌, Bool, Err, List, None, Ok, Option, Result, Some, [], ap, append_assoc, length, refl, subst, sym, ℕ}
 use Rattle.std.proofs.lemmas.List.{append-nil, append_cancel_left}
 use Rattle.canon_lowering.specs.Lowering.{Ending, Reallocated, done, misaligned, out_of_bounds, refused, short, trapped}
-use Rattle.canon_memory.specs.Guest.{GuestIn, OnAnswer, Seen, guest_in, moment}
+use Rattle.canon_memory.specs.Guest.{GuestIn, OnAnswer, Seen, guest_in}
 use Rattle.canon_memory.specs.Journal.{AddsEvents, realloc_events}
 use Rattle.canon_memory.specs.declared.event.Event.{Event}
+use Rattle.canon_model.specs.Memory.{memory_of}
 use Rattle.canon_model.specs.Requests.{Call}
+use Rattle.canon_context.specs.Core.{Parts, guest_of, moment_of}
 use Rattle.canon_context.specs.Lowers.{answer_of, ending_of, guest_answer}
 use Rattle.canon_context.specs.Moves.{Moves, MovesBy}
 use Rattle.canon_context.specs.declared.fault.Fault.{Fault}
@@ -61,31 +63,31 @@ module _ {G : Type 0} (L : GuestLaws G) where
   moves_then g h k short es fs add add2 m n = tt
 
   -- bytes were written, and memory is as long as before
-  pub moves_written : (g : GuestIn G) (h : G) (m m2 : List ℕ) (e : Ending) → length m2 ≡ length m → Moves L.seen L.moves g (guest_in h m) e → Moves L.seen L.moves g (guest_in h m2) e
-  moves_written g h m m2 e same moved = subst (λ (n : ℕ). Moves L.seen L.moves g (record { guest = h; len = n }) e) (sym same) moved
+  pub moves_written : (g : GuestIn G) (h : G) (w : Bool) (m m2 : List ℕ) (e : Ending) → length m2 ≡ length m → Moves L.seen L.moves g (guest_in h (memory_of m w)) e → Moves L.seen L.moves g (guest_in h (memory_of m2 w)) e
+  moves_written g h w m m2 e same moved = subst (λ (n : ℕ). Moves L.seen L.moves g (record { guest = h; len = n; wide = w }) e) (sym same) moved
 
   -- a request, by its answer
-  pub moves_asked : (g h : G) (m m2 : List ℕ) (c : Call) (r : Result ℕ Fault) → Reallocated (moment (L.seen g) m) (moment (L.seen h) m2) c (ending_of r) (answer_of r)
-      → OnAnswer (guest_answer r) (L.moves (guest_in g m) (realloc_events c m (guest_answer r)) (guest_in h m2)) → Moves L.seen L.moves (guest_in g m) (guest_in h m2) (ending_of r)
-  moves_asked g h m m2 c (Ok a) does move = moves_added (guest_in g m) (guest_in h m2) _ does.answered.goes.events move
-  moves_asked g h m m2 c (Err (fault.ReallocMisaligned a)) (mark, answered, bad) move = moves_added (guest_in g m) (guest_in h m2) _ answered.goes.events move
-  moves_asked g h m m2 c (Err (fault.ReallocOutOfBounds a)) (mark, answered, aligned, bad) move = moves_added (guest_in g m) (guest_in h m2) _ answered.goes.events move
-  moves_asked g h m m2 c (Err fault.GuestTrap) does move = moves_added (guest_in g m) (guest_in h m2) _ does.goes.events move
-  moves_asked g h m m2 c (Err fault.OutOfMemory) does move = tt
-  moves_asked g h m m2 c (Err (fault.Resource e)) does move = absurd does
-  moves_asked g h m m2 c (Err (fault.TypeMismatch k)) does move = absurd does
-  moves_asked g h m m2 c (Err (fault.FieldName k)) does move = absurd does
-  moves_asked g h m m2 c (Err (fault.UnknownCase k)) does move = absurd does
-  moves_asked g h m m2 c (Err (fault.UnknownFlag k)) does move = absurd does
-  moves_asked g h m m2 c (Err (fault.PayloadExpected k)) does move = absurd does
-  moves_asked g h m m2 c (Err (fault.PayloadNotExpected k)) does move = absurd does
-  moves_asked g h m m2 c (Err (fault.LengthMismatch k)) does move = absurd does
-  moves_asked g h m m2 c (Err (fault.PointerMisaligned at)) does move = absurd does
-  moves_asked g h m m2 c (Err (fault.PointerOutOfBounds at)) does move = absurd does
-  moves_asked g h m m2 c (Err (fault.StringTooLong n)) does move = absurd does
-  moves_asked g h m m2 c (Err (fault.SizeOverflow n)) does move = absurd does
-  moves_asked g h m m2 c (Err (fault.InvalidUtf8 at)) does move = absurd does
-  moves_asked g h m m2 c (Err (fault.InvalidUtf16 at)) does move = absurd does
-  moves_asked g h m m2 c (Err (fault.InvalidChar at)) does move = absurd does
-  moves_asked g h m m2 c (Err (fault.BadDiscriminant at n)) does move = absurd does
-  moves_asked g h m m2 c (Err fault.HostcallFuelExhausted) does move = absurd does
+  pub moves_asked : {T : Type 0} (a b : Parts T G) (c : Call) (r : Result ℕ Fault) → Reallocated (moment_of L.seen a) (moment_of L.seen b) c (ending_of r) (answer_of r)
+      → OnAnswer (guest_answer r) (L.moves (guest_of a) (realloc_events c a.memory (guest_answer r)) (guest_of b)) → Moves L.seen L.moves (guest_of a) (guest_of b) (ending_of r)
+  moves_asked a b c (Ok x) does move = moves_added (guest_of a) (guest_of b) _ does.answered.goes.events move
+  moves_asked a b c (Err (fault.ReallocMisaligned x)) (mark, answered, bad) move = moves_added (guest_of a) (guest_of b) _ answered.goes.events move
+  moves_asked a b c (Err (fault.ReallocOutOfBounds x)) (mark, answered, aligned, bad) move = moves_added (guest_of a) (guest_of b) _ answered.goes.events move
+  moves_asked a b c (Err fault.GuestTrap) does move = moves_added (guest_of a) (guest_of b) _ does.goes.events move
+  moves_asked a b c (Err fault.OutOfMemory) does move = tt
+  moves_asked a b c (Err (fault.Resource e)) does move = absurd does
+  moves_asked a b c (Err (fault.TypeMismatch k)) does move = absurd does
+  moves_asked a b c (Err (fault.FieldName k)) does move = absurd does
+  moves_asked a b c (Err (fault.UnknownCase k)) does move = absurd does
+  moves_asked a b c (Err (fault.UnknownFlag k)) does move = absurd does
+  moves_asked a b c (Err (fault.PayloadExpected k)) does move = absurd does
+  moves_asked a b c (Err (fault.PayloadNotExpected k)) does move = absurd does
+  moves_asked a b c (Err (fault.LengthMismatch k)) does move = absurd does
+  moves_asked a b c (Err (fault.PointerMisaligned at)) does move = absurd does
+  moves_asked a b c (Err (fault.PointerOutOfBounds at)) does move = absurd does
+  moves_asked a b c (Err (fault.StringTooLong n)) does move = absurd does
+  moves_asked a b c (Err (fault.SizeOverflow n)) does move = absurd does
+  moves_asked a b c (Err (fault.InvalidUtf8 at)) does move = absurd does
+  moves_asked a b c (Err (fault.InvalidUtf16 at)) does move = absurd does
+  moves_asked a b c (Err (fault.InvalidChar at)) does move = absurd does
+  moves_asked a b c (Err (fault.BadDiscriminant at n)) does move = absurd does
+  moves_asked a b c (Err fault.HostcallFuelExhausted) does move = absurd does

@@ -1,20 +1,23 @@
 -- What contracts see of a core.
-use Rattle.std.specs.Prelude.{◌≡◌, List, Some, ℕ}
+use Rattle.std.specs.Prelude.{Bool, ◌≡◌, List, Some, ℕ}
 use Rattle.canon_handles.specs.declared.handle.TypedResourceIndex.{TypedResourceIndex}
 use Rattle.canon_handles.specs.declared.handle.TypedResourceIndex.TheVariants.{Component as ComponentIndex, Host as HostIndex}
 use Rattle.canon_ledger.specs.Ledger.{LedgerState}
 use Rattle.canon_ledger.specs.Places.{table_of_index}
 use Rattle.canon_memory.specs.Guest.{GuestIn, Moment, Seen, guest_in, moment}
+use Rattle.canon_model.specs.Memory.{memory_of}
 use Rattle.canon_model.specs.Text.{Encoding}
 use Rattle.canon_types.specs.Table.{HasResource, TypeTable}
 use Rattle.canon_context.specs.Component.{encoding_at}
 use Rattle.canon_context.specs.declared.component.Component.{Component}
 
+-- The bytes of memory, and whether its pointers have 8 bytes.
 pub record Parts (T G : Type 0) : Type 0 where
   pub id : ℕ
   pub state : T
   pub guest : G
   pub memory : List ℕ
+  pub wide : Bool
   pub component : Component
   pub ledger : LedgerState
   pub fuel : ℕ
@@ -39,9 +42,9 @@ SameButLedger before after = after ≡ record before { ledger = after.ledger }
 abbrev pub moment_of : {T G : Type 0} → (G → Seen) → Parts T G → Moment
 moment_of seen core = moment (seen core.guest) core.memory
 
--- the guest and the length of its memory
+-- the guest, and the length and the width of its memory
 abbrev pub guest_of : {T G : Type 0} → Parts T G → GuestIn G
-guest_of core = guest_in core.guest core.memory
+guest_of core = guest_in core.guest (memory_of core.memory core.wide)
 
 -- the encoding of the options of a number
 abbrev pub encoding_by : {T G : Type 0} → Parts T G → ℕ → Encoding

@@ -23,19 +23,21 @@ pub fn ask<T, G: Guest>(
     cx.realloc(0, 0, align, size)
 }
 
-/// Asks the guest's `realloc` for a text's block in another size, in bytes, aligned to 2; answers as `ask`.
+/// Asks the guest's `realloc` for a block in another size, in bytes; answers as `ask`.
 pub fn ask_again<T, G: Guest>(
     cx: &mut LowerContext<'_, T, G>,
     old: u64,
     old_size: u64,
+    align: u32,
     size: u64,
 ) -> Result<u64, Fault>
+    requires alignment { IsAlignment align }
     requires narrow { old < 2 ^ 32 }
     requires old_sized { old_size < 2 ^ 32 }
     requires sized { size < 2 ^ 32 }
-    ensures asked { AsksFor G.seen G.moves cx.old.core.now cx.new.core.now (call old old_size 2 size) result }
+    ensures asked { AsksFor G.seen G.moves cx.old.core.now cx.new.core.now (call old old_size align size) result }
     ensures same_reference { cx.new.core.ghost_name ≡ cx.old.core.ghost_name }
     ensures same_options { cx.new.options ≡ cx.old.options }
 {
-    cx.realloc(old, old_size, 2, size)
+    cx.realloc(old, old_size, align, size)
 }

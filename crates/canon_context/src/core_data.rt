@@ -1,6 +1,6 @@
 //! What a store has of its component: the host's data, the guest and its memory, the ledger, and the fuel.
 
-ghost use Rattle.std.specs.Prelude.{◌≡◌, ◌≤◌, ◌<◌, ◌^◌, [], IfOk, OnOk, length};
+ghost use Rattle.std.specs.Prelude.{◌≡◌, ◌≤◌, ◌<◌, ◌^◌, [], IfOk, IsFalse, OnOk, length};
 ghost use Rattle.canon_lowering.specs.Lowering.{Reallocated};
 ghost use Rattle.canon_memory.specs.Guest.{Goes, HasCause, OnAnswer};
 ghost use Rattle.canon_memory.specs.Journal.{dtor_events, post_events, realloc_events, resume_events, start_events};
@@ -37,17 +37,17 @@ pub struct Core<T, G> {
 impl<T, G> Model for Core<T, G> {
     ghost Value = { Parts T G };
 
-    ghost view = { λ c. record { id = c.id; state = c.state; guest = c.guest; memory = c.memory; component = c.component; ledger = c.ledger; fuel = c.fuel } };
+    ghost view = { λ c. record { id = c.id; state = c.state; guest = c.guest; memory = c.memory.bytes; wide = c.memory.wide; component = c.component; ledger = c.ledger; fuel = c.fuel } };
 
-    ghost invariant = { λ c. IsComponent c.component };
+    ghost invariant = { λ c. IsComponent c.component × IsFalse c.memory.wide };
 }
 
 impl<T: Drop, G: Drop> Core<T, G> {
-    ghost use Rattle.std.specs.Prelude.{◌≡◌, IfOk};
+    ghost use Rattle.std.specs.Prelude.{◌≡◌, IfOk, IsFalse};
     ghost use Rattle.canon_ledger.specs.Ledger.{new_ledger};
     ghost use Rattle.canon_context.specs.Component.{IsComponent};
 
-    /// A core with empty handle tables.
+    /// A core with empty handle tables, over a memory whose pointers have 32 bits.
     pub fn new(
         alloc: Global,
         id: StoreId,
@@ -58,8 +58,9 @@ impl<T: Drop, G: Drop> Core<T, G> {
         handle_limit: u64,
         fuel: u64,
     ) -> Result<Self, OutOfMemory>
-        requires { IsComponent component }
-        ensures { IfOk result (λ core. core ≡ record { id = id; state = state; guest = guest; memory = memory; component = component; ledger = new_ledger 256 handle_limit 0; fuel = fuel }) }
+        requires component { IsComponent component }
+        requires narrow { IsFalse memory.wide }
+        ensures { IfOk result (λ core. core ≡ record { id = id; state = state; guest = guest; memory = memory.bytes; wide = memory.wide; component = component; ledger = new_ledger 256 handle_limit 0; fuel = fuel }) }
     {
         let ledger = Ledger::new(alloc, handle_limit, HostResourceData::new(alloc))?;
         Ok(Core {
@@ -75,7 +76,7 @@ impl<T: Drop, G: Drop> Core<T, G> {
 }
 
 impl<T, G> Core<T, G> {
-    ghost use Rattle.std.specs.Prelude.{◌≡◌, ◌≤◌, ◌^◌, length};
+    ghost use Rattle.std.specs.Prelude.{◌≡◌, ◌≤◌, ◌^◌, IsFalse, length};
     ghost use Rattle.std.specs.Borrow.{Array, Lends, sem, u8};
     ghost use Rattle.canon_memory.specs.Memory.{written_over};
     ghost use Rattle.canon_context.specs.Component.{IsComponent};
@@ -138,7 +139,8 @@ impl<T, G> Core<T, G> {
 
     /// The guest's memory.
     pub fn memory(&self) -> &Memory
-        ensures memory { result.now ≡ self.now.memory }
+        ensures memory { result.now.bytes ≡ self.now.memory }
+        ensures narrow { IsFalse result.now.wide }
         ensures small { length self.now.memory ≤ 2 ^ 32 }
     {
         let _len = self.memory.len(); // memory has at most 2^32 bytes

@@ -3,9 +3,9 @@ use Rattle.std.proofs.Common.{Err, inl, inr, List, None, Ok, Result, [], ap, app
 use Rattle.std.specs.Prelude.{IsSome, false}
 use Rattle.std.proofs.lemmas.List.{append-nil}
 use Rattle.canon_model.specs.Flat.{max_params}
-use Rattle.canon_model.specs.Homes.{ParamsHome, PointsTo}
+use Rattle.canon_model.specs.Homes.{ParamsHome, PointsTo, host_texts}
 use Rattle.canon_model.specs.Shape.{Members}
-use Rattle.canon_model.specs.Requests.{Request, params_requests}
+use Rattle.canon_model.specs.Requests.{Request, host_asks, params_requests}
 use Rattle.canon_model.specs.Tree.{Trees}
 use Rattle.canon_model.proofs.Frames.{blocks_are_read}
 use Rattle.canon_memory.specs.declared.event.Event.{Event}
@@ -15,7 +15,8 @@ use Rattle.canon_ledger.specs.Ledger.{enter}
 use Rattle.canon_leaves.proofs.Leaves.{leaves_same}
 use Rattle.canon_leaves.specs.Parts.{LeavesTake}
 use Rattle.canon_lowering.proofs.Lowerings.{lawful_second}
-use Rattle.canon_lowering.specs.Attempt.{AnyPointer, LowersArgs}
+use Rattle.canon_model.specs.Homes.{AnyPointer}
+use Rattle.canon_lowering.specs.Attempt.{LowersArgs}
 use Rattle.canon_lowering.specs.Lowering.{Accepted, AllGood, Answer, Ending, Meets, addresses_of, done, short, events_of, marks_of}
 use Rattle.canon_lowering.specs.Storing.{narrow}
 use Rattle.canon_context.specs.declared.fault.Fault.TheVariants as fault
@@ -57,10 +58,10 @@ pub record IsReady (args : Arguments) (callee : Callee) (entry mid : Moment) (wo
   pub start : IsStart args callee entry answers given words mid.bytes
   pub marks : mid.guest.marks ≡ entry.guest.marks ++ marks_of answers
   pub quiet : AsksByTypes callee.params done answers None
-  pub requested : (ts : Trees) → args.are ts → MetAll (params_requests false callee.encoding callee.params ts) answers
+  pub requested : (ts : Trees) → args.are ts → MetAll (params_requests false (host_asks callee.encoding) callee.params ts) answers
 
 module _ (args : Arguments) (callee : Callee) (entry mid : Moment) (words : List ℕ) where
-  pub ready : {handles : List ℕ} (low : LowersArgs false entry mid callee.encoding callee.params args.are words handles done) → length words ≡ words_within max_params callee.params
+  pub ready : {handles : List ℕ} (low : LowersArgs false entry mid (host_texts callee.encoding) callee.params args.are words handles done) → length words ≡ words_within max_params callee.params
       → AsksByTypes callee.params done low.answers low.trap → args.small → IsReady args callee entry mid words low.answers handles
   ready low count quiet small = record {
     start = record {
@@ -69,9 +70,9 @@ module _ (args : Arguments) (callee : Callee) (entry mid : Moment) (words : List
       handles = low.shown.handles;
       small = small;
       represented = λ lawful. blocks_are_read.values low.fresh max_params true callee.encoding (narrow mid.bytes) words callee.params low.shown.it (low.shown.rep lawful (inl (λ i h. absurd h)));
-      homes = subst (λ xs. ParamsHome AnyPointer callee.encoding false words callee.params low.shown.it xs []) (append-nil (addresses_of low.answers)) (low.shown.homes []);
+      homes = subst (λ xs. ParamsHome AnyPointer (host_texts callee.encoding) false words callee.params low.shown.it xs []) (append-nil (addresses_of low.answers)) (low.shown.homes []);
       memory_homes =
-          λ lawful. subst (λ xs. ParamsHome (PointsTo (narrow mid.bytes)) callee.encoding false words callee.params low.shown.it xs []) (append-nil (addresses_of low.answers))
+          λ lawful. subst (λ xs. ParamsHome (PointsTo (narrow mid.bytes)) (host_texts callee.encoding) false words callee.params low.shown.it xs []) (append-nil (addresses_of low.answers))
           (low.shown.memory_homes lawful (inl (λ i h. absurd h)) []);
       no_shorter = low.lowering.goes.no_shorter;
       count = count;
@@ -81,8 +82,8 @@ module _ (args : Arguments) (callee : Callee) (entry mid : Moment) (words : List
     };
     marks = low.lowering.goes.marks;
     quiet = subst (λ o. AsksByTypes callee.params done low.answers o) low.lowering.cause quiet;
-    requested = λ ts have last. subst (λ o. Meets last (params_requests false callee.encoding callee.params ts) low.answers o []) low.lowering.cause
-        (subst (λ rs. Meets last (params_requests false callee.encoding callee.params ts) low.answers low.trap rs) (low.requested ts have).all ((low.requested ts have).met last));
+    requested = λ ts have last. subst (λ o. Meets last (params_requests false (host_asks callee.encoding) callee.params ts) low.answers o []) low.lowering.cause
+        (subst (λ rs. Meets last (params_requests false (host_asks callee.encoding) callee.params ts) low.answers low.trap rs) (low.requested ts have).all ((low.requested ts have).met last));
   }
 
 -- ---- the guest was to be started

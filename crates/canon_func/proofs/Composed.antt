@@ -2,6 +2,7 @@
 use Rattle.std.proofs.Common.{Err, List, None, Ok, Result, Some, Vec, Global, [], ap, append_assoc, arith, inl, inr, length, refl, subst, sym, ℕ, ◌++◌, ◌∙◌, ◌∷◌, ◌≡◌}
 use Rattle.std.specs.Prelude.{IfErr, IsSome, false}
 use Rattle.std.proofs.lemmas.List.{append-nil}
+use Rattle.canon_model.specs.Homes.{host_texts}
 use Rattle.canon_memory.specs.declared.error.GuestFault.{GuestFault}
 use Rattle.canon_memory.specs.declared.error.GuestFault.TheVariants as guest
 use Rattle.canon_memory.specs.declared.event.Event.{Event}
@@ -277,7 +278,7 @@ module _ {T R : Type 0} (args : Arguments) (its : ReturnedValues R) (gives : Giv
       → ((xs : List Event) → M xs → (leg : Leg) (legs : List Leg) (ys : List Event) → P (leg ∷ legs) ys → Lives (record { events = xs ++ leg.events; live = leg.live } ∷ legs) ys)
       → Adding a b M (LoweredArgs args callee a b l.ledger l1.ledger (Ok words)) → Serving b c (P []) (IsRest its gives callee limits P Leaves words.items b c l1 l2 answer) → Adding a c (Lives []) (InScope l a c l2 answer)
   call_started P a b c l l1 l2 same words answer M told f g first second =
-      let low : LowersArgs false a b callee.encoding callee.params args.are words.items first.so.0 done = first.so.1 in
+      let low : LowersArgs false a b (host_texts callee.encoding) callee.params args.are words.items first.so.0 done = first.so.1 in
       let xs : List Event = events_of low.answers low.trap in
       let ys : List Event = second.events in
       record {

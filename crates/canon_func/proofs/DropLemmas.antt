@@ -2,6 +2,7 @@
 use Rattle.std.proofs.Common.{Err, List, None, Ok, Option, Result, Some, [], ap, arith, inl, inr, refl, subst, sym, true, ℕ, ◌∙◌, ◌≡◌}
 use Rattle.std.specs.Prelude.{IsSome}
 use Rattle.std.proofs.lemmas.List.{append-nil}
+use Rattle.canon_model.specs.Memory.{memory_of}
 use Rattle.canon_ledger.specs.Index.{GivenIndex}
 use Rattle.canon_ledger.specs.Ledger.{LedgerState, enter, host_resource_drop, leave}
 use Rattle.canon_memory.specs.declared.event.Event.{Event}
@@ -44,12 +45,12 @@ no_events None memory = refl
 no_events (Some d) memory = refl
 
 module _ {T G : Type 0} (seen : G → Seen) (moves : GuestIn G → List Event → GuestIn G → Type 0) (Leaves : List ℕ → List ℕ → Type 0) where
-  module _ (stays : (g : GuestIn G) → moves g [] g) (before after : Parts T G) (guest : after.guest ≡ before.guest) (memory : after.memory ≡ before.memory) where
+  module _ (stays : (g : GuestIn G) → moves g [] g) (before after : Parts T G) (guest : after.guest ≡ before.guest) (memory : after.memory ≡ before.memory) (wide : after.wide ≡ before.wide) where
     still : Goes (moment_of seen before) (moment_of seen after) [] []
     still = subst (λ (m : Moment). Goes (moment_of seen before) m [] []) (λ i. moment (seen (sym guest i)) (sym memory i)) (goes_nowhere (moment_of seen before))
 
     stayed : moves (guest_of before) [] (guest_of after)
-    stayed = subst (λ (g : GuestIn G). moves (guest_of before) [] g) (λ i. guest_in (sym guest i) (sym memory i)) (stays (guest_of before))
+    stayed = subst (λ (g : GuestIn G). moves (guest_of before) [] g) (λ i. guest_in (sym guest i) (memory_of (sym memory i) (sym wide i))) (stays (guest_of before))
 
     -- without a destructor
     pub ran_none : Ran seen moves Leaves None before after (Ok tt)
@@ -81,12 +82,12 @@ module _ {T G : Type 0} (seen : G → Seen) (moves : GuestIn G → List Event �
     pub not_removed : (e : Error) → SameButLedger before.core after.core → after.imports ≡ before.imports → after.turns ≡ before.turns → after.trapped ≡ before.trapped → Removes before.core.ledger x after.core.ledger (Err e) → IsDrop seen moves Leaves x before after (Err e)
     not_removed (error.Fault fault.OutOfMemory) same imports turns trapped unchanged = record {
       outcome = inl (λ i. record { core = (same ∙ ap (λ (l : LedgerState). record before.core { ledger = l }) unchanged) i; imports = imports i; turns = turns i; trapped = trapped i });
-      destructor = ran_not stays before.core after.core (ap (λ k. k.guest) same) (ap (λ k. k.memory) same) (destructor_at before.core.ledger x) (error.Fault fault.OutOfMemory) (no_events _ before.core.memory);
+      destructor = ran_not stays before.core after.core (ap (λ k. k.guest) same) (ap (λ k. k.memory) same) (ap (λ k. k.wide) same) (destructor_at before.core.ledger x) (error.Fault fault.OutOfMemory) (no_events _ before.core.memory);
       same = but_ledger before.core after.core same;
     }
     not_removed (error.Fault (fault.Resource e)) same imports turns trapped (refused, left) = record {
       outcome = (refused, λ i. record { core = (same ∙ ap (λ (l : LedgerState). record before.core { ledger = l }) left) i; imports = imports i; turns = turns i; trapped = trapped i });
-      destructor = ran_not stays before.core after.core (ap (λ k. k.guest) same) (ap (λ k. k.memory) same) (destructor_at before.core.ledger x) (error.Fault (fault.Resource e))
+      destructor = ran_not stays before.core after.core (ap (λ k. k.guest) same) (ap (λ k. k.memory) same) (ap (λ k. k.wide) same) (destructor_at before.core.ledger x) (error.Fault (fault.Resource e))
           (ap (λ r. destructor_events (destructor_by r) before.core.memory (Err (error.Fault (fault.Resource e)))) refused);
       same = but_ledger before.core after.core same;
     }

@@ -3,6 +3,7 @@ use Rattle.std.proofs.Common.{Bool, Err, List, None, Ok, Option, Result, Some, [
 use Rattle.std.specs.Prelude.{IsSome, drop, false, slice_get, take}
 use Rattle.std.proofs.Math.Seq.{take-append_seam}
 use Rattle.std.proofs.lemmas.Bool.{false≢true}
+use Rattle.canon_model.specs.Homes.{host_texts}
 use Rattle.canon_model.specs.Flat.{max_params}
 use Rattle.canon_model.specs.Layout.{members_flat}
 use Rattle.canon_model.specs.Shape.{Members}
@@ -114,7 +115,7 @@ module _ (a b : Moment) (enc : Encoding) (ms : Members) (args : Arguments) (l l2
 
   pub args_done : (words : List ℕ) (M : List Event → Type 0) → length words ≡ words_within max_params ms → (members_flat ms ≤ max_params → have_block ms ≡ false → b ≡ a)
       → Lowers words done → args.small → ((l es : List Event) → a.guest.journal ≡ Some l → b.guest.journal ≡ Some (l ++ es) → M es) → LeavesTake l args.parts hs l2
-      → Adding a b M (λ es. (handles : List ℕ) × (low : LowersArgs false a b enc ms args.are words handles done)
+      → Adding a b M (λ es. (handles : List ℕ) × (low : LowersArgs false a b (host_texts enc) ms args.are words handles done)
       × (es ≡ events_of low.answers low.trap) × (length words ≡ words_within max_params ms) × AsksByTypes ms done low.answers low.trap × args.small × LeavesTake l args.parts handles l2)
   args_done words M count same both small new takes =
       let mine = both.lowered in
@@ -128,7 +129,7 @@ module _ (a b : Moment) (enc : Encoding) (ms : Members) (args : Arguments) (l l2
   pub args_refused : (f : Fault) (words : List ℕ) (ending : Ending) (M : List Event → Type 0) → Lowers words ending → EndsFor f ending → args.blames f → told_fault f ≡ f
       → (members_flat ms ≤ max_params → have_block ms ≡ false → (b ≡ a) × ((ending ≡ short) ⊎ (ending ≡ refused)))
       → ((l es : List Event) → a.guest.journal ≡ Some l → b.guest.journal ≡ Some (l ++ es) → M es) → LeavesStop (stop_of f) l args.parts l2
-      → Adding a b M (λ es. ((f ≡ fault.OutOfMemory) × (b ≡ a) × (l2 ≡ l) × (es ≡ [])) ⊎ ((words handles : List ℕ) × (end : Ending) × (low : LowersArgs false a b enc ms args.are words handles end)
+      → Adding a b M (λ es. ((f ≡ fault.OutOfMemory) × (b ≡ a) × (l2 ≡ l) × (es ≡ [])) ⊎ ((words handles : List ℕ) × (end : Ending) × (low : LowersArgs false a b (host_texts enc) ms args.are words handles end)
       × EndsFor f end × args.blames f × (told_fault f ≡ f) × (es ≡ events_of low.answers low.trap) × AsksByTypes ms end low.answers low.trap × LeavesStop (stop_of f) l args.parts l2))
   args_refused f words ending M both ends blames is_told same new stops =
       let mine = both.lowered in
@@ -168,10 +169,10 @@ module _ (a b : Moment) (enc : Encoding) (types : Instance) (ms ns : Members) (p
 
   pub lowered_done : (words dst : List ℕ) (M : List Event → Type 0) → words ≡ dst → length words ≡ words_within max_params ms → (members_flat ms ≤ max_params → have_block ms ≡ false → b ≡ a)
       → Crosses {T = Unit {0}} types (have_handle ms) (all_passes ms params) (LowersValues dst) l l2 (Ok tt) → AreSmall enc ms params → ((l es : List Event) → a.guest.journal ≡ Some l → b.guest.journal ≡ Some (l ++ es) → M es)
-      → Adding a b M (λ es. (hs : List ℕ) × (low : LowersArgs false a b enc ns (HaveTrees ns params) words hs done)
+      → Adding a b M (λ es. (hs : List ℕ) × (low : LowersArgs false a b (host_texts enc) ns (HaveTrees ns params) words hs done)
       × (es ≡ events_of low.answers low.trap) × (length words ≡ words_within max_params ns) × AsksByTypes ns done low.answers low.trap × AreSmall enc ns params
       × LeavesTake l (map (lower_parts types) (all_passes ns params)) hs l2)
-  lowered_done words dst M e count same cross small new = subst (λ ks. Adding a b M (λ es. (hs : List ℕ) × (low : LowersArgs false a b enc ks (HaveTrees ks params) words hs done)
+  lowered_done words dst M e count same cross small new = subst (λ ks. Adding a b M (λ es. (hs : List ℕ) × (low : LowersArgs false a b (host_texts enc) ks (HaveTrees ks params) words hs done)
       × (es ≡ events_of low.answers low.trap) × (length words ≡ words_within max_params ks) × AsksByTypes ks done low.answers low.trap × AreSmall enc ks params
       × LeavesTake l (map (lower_parts types) (all_passes ks params)) hs l2)) is
       (args_done a b enc ms (values ms) l l2 cross.given words M count same (subst (λ ws. LowersValues ws cross.given done) (sym e) (subst (λ end. LowersValues dst cross.given end) cross.ends cross.lowered)) small new cross.passed)
@@ -179,11 +180,11 @@ module _ (a b : Moment) (enc : Encoding) (types : Instance) (ms ns : Members) (p
   pub lowered_refused : (f : Fault) (dst : List ℕ) (M : List Event → Type 0) → Crosses {T = Unit {0}} types (have_handle ms) (all_passes ms params) (LowersValues dst) l l2 (Err f) → BlamesMembers enc ms params f
       → (members_flat ms ≤ max_params → have_block ms ≡ false → (b ≡ a) × ((fault_ending f ≡ refused) ⊎ (UsesLedger (have_handle ms) (all_passes ms params) × (f ≡ fault.OutOfMemory))))
       → ((l es : List Event) → a.guest.journal ≡ Some l → b.guest.journal ≡ Some (l ++ es) → M es)
-      → Adding a b M (λ es. ((f ≡ fault.OutOfMemory) × (b ≡ a) × (l2 ≡ l) × (es ≡ [])) ⊎ ((words hs : List ℕ) × (ending : Ending) × (low : LowersArgs false a b enc ns (HaveTrees ns params) words hs ending)
+      → Adding a b M (λ es. ((f ≡ fault.OutOfMemory) × (b ≡ a) × (l2 ≡ l) × (es ≡ [])) ⊎ ((words hs : List ℕ) × (ending : Ending) × (low : LowersArgs false a b (host_texts enc) ns (HaveTrees ns params) words hs ending)
       × EndsFor f ending × BlamesMembers enc ns params f × (told_fault f ≡ f) × (es ≡ events_of low.answers low.trap) × AsksByTypes ns ending low.answers low.trap
       × LeavesStop (stop_of f) l (map (lower_parts types) (all_passes ns params)) l2))
   lowered_refused f dst M cross blames same new = subst (λ ks. Adding a b M (λ es. ((f ≡ fault.OutOfMemory) × (b ≡ a) × (l2 ≡ l) × (es ≡ [])) ⊎ ((words hs : List ℕ) × (ending : Ending)
-      × (low : LowersArgs false a b enc ks (HaveTrees ks params) words hs ending) × EndsFor f ending × BlamesMembers enc ks params f × (told_fault f ≡ f) × (es ≡ events_of low.answers low.trap)
+      × (low : LowersArgs false a b (host_texts enc) ks (HaveTrees ks params) words hs ending) × EndsFor f ending × BlamesMembers enc ks params f × (told_fault f ≡ f) × (es ≡ events_of low.answers low.trap)
       × AsksByTypes ks ending low.answers low.trap × LeavesStop (stop_of f) l (map (lower_parts types) (all_passes ks params)) l2))) is
       (args_refused a b enc ms (values ms) l l2 cross.given f dst cross.ending M cross.lowered (ends_for (Unit {0}) (have_handle ms) (all_passes ms params) f cross.ending cross.ends) blames cross.as_told
       (λ near quiet. ((same near quiet).0, ending_quiet (have_handle ms) (all_passes ms params) f cross.ending cross.ends (same near quiet).1)) new cross.passed.0)

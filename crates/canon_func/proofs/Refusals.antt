@@ -2,7 +2,8 @@
 use Rattle.std.proofs.Common.{Err, inl, inr, List, None, Option, Some, [], ap, arith, length, refl, subst, sym, ℕ, ◌++◌, ◌%◌, ◌+◌, ◌∷◌, ◌∙◌, ◌≡◌, ◌≤◌}
 use Rattle.std.specs.Prelude.{IsSome, false, slice_index}
 use Rattle.std.proofs.lemmas.List.{append-nil}
-use Rattle.canon_model.specs.Requests.{Call, Request, params_requests}
+use Rattle.canon_model.specs.Homes.{host_texts}
+use Rattle.canon_model.specs.Requests.{Call, Request, host_asks, params_requests}
 use Rattle.canon_model.specs.Tree.{Trees}
 use Rattle.canon_memory.specs.declared.event.Event.{Event}
 use Rattle.canon_memory.specs.Guest.{Moment, Seen}
@@ -61,7 +62,7 @@ module _ {T R : Type 0} (args : Arguments) (its : ReturnedValues R) (gives : Giv
   made : (f : Fault) (answers : List Answer) (trap : Option Trap) → (IsSome entry.guest.journal → Lives [] (events_of answers trap)) → Advances entry after →
       (Calm refused entry.guest after.guest → Stands entry.bytes after.bytes answers × KeepsLive entry after.bytes answers) →
       AsksByTypes callee.params (fault_ending f) answers trap → after.guest.marks ≡ entry.guest.marks ++ marks_of answers
-      → ((ts : Trees) → args.are ts → (left : List Request) × ((last : ℕ) → Meets last (params_requests false callee.encoding callee.params ts) answers trap left))
+      → ((ts : Trees) → args.are ts → (left : List Request) × ((last : ℕ) → Meets last (params_requests false (host_asks callee.encoding) callee.params ts) answers trap left))
       → HandlesPassOf args its gives callee limits.fuel [] entry.guest after [] None before left [] (Err (error.Fault f)) (events_of answers trap) []
       → Refused args its gives callee limits entry after before (events_of answers trap) answers trap f → IsCallOf args its Lives Leaves gives callee limits entry after before left (Err (error.Fault f)) (events_of answers trap)
   made f answers trap moves advances stands quiet marks met handles because = record {
@@ -105,12 +106,12 @@ module _ {T R : Type 0} (args : Arguments) (its : ReturnedValues R) (gives : Giv
       made fault.OutOfMemory [] None moves (subst (λ m. Advances entry m) (sym e) (record { no_shorter = omega arith; traps_later = omega arith; shortages_later = omega arith }))
       (λ calm. (λ tidy i h out. ap (λ m. slice_index m.bytes i) e, λ lawful i h. ap (λ m. slice_index m.bytes i) e)) (λ near none. (refl, refl), λ far. (refl, λ none. tt))
       (ap (λ m. m.guest.marks) e ∙ sym (append-nil entry.guest.marks))
-      (λ ts have. (params_requests false callee.encoding callee.params ts, λ last. refl)) handles
+      (λ ts have. (params_requests false (host_asks callee.encoding) callee.params ts, λ last. refl)) handles
       (record { late = tt; accepted = tt; cause = tt; valid = λ ts have small lawful calm accepted. refl })
 
 module _ {T R : Type 0} (args : Arguments) (its : ReturnedValues R) (gives : Giving T) (callee : Callee) (limits : Limits) (Lives : List Leg → List Event → Type 0) (Leaves : List ℕ → List ℕ → Type 0) (law : BlamesRightly args) (entry after : Moment) (before left : HostSide T) where
   abbrev Low : List ℕ → List ℕ → Ending → Type 0
-  Low words handles ending = LowersArgs false entry after callee.encoding callee.params args.are words handles ending
+  Low words handles ending = LowersArgs false entry after (host_texts callee.encoding) callee.params args.are words handles ending
 
   abbrev Why : (f : Fault) (ending : Ending) (words handles : List ℕ) → Low words handles ending → Type 0
   Why f ending words handles low = Refused args its gives callee limits entry after before (events_of low.answers low.trap) low.answers low.trap f

@@ -16,6 +16,7 @@ use Rattle.canon_lowering.specs.Attempt.{LowersArgs}
 use Rattle.canon_lowering.specs.Lowering.{Ending, done, events_of}
 use Rattle.canon_memory.specs.Guest.{GuestIn, Seen}
 use Rattle.canon_memory.specs.declared.event.Event.{Event}
+use Rattle.canon_model.specs.Homes.{host_texts}
 use Rattle.canon_model.specs.Flat.{max_params}
 use Rattle.canon_model.specs.Shape.{Members}
 use Rattle.canon_model.specs.Text.{Encoding}
@@ -64,7 +65,7 @@ module _ {T G : Type 0} (L : GuestLaws G) (options : ℕ) (a b : Parts T G) (ms 
 
   pub tuple_done : (words dst : List ℕ) → words ≡ dst → length words ≡ words_within max_params ms → Params dst (Ok tt)
       → Adding (moment_of L.seen a) (moment_of L.seen b) (λ es. L.moves (guest_of a) es (guest_of b))
-      (λ es. (handles : List ℕ) × (low : LowersArgs false (moment_of L.seen a) (moment_of L.seen b) enc ms (InParts Has) words handles done)
+      (λ es. (handles : List ℕ) × (low : LowersArgs false (moment_of L.seen a) (moment_of L.seen b) (host_texts enc) ms (InParts Has) words handles done)
       × (es ≡ events_of low.answers low.trap) × (length words ≡ words_within max_params ms) × AsksByTypes ms done low.answers low.trap × AreSmallIn enc ms Has × LeavesTake a.ledger gives handles b.ledger)
   tuple_done words dst e count given =
       let h : Params words (Ok tt) = subst (λ ws. Params ws (Ok tt)) (sym e) given in
@@ -76,7 +77,7 @@ module _ {T G : Type 0} (L : GuestLaws G) (options : ℕ) (a b : Parts T G) (ms 
   pub tuple_refused : (f : Fault) (words : List ℕ) → ((t : Tree) × Has t) → Params words (Err f)
       → Adding (moment_of L.seen a) (moment_of L.seen b) (λ es. OnAnswered {T = Vec ℕ Global} (Err (error.Fault f)) (L.moves (guest_of a) es (guest_of b)))
       (λ es. ((f ≡ fault.OutOfMemory) × (moment_of L.seen b ≡ moment_of L.seen a) × (b.ledger ≡ a.ledger) × (es ≡ [])) ⊎ ((words handles : List ℕ) × (end : Ending)
-      × (low : LowersArgs false (moment_of L.seen a) (moment_of L.seen b) enc ms (InParts Has) words handles end)
+      × (low : LowersArgs false (moment_of L.seen a) (moment_of L.seen b) (host_texts enc) ms (InParts Has) words handles end)
       × EndsFor f end × BlamesIn enc ms Has f × (told_fault f ≡ f) × (es ≡ events_of low.answers low.trap) × AsksByTypes ms end low.answers low.trap × LeavesStop (stop_of f) a.ledger gives b.ledger))
   tuple_refused f words one h =
       args_refused (moment_of L.seen a) (moment_of L.seen b) enc ms (tuple_args enc ms Has gives) a.ledger b.ledger h.handles f words h.ending (λ es. OnAnswered {T = Vec ℕ Global} (Err (error.Fault f)) (L.moves (guest_of a) es (guest_of b)))

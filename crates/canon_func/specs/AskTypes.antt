@@ -3,6 +3,7 @@ use Rattle.std.specs.Prelude.{IfErr, List, None, OnOk, Option, Result, [], false
 use Rattle.canon_args.specs.Params.{AreSmallIn, BlamesIn, InParts}
 use Rattle.canon_args.specs.Results.{StoresTuple}
 use Rattle.canon_args.specs.Returned.{passed_reading}
+use Rattle.canon_model.specs.Homes.{host_texts}
 use Rattle.canon_model.specs.Flat.{max_params, max_results}
 use Rattle.canon_model.specs.Layout.{members_flat}
 use Rattle.canon_model.specs.Reach as reach
@@ -65,7 +66,7 @@ module _ {P : Type 0} (reading : Reading P) (callee : Callee) (asked : Asked) (w
 -- perhaps a trap.
 pub record TupleInto (from to : Moment) (callee : Callee) (asked : Asked) (at : ℕ) (Has : Tree → Type 0) (words : List ℕ) (answers : List Answer) (trap : Option Trap) (hs : List ℕ) (ending : Ending) : Type 0 where
   pub near : members_flat (asked_results callee asked) ≤ max_results
-      → (low : LowersMembers false from to (asked_origin callee asked from.bytes).encoding (asked_results callee asked) words 0 (InParts Has) hs ending) × (low.answers ≡ answers) × (low.trap ≡ trap)
+      → (low : LowersMembers false from to (host_texts (asked_origin callee asked from.bytes).encoding) (asked_results callee asked) words 0 (InParts Has) hs ending) × (low.answers ≡ answers) × (low.trap ≡ trap)
   pub far : max_results < members_flat (asked_results callee asked)
       → (low : StoresTuple from to (asked_origin callee asked from.bytes).encoding (asked_results callee asked) at (InParts Has) hs ending) × (low.answers ≡ answers) × (low.trap ≡ trap)
 

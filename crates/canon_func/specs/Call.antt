@@ -3,12 +3,12 @@
 use Rattle.std.specs.Prelude.{Bool, Err, IfErr, IfOk, IsOkUnless, IsSome, List, None, Ok, OnOk, Option, Result, Some, [], false, if◌then◌else◌, length, map, nat_le, not, slice_get, slice_index, true, ℕ, ⊤, ◌%◌, ◌&&◌, ◌++◌, ◌+◌, ◌<◌, ◌==◌, ◌∷◌, ◌≡◌, ◌≢◌, ◌≤◌, ◌⊎◌}
 use Rattle.canon_model.specs.Cost.{members_cost}
 use Rattle.canon_model.specs.Flat.{RepArgs, RepResults, max_params, max_results}
-use Rattle.canon_model.specs.Homes.{ParamsHome, PointsTo}
+use Rattle.canon_model.specs.Homes.{ParamsHome, PointsTo, host_texts}
 use Rattle.canon_model.specs.Layout.{members_flat}
 use Rattle.canon_model.specs.Leaves.{Leaf, members_leaves, values_leaves}
 use Rattle.canon_model.specs.Memory.{InBlocks}
 use Rattle.canon_model.specs.Reach.{Kind, ValuesFault, badly_spelled, misaligned, no_case, no_scalar, out_of_bounds, values_reach}
-use Rattle.canon_model.specs.Requests.{Request, params_requests}
+use Rattle.canon_model.specs.Requests.{Request, host_asks, params_requests}
 use Rattle.canon_model.specs.Shape.{Members, member_count}
 use Rattle.canon_model.specs.Text.{in_utf16, in_utf8}
 use Rattle.canon_model.specs.Tree.{Trees}
@@ -17,7 +17,8 @@ use Rattle.canon_memory.specs.Counts.{Rose}
 use Rattle.canon_memory.specs.Guest.{GuestIn, Moment, Seen, moment}
 use Rattle.canon_memory.specs.Journal.{AddsEvents}
 use Rattle.canon_lowering.specs.Lowering.{Accepted, AllGood, AllLawful, AllTidy, Answer, Calm, Ending, Meets, Trap, addresses_of, blocks_of, done, events_of, marks_of, refused}
-use Rattle.canon_lowering.specs.Attempt.{AnyPointer, handle_numbers}
+use Rattle.canon_model.specs.Homes.{AnyPointer}
+use Rattle.canon_lowering.specs.Attempt.{handle_numbers}
 use Rattle.canon_lowering.specs.Storing.{narrow}
 use Rattle.canon_types.specs.Refusal.{first_error}
 use Rattle.canon_ledger.specs.Handles.{can_leave, top_scope}
@@ -105,8 +106,8 @@ pub record IsStart (args : Arguments) (callee : Callee) (entry : Moment) (answer
   pub good : AllGood (length memory) answers
   pub represented : AllLawful answers → RepArgs true callee.encoding (narrow memory) words callee.params trees
   -- each pointer in the words is the home of its own block, and so is each in the blocks
-  pub homes : ParamsHome AnyPointer callee.encoding false words callee.params trees (addresses_of answers) []
-  pub memory_homes : AllLawful answers → ParamsHome (PointsTo (narrow memory)) callee.encoding false words callee.params trees (addresses_of answers) []
+  pub homes : ParamsHome AnyPointer (host_texts callee.encoding) false words callee.params trees (addresses_of answers) []
+  pub memory_homes : AllLawful answers → ParamsHome (PointsTo (narrow memory)) (host_texts callee.encoding) false words callee.params trees (addresses_of answers) []
   -- memory at the call's entry stands outside the answered blocks, and what lived then has its bytes
   pub frame : Stands entry.bytes memory answers
   pub kept : KeepsLive entry memory answers
@@ -336,7 +337,7 @@ pub record IsCallOf {T R : Type 0} (args : Arguments) (its : ReturnedValues R) (
   -- each answer was aligned and its block ended inside memory, but one that the call was refused for; and each answer has its mark
   pub accepted : Accepted (lowering_ending answer) (length after.bytes) answers
   pub marks : after.guest.marks ≡ before.guest.marks ++ marks_of (answers ++ (answers_in turns ++ late))
-  pub requested : (ts : Trees) → args.are ts → MetFirst (params_requests false callee.encoding callee.params ts) answers trap later
+  pub requested : (ts : Trees) → args.are ts → MetFirst (params_requests false (host_asks callee.encoding) callee.params ts) answers trap later
   pub quiet : AsksByTypes callee.params (lowering_ending answer) answers trap
   -- Handles went through the ledger, and each ask was served; the words of the start have the handles that the parameters were given.
   pub given : List ℕ

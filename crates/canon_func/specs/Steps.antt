@@ -1,6 +1,7 @@
 -- The steps of a call.
 use Rattle.std.specs.Prelude.{Err, IfErr, IfOk, IsOkUnless, IsSome, List, Option, take, None, Ok, OnOk, Result, Some, Vec, [], false, length, ℕ, ⊤, ◌++◌, ◌∷◌, ◌≡◌, ◌≢◌, ◌⊎◌, ◌<◌, ◌≤◌}
 use Rattle.std.specs.declared.alloc.Global.{Global}
+use Rattle.canon_model.specs.Homes.{host_texts}
 use Rattle.canon_model.specs.Flat.{max_params}
 use Rattle.canon_model.specs.Layout.{members_flat}
 use Rattle.canon_model.specs.Memory.{Block}
@@ -67,12 +68,12 @@ EndsFor f ending = ending ≡ fault_ending f
 -- memory ran out before, nothing was done. Memory that the ledger wanted ends a lowering as a refusal does.
 abbrev pub LoweredArgs : Arguments → Callee → Moment → Moment → LedgerState → LedgerState → Result (Vec ℕ Global) Error → List Event → Type 0
 LoweredArgs args callee before after ledger left (Ok words) events =
-    (handles : List ℕ) × (low : LowersArgs false before after callee.encoding callee.params args.are words.items handles done) × (events ≡ events_of low.answers low.trap)
+    (handles : List ℕ) × (low : LowersArgs false before after (host_texts callee.encoding) callee.params args.are words.items handles done) × (events ≡ events_of low.answers low.trap)
     × (length words.items ≡ words_within max_params callee.params) × AsksByTypes callee.params done low.answers low.trap
     × args.small × LeavesTake ledger args.parts handles left
 LoweredArgs args callee before after ledger left (Err (error.Fault f)) events =
     ((f ≡ fault.OutOfMemory) × (after ≡ before) × (left ≡ ledger) × (events ≡ []))
-    ⊎ ((words handles : List ℕ) × (ending : Ending) × (low : LowersArgs false before after callee.encoding callee.params args.are words handles ending)
+    ⊎ ((words handles : List ℕ) × (ending : Ending) × (low : LowersArgs false before after (host_texts callee.encoding) callee.params args.are words handles ending)
     × EndsFor f ending × args.blames f × (told_fault f ≡ f) × (events ≡ events_of low.answers low.trap) × AsksByTypes callee.params ending low.answers low.trap
     × LeavesStop (stop_of f) ledger args.parts left)
 LoweredArgs args callee before after ledger left (Err _) events = ⊥

@@ -18,6 +18,7 @@ use Rattle.canon_lowering.specs.Attempt.{LowersMembers}
 use Rattle.canon_lowering.specs.Lowering.{Ending}
 use Rattle.canon_memory.specs.Guest.{GuestIn, Moment, Seen}
 use Rattle.canon_memory.specs.declared.event.Event.{Event}
+use Rattle.canon_model.specs.Homes.{host_texts}
 use Rattle.canon_model.specs.Flat.{max_results}
 use Rattle.canon_model.specs.Layout.{members_flat}
 use Rattle.canon_model.specs.Shape.{Members, member_count}
@@ -71,7 +72,7 @@ module _ {F T G : Type 0} (g : Closure F (HostView T) Val (Result (Unit {0}) Hos
 lowered_first : (a c : Moment) (enc : Encoding) (ms : Members) (Have : Trees → Type 0) (at : ℕ) (ws rest hs : List ℕ) (e : Ending) → (members_flat ms ≤ max_results → length ws ≡ members_flat ms)
     → LowersResults a c enc ms Have at ws hs e → LowersResults a c enc ms Have at (take (members_flat ms) (ws ++ rest)) hs e
 lowered_first a c enc ms Have at ws rest hs e count h = record {
-  near = λ few. subst (λ xs. LowersMembers false a c enc ms xs 0 Have hs e) (sym (ap (λ n. take n (ws ++ rest)) (sym (count few)) ∙ take-append_seam ws rest)) (h.near few);
+  near = λ few. subst (λ xs. LowersMembers false a c (host_texts enc) ms xs 0 Have hs e) (sym (ap (λ n. take n (ws ++ rest)) (sym (count few)) ∙ take-append_seam ws rest)) (h.near few);
   far = λ many. h.far many;
 }
 

@@ -26,11 +26,12 @@ use Rattle.canon_lowering.specs.Storing.{narrow}
 use Rattle.canon_memory.specs.Guest.{Goes, GuestIn, Seen}
 use Rattle.canon_memory.specs.declared.event.Event.{Event}
 use Rattle.canon_model.proofs.Frames.{blocks_are_read}
+use Rattle.canon_model.specs.Homes.{host_texts}
 use Rattle.canon_model.specs.Flat.{RepFlatAt, max_results}
 use Rattle.canon_model.specs.Layout.{members_flat}
 use Rattle.canon_model.specs.Leaves.{leaves, members_leaves}
 use Rattle.canon_model.specs.Rep.{RepMem}
-use Rattle.canon_model.specs.Requests.{members_requests}
+use Rattle.canon_model.specs.Requests.{host_asks, members_requests}
 use Rattle.canon_model.specs.Shape.{Members, Shape, of_places, product}
 use Rattle.canon_model.specs.Text.{Encoding}
 use Rattle.canon_model.specs.Tree.{Tree, Trees, parts}
@@ -74,8 +75,8 @@ module _ {F T G P R : Type 0} (g : StaticClosure F (HostView T) P (Result R Host
 
     -- ---- in a row
 
-    in_row : members_flat ms ≤ max_results → LowersMembers false (moment_of seen before) (moment_of seen after) enc ms (take (members_flat ms) words2) 0 (InParts (walks results)) h.handles done
-    in_row few = subst (λ e. LowersMembers false (moment_of seen before) (moment_of seen after) enc ms (take (members_flat ms) words2) 0 (InParts (walks results)) h.handles e) is_done (h.lowered.near few)
+    in_row : members_flat ms ≤ max_results → LowersMembers false (moment_of seen before) (moment_of seen after) (host_texts enc) ms (take (members_flat ms) words2) 0 (InParts (walks results)) h.handles done
+    in_row few = subst (λ e. LowersMembers false (moment_of seen before) (moment_of seen after) (host_texts enc) ms (take (members_flat ms) words2) 0 (InParts (walks results)) h.handles e) is_done (h.lowered.near few)
 
     row_shown : (few : members_flat ms ≤ max_results) → AllLawful (in_row few).answers → RepFlatAt true enc (narrow after.memory) (take (members_flat ms) words2) 0 s (parts (in_row few).shown.it)
     row_shown few lawful = blocks_are_read.flat (in_row few).fresh true enc (narrow after.memory) (take (members_flat ms) words2) 0 s (parts (in_row few).shown.it)
@@ -91,7 +92,7 @@ module _ {F T G P R : Type 0} (g : StaticClosure F (HostView T) P (Result R Host
       walked = (in_row few).shown.is;
       answers = (in_row few).answers;
       goes = subst (λ (t : Option Trap). Goes (moment_of seen before) (moment_of seen after) (marks_of (in_row few).answers) (events_of (in_row few).answers t)) (in_row few).lowering.cause (in_row few).lowering.goes;
-      requested = subst (λ (t : Option Trap). Requested (members_requests false enc ms (in_row few).shown.it) done (in_row few).answers t) (in_row few).lowering.cause
+      requested = subst (λ (t : Option Trap). Requested (members_requests false (host_asks enc) ms (in_row few).shown.it) done (in_row few).answers t) (in_row few).lowering.cause
           ((in_row few).requested (in_row few).shown.it (in_row few).shown.is);
       given = given_so (handle_numbers (members_leaves ms (in_row few).shown.it)) (in_row few).shown.handles;
       near = λ n. row_shown few;
@@ -118,7 +119,7 @@ module _ {F T G P R : Type 0} (g : StaticClosure F (HostView T) P (Result R Host
       walked = (in_area many).shown.is;
       answers = (in_area many).answers;
       goes = subst (λ (t : Option Trap). Goes (moment_of seen before) (moment_of seen after) (marks_of (in_area many).answers) (events_of (in_area many).answers t)) (in_area many).lowering.cause (in_area many).lowering.goes;
-      requested = subst (λ (t : Option Trap). Requested (members_requests false enc ms (in_area many).shown.it) done (in_area many).answers t) (in_area many).lowering.cause
+      requested = subst (λ (t : Option Trap). Requested (members_requests false (host_asks enc) ms (in_area many).shown.it) done (in_area many).answers t) (in_area many).lowering.cause
           ((in_area many).requested (in_area many).shown.it (in_area many).shown.is);
       given = given_so (handle_numbers (members_leaves ms (in_area many).shown.it)) (in_area many).shown.handles;
       near = λ few. absurd (omega (arith, few, many));

@@ -28,7 +28,7 @@ use Rattle.canon_model.specs.Flat.{RepArgs, RepFlatAt, max_params, max_results}
 use Rattle.canon_model.specs.Layout.{members_flat}
 use Rattle.canon_model.specs.Leaves.{members_leaves}
 use Rattle.canon_model.specs.Rep.{RepMem}
-use Rattle.canon_model.specs.Requests.{members_requests}
+use Rattle.canon_model.specs.Requests.{host_asks, members_requests}
 use Rattle.canon_model.specs.Shape.{Shape, of_places, product}
 use Rattle.canon_model.specs.Tree.{Tree, Trees, parts}
 use Rattle.canon_types.specs.Instance.{Instance}
@@ -151,7 +151,7 @@ module _ {F T G P R : Type 0} (g : StaticClosure F (HostView T) P (Result R Host
     pub walked : walks through.results (parts trees)
     pub answers : List Answer
     pub goes : Goes (moment_of seen before) (moment_of seen after) (marks_of answers) (events_of answers None)
-    pub requested : Requested (members_requests false (encoding_by before asked.options) (result_members (component_types before) asked.func) trees) done answers None
+    pub requested : Requested (members_requests false (host_asks (encoding_by before asked.options)) (result_members (component_types before) asked.func) trees) done answers None
     pub given : LeavesTake (leave (do_step (ExitScope (top_scope through.called.ledger.handles)) through.called.ledger).after) (given_parts gives asked before through.results)
         (handle_numbers (members_leaves (result_members (component_types before) asked.func) trees)) after.ledger
     pub near : members_flat (result_members (component_types before) asked.func) ≤ max_results → AllLawful answers

@@ -10,7 +10,7 @@ use Rattle.canon_model.proofs.Numbers.{num_1}
 use Rattle.canon_model.proofs.Texts.{spells_chars}
 use Rattle.canon_model.specs.Image.{Image, IsField, le_bytes}
 use Rattle.canon_model.specs.Layout.{flags_size, scalar_size, size}
-use Rattle.canon_model.specs.Memory.{bytes_at, le_number, num}
+use Rattle.canon_model.specs.Memory.{bytes_in, le_number, num}
 use Rattle.canon_model.specs.Rep.{IsLeast, ScalarIs, bits_of}
 use Rattle.canon_model.specs.Shape.{Name, Scalar, Shape, bool, char, f32, f64, flags, s16, s32, s64, s8, scalar, string, u16, u32, u64, u8}
 use Rattle.canon_context.specs.declared.fault.At.TheVariants as place
@@ -40,7 +40,7 @@ use Rattle.canon_image_parts.specs.declared.error.ImageError.TheVariants as erro
 
 module _ (bs : List ℕ) (at k : ℕ) (room : at + k ≤ length bs) (small : (i : ℕ) → slice_index bs i < 256) where
   pub number_here : IsField k (num (narrow bs) at k) (drop at bs) (drop (at + k) bs)
-  unfolding bytes_at
+  unfolding bytes_in
   number_here =
       let xs : List ℕ = take k (drop at bs) in
       let width : length xs ≡ k = length-take-le k (drop at bs) (omega (arith, length-drop at bs, room)) in

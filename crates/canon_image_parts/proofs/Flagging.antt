@@ -8,7 +8,7 @@ use Rattle.std.proofs.Math.Seq.{take-append_seam, take-length}
 use Rattle.canon_lowering.specs.Storing.{narrow}
 use Rattle.canon_model.specs.Image.{IsField, le_bytes}
 use Rattle.canon_model.specs.Layout.{flags_size}
-use Rattle.canon_model.specs.Memory.{bytes_at, cap, le_number, num}
+use Rattle.canon_model.specs.Memory.{bytes_in, cap, le_number, num}
 use Rattle.canon_model.specs.Rep.{bits_of}
 use Rattle.canon_model.specs.Shape.{Name, Shape, flags}
 use Rattle.canon_model.specs.Tree.{bits}
@@ -33,7 +33,7 @@ front_kept old zeros now names set h long = ext_get_or 0 (take (length old) now)
 
 module _ (old zeros now : List ℕ) (names : List Name) (set : Vec (String Global) Global) (s : Shape) (place : ℕ) (is : s ≡ flags names) (count : length zeros ≡ flags_size (length names)) where
   pub flags_written : (next : ℕ) → AreMarkedAt (old ++ zeros) now (length old) names (names_of set.items) → next ≡ cap (place + 1) → WritesTo old now s (val.Flags set) place (Ok next)
-  unfolding bytes_at
+  unfolding bytes_in
   flags_written next h counted =
       let at : ℕ = length old in
       let size : ℕ = flags_size (length names) in

@@ -20,6 +20,7 @@ use Rattle.canon_lowering.specs.Lowering.{Ending, Reallocated, done, refused}
 use Rattle.canon_memory.specs.Guest.{GuestIn, Moment, Seen, moment}
 use Rattle.canon_memory.specs.Realloc.{call}
 use Rattle.canon_memory.specs.declared.event.Event.{Event}
+use Rattle.canon_model.specs.Homes.{host_texts}
 use Rattle.canon_model.specs.Layout.{align, size}
 use Rattle.canon_model.specs.Requests.{Call}
 use Rattle.canon_model.specs.Shape.{ListKind, Members, Shape, list, string}
@@ -74,7 +75,7 @@ elsewhere_asked a b c (fault.Resource r) p h = absurd h
 
 -- ---- a value that was lowered to words, and not to its end
 
-stop_at : {hs : List ℕ} (a b : Moment) (enc : Encoding) (s : Shape) (at : ℕ) (Has : Tree → Type 0) (ws : List ℕ) (e : Ending) → NotDone e → LowersValue false a b enc s ws 0 Has hs e → StoresValue false a b enc s at Has hs e
+stop_at : {hs : List ℕ} (a b : Moment) (enc : Encoding) (s : Shape) (at : ℕ) (Has : Tree → Type 0) (ws : List ℕ) (e : Ending) → NotDone e → LowersValue false a b (host_texts enc) s ws 0 Has hs e → StoresValue false a b (host_texts enc) s at Has hs e
 stop_at a b enc s at Has ws e not h = record {
   answers = h.answers;
   trap = h.trap;
@@ -128,12 +129,12 @@ module _ {D G : Type 0} (L : GuestLaws G) (options : ℕ) where
     })
 
     -- its block is given, and its items are stored there as these members
-    module _ (all : ℕ) (ms : Members) (group : Trees → Trees) (back : Tree → Trees) (row : (enc : Encoding) → MakesRow false enc s n ms all group) (Have : Trees → Type 0)
+    module _ (all : ℕ) (ms : Members) (group : Trees → Trees) (back : Tree → Trees) (row : (enc : Encoding) → MakesRow false (host_texts enc) s n ms all group) (Have : Trees → Type 0)
         (to : (ts : Trees) → Have ts → Has (items (group ts)) × (tree_count ts ≡ all)) (from : (t : Tree) → Has t → Have (back t) × (trees_of t ≡ group (back t)))
         (items_large : (enc : Encoding) → AsItems enc s ms Has back) (a b c : Parts D G) (p : ℕ) (g : IsGivenBlock L.seen L.moves a b s n p) where
-      words : (r : Result (Unit {0}) Fault) (h : TypedMembersStore L.seen L.moves options b c ms 0 p Have gs r) → LowersValue false (moment_of L.seen a) (moment_of L.seen c) (encoding_by a options) (list k s) (p ∷ n ∷ []) 0 Has h.handles h.ending
+      words : (r : Result (Unit {0}) Fault) (h : TypedMembersStore L.seen L.moves options b c ms 0 p Have gs r) → LowersValue false (moment_of L.seen a) (moment_of L.seen c) (host_texts (encoding_by a options)) (list k s) (p ∷ n ∷ []) 0 Has h.handles h.ending
       words r h = pairs.rows_words false (moment_of L.seen a) (moment_of L.seen b) (moment_of L.seen c) (encoding_by a options) k s n p all ms group back (row (encoding_by a options)) Have Has h.ending g.asked.small g.asked.does (λ _. g.few) to from
-          (subst (λ (x : Encoding). StoresMembers false (moment_of L.seen b) (moment_of L.seen c) x ms 0 p Have h.handles h.ending) (same_encoding a b options g.asked.same) h.attempt)
+          (subst (λ (x : Encoding). StoresMembers false (moment_of L.seen b) (moment_of L.seen c) (host_texts x) ms 0 p Have h.handles h.ending) (same_encoding a b options g.asked.same) h.attempt)
 
       passed : (r : Result (Unit {0}) Fault) (h : TypedMembersStore L.seen L.moves options b c ms 0 p Have gs r) → HandlesCross a.ledger c.ledger gs h.handles r
       passed r h = subst (λ (l : LedgerState). HandlesCross l c.ledger gs h.handles r) (same_ledger a b g.asked.same) h.passed
@@ -167,7 +168,7 @@ module _ {D G : Type 0} (L : GuestLaws G) (options : ℕ) where
           handles = h.handles;
           ending = h.ending;
           ends = h.ends;
-          attempt = attempt_other false (moment_of L.seen a) (moment_of L.seen c) [] _ (value_words false (encoding_by a options) (list k s) [] 0 Has) h.ending (ends_early gs e h.ending h.ends) (λ t has. (has, refl)) (words (Err e) h);
+          attempt = attempt_other false (moment_of L.seen a) (moment_of L.seen c) [] _ (value_words false (host_texts (encoding_by a options)) (list k s) [] 0 Has) h.ending (ends_early gs e h.ending h.ends) (λ t has. (has, refl)) (words (Err e) h);
           passed = passed (Err e) h;
           moved = moved (Err e) h;
           same = handles_then a b c (same_handles a b g.asked.same) h.same;
@@ -200,14 +201,14 @@ module _ {D G : Type 0} (L : GuestLaws G) (options : ℕ) where
     Stored s = TypedStores L.seen L.moves options a c s at Has gs (Ok tt)
 
     block_put : (s : Shape) → has_block s ≡ true → (h : TypedPlaces L.seen L.moves options a b s Has gs (Ok x))
-        → (LowersValue false (moment_of L.seen a) (moment (L.seen b.guest) b.memory) (encoding_by a options) s (x.pointer ∷ x.length ∷ []) 0 Has h.placed.handles done
+        → (LowersValue false (moment_of L.seen a) (moment (L.seen b.guest) b.memory) (host_texts (encoding_by a options)) s (x.pointer ∷ x.length ∷ []) 0 Has h.placed.handles done
         → Attempt false (moment (L.seen b.guest) b.memory) (moment (L.seen b.guest) c.memory) (pairs.pair_place false at ∷ []) (pairs.pair_aim false at x.pointer x.length) [] done
-        → StoresValue false (moment_of L.seen a) (moment (L.seen b.guest) c.memory) (encoding_by a options) s at Has h.placed.handles done)
+        → StoresValue false (moment_of L.seen a) (moment (L.seen b.guest) c.memory) (host_texts (encoding_by a options)) s at Has h.placed.handles done)
         → Stored s
     block_put s block h store =
         let is_done = ends_done gs tt h.placed.ending h.placed.ends in
-        let lowered : LowersValue false (moment_of L.seen a) (moment_of L.seen b) (encoding_by a options) s (x.pointer ∷ x.length ∷ []) 0 Has h.placed.handles done =
-        subst (λ (e : Ending). LowersValue false (moment_of L.seen a) (moment_of L.seen b) (encoding_by a options) s (x.pointer ∷ x.length ∷ []) 0 Has h.placed.handles e) is_done h.placed.attempt in
+        let lowered : LowersValue false (moment_of L.seen a) (moment_of L.seen b) (host_texts (encoding_by a options)) s (x.pointer ∷ x.length ∷ []) 0 Has h.placed.handles done =
+        subst (λ (e : Ending). LowersValue false (moment_of L.seen a) (moment_of L.seen b) (host_texts (encoding_by a options)) s (x.pointer ∷ x.length ∷ []) 0 Has h.placed.handles e) is_done h.placed.attempt in
         let moved : Moves L.seen L.moves (guest_of a) (guest_of b) done = subst (λ (e : Ending). Moves L.seen L.moves (guest_of a) (guest_of b) e) is_done h.placed.moved in
         let written : Attempt false (moment (L.seen b.guest) b.memory) (moment (L.seen b.guest) c.memory) (pairs.pair_place false at ∷ []) (pairs.pair_aim false at x.pointer x.length) [] done =
         pairs.pair_written false (L.seen b.guest) b.memory c.memory at x.pointer x.length lowered.lowering.small room w.pair.writes w.pair.pointer w.pair.count in
@@ -217,7 +218,7 @@ module _ {D G : Type 0} (L : GuestLaws G) (options : ℕ) where
           ends = inl refl;
           attempt = store lowered written;
           passed = h.placed.passed;
-          moved = moves_written L (guest_of a) b.guest b.memory c.memory done w.pair.writes.same_length moved;
+          moved = moves_written L (guest_of a) b.guest b.wide b.memory c.memory done w.pair.writes.same_length moved;
           same = ap (λ (y : Parts D G). record y { memory = c.memory }) h.placed.same;
           quiet = λ none. absurd (not_false (sym block ∙ none));
           cause = tt;

@@ -25,6 +25,7 @@ use Rattle.canon_lowering.specs.Steps.{Writes}
 use Rattle.canon_lowering.specs.Storing.{narrow}
 use Rattle.canon_memory.specs.Guest.{moment}
 use Rattle.canon_memory.specs.Realloc.{block}
+use Rattle.canon_model.specs.Homes.{host_texts}
 use Rattle.canon_model.specs.Layout.{flat, size}
 use Rattle.canon_model.specs.Memory.{low, num}
 use Rattle.canon_model.specs.Shape.{Shape}
@@ -98,9 +99,9 @@ module _ {D G : Type 0} (L : GuestLaws G) (options : ℕ) (a b : Parts D G) (own
       }))
     where
       words : (owns : Bool) (ws : List ℕ) → slice_index ws 0 < 2 ^ 32
-          → LowersValue false (moment_of L.seen a) (moment_of L.seen a) (encoding_by a options) (shaped_handle owns r) ws 0 IsHandle (low (slice_index ws 0) ∷ []) done
-      words true ws lt = own_words false (moment_of L.seen a) (encoding_by a options) ws 0 IsHandle small r lt (low (slice_index ws 0), refl)
-      words false ws lt = borrow_words false (moment_of L.seen a) (encoding_by a options) ws 0 IsHandle small r lt (low (slice_index ws 0), refl)
+          → LowersValue false (moment_of L.seen a) (moment_of L.seen a) (host_texts (encoding_by a options)) (shaped_handle owns r) ws 0 IsHandle (low (slice_index ws 0) ∷ []) done
+      words true ws lt = own_words false (moment_of L.seen a) (host_texts (encoding_by a options)) ws 0 IsHandle small r lt (low (slice_index ws 0), refl)
+      words false ws lt = borrow_words false (moment_of L.seen a) (host_texts (encoding_by a options)) ws 0 IsHandle small r lt (low (slice_index ws 0), refl)
 
   -- none was
   pub handle_refused : (ws : List ℕ) (gives : List (List Part)) (e : Fault) → GivesNumber a b gives (Err e) → Low ws gives (Err e)
@@ -143,7 +144,7 @@ module _ {D G : Type 0} (L : GuestLaws G) (options : ℕ) (a b : Parts D G) (own
         ends = inl refl;
         attempt = bytes owned written;
         passed = subst (λ (n : ℕ). HandlesCross {T = Unit {0}} a.ledger b.ledger gives (n ∷ []) (Ok tt)) (sym there) given.passed;
-        moved = moves_written L (guest_of a) a.guest a.memory c.memory done written.same_length (moves_none L (guest_of a) done);
+        moved = moves_written L (guest_of a) a.guest a.wide a.memory c.memory done written.same_length (moves_none L (guest_of a) done);
         same = refl;
         quiet = λ none. (refl, tt);
         cause = tt;
@@ -151,9 +152,9 @@ module _ {D G : Type 0} (L : GuestLaws G) (options : ℕ) (a b : Parts D G) (own
       }))
     where
       bytes : (owns : Bool) → Writes (block at 4) a.memory c.memory
-          → StoresValue false (moment_of L.seen a) (moment (L.seen a.guest) c.memory) (encoding_by a options) (shaped_handle owns r) at IsHandle (num (narrow c.memory) at 4 ∷ []) done
-      bytes true w = own_stored false (L.seen a.guest) a.memory c.memory (encoding_by a options) at IsHandle small r (handle_room at room) w (num (narrow c.memory) at 4, refl)
-      bytes false w = borrow_stored false (L.seen a.guest) a.memory c.memory (encoding_by a options) at IsHandle small r (handle_room at room) w (num (narrow c.memory) at 4, refl)
+          → StoresValue false (moment_of L.seen a) (moment (L.seen a.guest) c.memory) (host_texts (encoding_by a options)) (shaped_handle owns r) at IsHandle (num (narrow c.memory) at 4 ∷ []) done
+      bytes true w = own_stored false (L.seen a.guest) a.memory c.memory (host_texts (encoding_by a options)) at IsHandle small r (handle_room at room) w (num (narrow c.memory) at 4, refl)
+      bytes false w = borrow_stored false (L.seen a.guest) a.memory c.memory (host_texts (encoding_by a options)) at IsHandle small r (handle_room at room) w (num (narrow c.memory) at 4, refl)
 
   -- none was
   pub handle_unstored : (at : ℕ) (gives : List (List Part)) (e : Fault) → GivesNumber a b gives (Err e) → Stored b at gives (Err e)

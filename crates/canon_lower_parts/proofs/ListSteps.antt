@@ -8,6 +8,7 @@ use Rattle.canon_context.specs.declared.fault.Fault.{Fault}
 use Rattle.canon_leaves.specs.Parts.{Part}
 use Rattle.canon_lowering.proofs.AimedPairs.{copies_row}
 use Rattle.canon_lowering.specs.Copies.{copies}
+use Rattle.canon_model.specs.Homes.{host_texts}
 use Rattle.canon_model.specs.Layout.{size}
 use Rattle.canon_model.specs.Shape.{ListKind, Shape, list, of_items}
 use Rattle.canon_model.specs.Text.{Encoding}
@@ -63,11 +64,11 @@ module _ {D G : Type 0} (L : GuestLaws G) (options : ℕ) {A : Type 0} (Walks : 
     as_many r h = subst (λ (m : ℕ). TypedMembersStore L.seen L.moves options b c (copies m s) 0 p (EachMeans Walks xs) (flat_map give xs) r) (sym is) h
 
     pub list_filled : Filled (Ok tt) → TypedPlaces L.seen L.moves options a c z (ListMeans Walks xs) (flat_map give xs) (Ok (record { pointer = p; length = n }))
-    list_filled h = list_placed L options z s k n (ListMeans Walks xs) (flat_map give xs) shape counts n (copies n s) (λ ts. ts) (λ t. trees_of t) (λ enc. copies_row false enc s n) (EachMeans Walks xs)
+    list_filled h = list_placed L options z s k n (ListMeans Walks xs) (flat_map give xs) shape counts n (copies n s) (λ ts. ts) (λ t. trees_of t) (λ enc. copies_row false (host_texts enc) s n) (EachMeans Walks xs)
         (λ ts each. ((ts, refl, each), each_count Walks xs ts each ∙ sym is)) (λ t has. (list_trees Walks xs t has, refl)) items_large a b c p g (as_many (Ok tt) h)
 
     pub list_stopped : (e : Fault) → Filled (Err e) → TypedPlaces L.seen L.moves options a c z (ListMeans Walks xs) (flat_map give xs) (Err e)
-    list_stopped e h = list_broken L options z s k n (ListMeans Walks xs) (flat_map give xs) shape counts n (copies n s) (λ ts. ts) (λ t. trees_of t) (λ enc. copies_row false enc s n) (EachMeans Walks xs)
+    list_stopped e h = list_broken L options z s k n (ListMeans Walks xs) (flat_map give xs) shape counts n (copies n s) (λ ts. ts) (λ t. trees_of t) (λ enc. copies_row false (host_texts enc) s n) (EachMeans Walks xs)
         (λ ts each. ((ts, refl, each), each_count Walks xs ts each ∙ sym is)) (λ t has. (list_trees Walks xs t has, refl)) items_large a b c p g e (as_many (Err e) h)
 
 -- the same of the items that a list's type has, said of the types of the start

@@ -14,6 +14,7 @@ use Rattle.canon_lowering.proofs.Attempts.{attempt_none}
 use Rattle.canon_lowering.proofs.Copying.{begins-same}
 use Rattle.canon_lowering.specs.Attempt.{StoresMembers, StoresValue, members_at, members_span}
 use Rattle.canon_lowering.specs.Lowering.{Ending, done}
+use Rattle.canon_model.specs.Homes.{host_texts}
 use Rattle.canon_model.specs.Layout.{align, begins, ends, size}
 use Rattle.canon_model.specs.Leaves.{leaves}
 use Rattle.canon_model.specs.Requests.{requests}
@@ -35,8 +36,8 @@ begins_zero s = begins-same false 0 s (dvd_of_mod-eq-zero (align false s) (zero-
 module _ {D G : Type 0} (L : GuestLaws G) (options : ℕ) where
   -- what a value that was stored did
   pub stored_done : (a b : Parts D G) (s : Shape) (at : ℕ) (Has : Tree → Type 0) (gs : List (List Part)) (h : TypedStores L.seen L.moves options a b s at Has gs (Ok tt))
-      → StoresValue false (moment_of L.seen a) (moment_of L.seen b) (encoding_by a options) s at Has h.handles done × Moves L.seen L.moves (guest_of a) (guest_of b) done
-  stored_done a b s at Has gs h = subst (λ (e : Ending). StoresValue false (moment_of L.seen a) (moment_of L.seen b) (encoding_by a options) s at Has h.handles e × Moves L.seen L.moves (guest_of a) (guest_of b) e)
+      → StoresValue false (moment_of L.seen a) (moment_of L.seen b) (host_texts (encoding_by a options)) s at Has h.handles done × Moves L.seen L.moves (guest_of a) (guest_of b) done
+  stored_done a b s at Has gs h = subst (λ (e : Ending). StoresValue false (moment_of L.seen a) (moment_of L.seen b) (host_texts (encoding_by a options)) s at Has h.handles e × Moves L.seen L.moves (guest_of a) (guest_of b) e)
       (ends_done gs tt h.ending h.ends) (h.attempt, h.moved)
 
   pub members_nothing : (a : Parts D G) (o at : ℕ) → length a.memory ≤ 2 ^ 32 → TypedMembersStore L.seen L.moves options a a no_members o at NoTrees [] (Ok tt)
@@ -45,7 +46,7 @@ module _ {D G : Type 0} (L : GuestLaws G) (options : ℕ) where
     handles = [];
     ending = done;
     ends = inl refl;
-    attempt = attempt_none false (moment_of L.seen a) (members_span false no_members o at ∷ []) (members_at false (encoding_by a options) no_members o at NoTrees) no_trees small refl (λ ts e. refl) refl (λ pointer rest. refl);
+    attempt = attempt_none false (moment_of L.seen a) (members_span false no_members o at ∷ []) (members_at false (host_texts (encoding_by a options)) no_members o at NoTrees) no_trees small refl (λ ts e. refl) refl (λ pointer rest. refl);
     passed = (refl, refl);
     moved = moves_none L (guest_of a) done;
     same = refl;
@@ -61,8 +62,8 @@ module _ {D G : Type 0} (L : GuestLaws G) (options : ℕ) where
       let enc : Encoding = encoding_by a options in
       let same_enc = handles_encoding a b options h.same in
       let (stored, moved) = stored_done a b s (at + begins false o s) Has gs h in
-      let rest : StoresMembers false (moment_of L.seen b) (moment_of L.seen c) enc ms (ends false o s) at Have k.handles k.ending =
-      subst (λ (z : Encoding). StoresMembers false (moment_of L.seen b) (moment_of L.seen c) z ms (ends false o s) at Have k.handles k.ending) same_enc k.attempt in
+      let rest : StoresMembers false (moment_of L.seen b) (moment_of L.seen c) (host_texts enc) ms (ends false o s) at Have k.handles k.ending =
+      subst (λ (z : Encoding). StoresMembers false (moment_of L.seen b) (moment_of L.seen c) (host_texts z) ms (ends false o s) at Have k.handles k.ending) same_enc k.attempt in
       record {
         handles = h.handles ++ k.handles;
         ending = k.ending;

@@ -7,6 +7,7 @@ use Rattle.canon_lowering.specs.Lowering.{done}
 use Rattle.canon_lowering.specs.Steps.{Writes}
 use Rattle.canon_lowering.specs.Storing.{narrow}
 use Rattle.canon_memory.specs.Realloc.{block}
+use Rattle.canon_model.specs.Homes.{host_texts}
 use Rattle.canon_model.specs.Layout.{scalar_size, size}
 use Rattle.canon_model.specs.Memory.{num}
 use Rattle.canon_model.specs.Rep.{IsLeast, ScalarIs}
@@ -34,10 +35,10 @@ module _ {D G : Type 0} (L : GuestLaws G) (options : ℕ) where
         handles = [];
         ending = done;
         ends = inl refl;
-        attempt = scalar_stored false (L.seen a.guest) a.memory b.memory (encoding_by a options) at Has small k t (omega (arith, room, ap (size false) shape)) written
+        attempt = scalar_stored false (L.seen a.guest) a.memory b.memory (host_texts (encoding_by a options)) at Has small k t (omega (arith, room, ap (size false) shape)) written
             (subst (λ (n : ℕ). ScalarIs k n t) (sym there) low) (subst (λ (n : ℕ). IsLeast k n) (sym there) lowest) has;
         passed = (refl, refl);
-        moved = moves_written L (guest_of a) a.guest a.memory b.memory done put.writes.same_length (moves_none L (guest_of a) done);
+        moved = moves_written L (guest_of a) a.guest a.wide a.memory b.memory done put.writes.same_length (moves_none L (guest_of a) done);
         same = refl;
         quiet = λ none. (refl, tt);
         cause = tt;

@@ -10,6 +10,7 @@ use Rattle.canon_lowering.proofs.Attempts.{attempt_as}
 use Rattle.canon_lowering.specs.Attempt.{LowersValue, value_words}
 use Rattle.canon_lowering.specs.Lowering.{Ending, done, refused}
 use Rattle.canon_leaves.specs.Parts.{Part}
+use Rattle.canon_model.specs.Homes.{host_texts}
 use Rattle.canon_model.specs.Layout.{size}
 use Rattle.canon_model.specs.Shape.{Shape, string}
 use Rattle.canon_model.specs.Text.{Encoding}
@@ -58,10 +59,10 @@ text_large enc s e n is long t (cs, k, same, spelled) = subst (λ (x : Fault). H
 
 module _ {D G : Type 0} (L : GuestLaws G) (options : ℕ) (a b : Parts D G) (s : String Global) where
   -- a text's trees are the string's
-  as_string : (ws : List ℕ) (e : Ending) → LowersValue false (moment_of L.seen a) (moment_of L.seen b) (encoding_by a options) string ws 0 (IsTextOf (string_bytes s)) [] e
-      → LowersValue false (moment_of L.seen a) (moment_of L.seen b) (encoding_by a options) string ws 0 (TextMeans s) [] e
-  as_string ws e h = attempt_as false (moment_of L.seen a) (moment_of L.seen b) [] [] (value_words false (encoding_by a options) string ws 0 (IsTextOf (string_bytes s)))
-      (value_words false (encoding_by a options) string ws 0 (TextMeans s)) e (λ i q. q) (record {
+  as_string : (ws : List ℕ) (e : Ending) → LowersValue false (moment_of L.seen a) (moment_of L.seen b) (host_texts (encoding_by a options)) string ws 0 (IsTextOf (string_bytes s)) [] e
+      → LowersValue false (moment_of L.seen a) (moment_of L.seen b) (host_texts (encoding_by a options)) string ws 0 (TextMeans s) [] e
+  as_string ws e h = attempt_as false (moment_of L.seen a) (moment_of L.seen b) [] [] (value_words false (host_texts (encoding_by a options)) string ws 0 (IsTextOf (string_bytes s)))
+      (value_words false (host_texts (encoding_by a options)) string ws 0 (TextMeans s)) e (λ i q. q) (record {
         turn = λ t. t;
         back = λ t. t;
         is = λ t (cs, n, g, is). (cs, n, is, g);

@@ -9,6 +9,7 @@ use Rattle.canon_lower_parts.specs.Blames.{HasLarge, HaveLarge, IsTooLarge, Some
 use Rattle.canon_lower_parts.specs.Words.{CaseOf}
 use Rattle.canon_lowering.proofs.AimedCases.{CaseIs}
 use Rattle.canon_lowering.specs.Copies.{case_members, copies, payload_trees}
+use Rattle.canon_model.specs.Homes.{host_texts}
 use Rattle.canon_model.specs.Layout.{size}
 use Rattle.canon_model.specs.Shape.{Cases, ListKind, Members, ProductKind, Shape, VariantKind, bare, fixed, list, member, no_cases, no_members, payload, product, string, variant}
 use Rattle.canon_model.specs.Text.{Encoding}
@@ -50,14 +51,14 @@ module _ (enc : Encoding) where
   case_some P (payload name s cs) zero t h = payload_some P s t h
   case_some P (payload name s cs) (suc i) t h = case_some P cs i t h
 
-  some_case : (P : Shape → Tree → Type 0) (cs : Cases) (i d : ℕ) (t : Tree) → CaseIs false enc (case_members cs i) d t → SomeCase P cs i (payload_of t) → SomeMember P (case_members cs i) (payload_trees t)
+  some_case : (P : Shape → Tree → Type 0) (cs : Cases) (i d : ℕ) (t : Tree) → CaseIs false (host_texts enc) (case_members cs i) d t → SomeCase P cs i (payload_of t) → SomeMember P (case_members cs i) (payload_trees t)
   some_case P no_cases i d t is h = absurd h
   some_case P (bare name cs) zero d t is h = absurd h
   some_case P (bare name cs) (suc i) d t is h = some_case P cs i d t is h
   some_case P (payload name s cs) zero d t (u, is) h = subst (λ v. SomeMember P (member [] s no_members) (payload_trees v)) (sym is) (inl (subst (λ v. SomePart P s (payload_of v)) is h))
   some_case P (payload name s cs) (suc i) d t is h = some_case P cs i d t is h
 
-  pub variant_large : (k : VariantKind) (cs : Cases) (d : ℕ) (Have : Trees → Type 0) (Has : Tree → Type 0) → ((t : Tree) → Has t → (case_number t ≡ d) × Have (payload_trees t) × CaseIs false enc (case_members cs d) d t)
+  pub variant_large : (k : VariantKind) (cs : Cases) (d : ℕ) (Have : Trees → Type 0) (Has : Tree → Type 0) → ((t : Tree) → Has t → (case_number t ≡ d) × Have (payload_trees t) × CaseIs false (host_texts enc) (case_members cs d) d t)
       → AsLarge Have Has (HaveLarge enc (case_members cs d)) (HasLarge enc (variant k cs))
   variant_large k cs d Have Has from t has =
       let (number, have, is) = from t has in (
@@ -80,11 +81,11 @@ module _ (enc : Encoding) where
 
       down : (e : Fault) → HasLarge enc (variant k cs) e t → HasLarge enc u e v
       down e some = only e (subst (λ (ms : Members). SomeMember (IsTooLarge enc e) ms (tree v no_trees)) one
-          (some_case (IsTooLarge enc e) cs d d (case_of d v) (subst (λ (ms : Members). CaseIs false enc ms d (case_of d v)) (sym one) (v, refl)) (subst (λ w. HasLarge enc (variant k cs) e w) is some)))
+          (some_case (IsTooLarge enc e) cs d d (case_of d v) (subst (λ (ms : Members). CaseIs false (host_texts enc) ms d (case_of d v)) (sym one) (v, refl)) (subst (λ w. HasLarge enc (variant k cs) e w) is some)))
 
   pub bare_small : (k : VariantKind) (cs : Cases) (d : ℕ) → case_members cs d ≡ no_members → IsSmall (λ t. t ≡ case d) (HasLarge enc (variant k cs))
   bare_small k cs d none t is e some = subst (λ (ms : Members). SomeMember (IsTooLarge enc e) ms no_trees) none
-      (some_case (IsTooLarge enc e) cs d d (case d) (subst (λ (ms : Members). CaseIs false enc ms d (case d)) (sym none) refl) (subst (λ w. HasLarge enc (variant k cs) e w) is some))
+      (some_case (IsTooLarge enc e) cs d d (case d) (subst (λ (ms : Members). CaseIs false (host_texts enc) ms d (case d)) (sym none) refl) (subst (λ w. HasLarge enc (variant k cs) e w) is some))
 
   -- ---- blocks, and what has none
 

@@ -12,6 +12,7 @@ use Rattle.canon_lower_parts.specs.declared.blocks.Placed.{Placed}
 use Rattle.canon_lowering.proofs.AimedWords.{words_moved}
 use Rattle.canon_lowering.proofs.Attempts.{attempt_other}
 use Rattle.canon_lowering.specs.Attempt.{value_words}
+use Rattle.canon_model.specs.Homes.{host_texts}
 use Rattle.canon_model.specs.Fits.{Fits}
 use Rattle.canon_model.specs.Flat.{SameWords}
 use Rattle.canon_model.specs.Layout.{flat}
@@ -38,7 +39,7 @@ module _ {D G : Type 0} (L : GuestLaws G) (options : ℕ) (a b : Parts D G) (s :
     handles = h.placed.handles;
     ending = h.placed.ending;
     ends = h.placed.ends;
-    attempt = words_moved false (moment_of L.seen a) (moment_of L.seen b) (encoding_by a options) s (x.pointer ∷ x.length ∷ []) ws 0 0 Has h.placed.ending fits
+    attempt = words_moved false (moment_of L.seen a) (moment_of L.seen b) (host_texts (encoding_by a options)) s (x.pointer ∷ x.length ∷ []) ws 0 0 Has h.placed.ending fits
         (subst (λ (n : ℕ). SameWords (x.pointer ∷ x.length ∷ []) 0 ws 0 n) (sym two) there) h.placed.attempt;
     passed = h.placed.passed;
     moved = h.placed.moved;
@@ -54,7 +55,7 @@ module _ {D G : Type 0} (L : GuestLaws G) (options : ℕ) (a b : Parts D G) (s :
     handles = h.placed.handles;
     ending = h.placed.ending;
     ends = h.placed.ends;
-    attempt = attempt_other false (moment_of L.seen a) (moment_of L.seen b) [] _ (value_words false (encoding_by a options) s ws 0 Has) h.placed.ending (ends_early gs e h.placed.ending h.placed.ends) (λ t has. (has, refl)) h.placed.attempt;
+    attempt = attempt_other false (moment_of L.seen a) (moment_of L.seen b) [] _ (value_words false (host_texts (encoding_by a options)) s ws 0 Has) h.placed.ending (ends_early gs e h.placed.ending h.placed.ends) (λ t has. (has, refl)) h.placed.attempt;
     passed = h.placed.passed;
     moved = h.placed.moved;
     same = h.placed.same;

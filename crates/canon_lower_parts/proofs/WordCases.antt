@@ -19,10 +19,11 @@ use Rattle.canon_lowering.proofs.Attempts.{FirstAnd, attempt_as, attempt_none}
 use Rattle.canon_lowering.specs.Attempt.{handle_numbers, LowersMembers, LowersValue, members_words, value_words}
 use Rattle.canon_lowering.specs.Copies.{case_members, case_tree, payload_trees}
 use Rattle.canon_lowering.specs.Lowering.{Ending, done}
+use Rattle.canon_model.specs.Homes.{host_texts}
 use Rattle.canon_model.specs.Flat.{AreZero}
 use Rattle.canon_model.specs.Layout.{cases_flat, flat, members_flat, payload_shape}
 use Rattle.canon_model.specs.Leaves.{leaves}
-use Rattle.canon_model.specs.Requests.{members_requests, requests}
+use Rattle.canon_model.specs.Requests.{host_asks, members_requests, requests}
 use Rattle.canon_model.specs.Shape.{Cases, Members, Shape, VariantKind, bare, case_count, member, no_cases, no_members, payload, variant}
 use Rattle.canon_model.specs.Text.{Encoding}
 use Rattle.canon_model.specs.Tree.{Tree, Trees, case, case_number, no_trees, tree, tree_at}
@@ -55,14 +56,14 @@ variant_flat k cs = refl
 
 -- ---- attempts
 
-only_asks : (enc : Encoding) (u : Shape) (ts : Trees) (t : Tree) → ts ≡ tree t no_trees → members_requests false enc (only u) ts ≡ requests false enc u (tree_at ts 0)
+only_asks : (enc : Encoding) (u : Shape) (ts : Trees) (t : Tree) → ts ≡ tree t no_trees → members_requests false (host_asks enc) (only u) ts ≡ requests false (host_asks enc) u (tree_at ts 0)
 unfolding requests
-only_asks enc u ts t e = subst (λ (zs : Trees). members_requests false enc (only u) zs ≡ requests false enc u (tree_at zs 0)) (sym e) (append-nil (requests false enc u t))
+only_asks enc u ts t e = subst (λ (zs : Trees). members_requests false (host_asks enc) (only u) zs ≡ requests false (host_asks enc) u (tree_at zs 0)) (sym e) (append-nil (requests false (host_asks enc) u t))
 
 -- a value as the only member
-only_member : {hs : List ℕ} (a c : Moment) (enc : Encoding) (u : Shape) (ws : List ℕ) (i : ℕ) (Has : Tree → Type 0) (e : Ending) → LowersValue false a c enc u ws i Has hs e → LowersMembers false a c enc (only u) ws i (FirstAnd Has NoTrees) hs e
+only_member : {hs : List ℕ} (a c : Moment) (enc : Encoding) (u : Shape) (ws : List ℕ) (i : ℕ) (Has : Tree → Type 0) (e : Ending) → LowersValue false a c (host_texts enc) u ws i Has hs e → LowersMembers false a c (host_texts enc) (only u) ws i (FirstAnd Has NoTrees) hs e
 unfolding requests leaves flat
-only_member a c enc u ws i Has e h = attempt_as false a c [] [] _ (members_words false enc (only u) ws i (FirstAnd Has NoTrees)) e (λ j q. q) (record {
+only_member a c enc u ws i Has e h = attempt_as false a c [] [] _ (members_words false (host_texts enc) (only u) ws i (FirstAnd Has NoTrees)) e (λ j q. q) (record {
   turn = λ t. tree t no_trees;
   back = λ ts. tree_at ts 0;
   is = λ t has. (t, no_trees, refl, has, refl);
@@ -81,32 +82,32 @@ module _ {D G : Type 0} (L : GuestLaws G) (options : ℕ) (a c : Parts D G) (s :
   pub bare_lowers : (ws : List ℕ) → length a.memory ≤ 2 ^ 32 → case_members cs d ≡ no_members → length ws ≡ flat s → IsCaseWords d 1 ws → TypedLowers L.seen L.moves options a a s ws 0 (λ t. t ≡ case d) [] (Ok tt)
   unfolding flat requests leaves
   bare_lowers ws small none room (tag, zeros) =
-      let members : LowersMembers false (moment_of L.seen a) (moment_of L.seen a) enc (case_members cs d) ws 1 NoTrees [] done =
-      subst (λ (ms : Members). LowersMembers false (moment_of L.seen a) (moment_of L.seen a) enc ms ws 1 NoTrees [] done) (sym none)
-      (attempt_none false (moment_of L.seen a) [] (members_words false enc no_members ws 1 NoTrees) no_trees small refl (λ ts h. refl) refl (λ pointer rest. refl)) in
+      let members : LowersMembers false (moment_of L.seen a) (moment_of L.seen a) (host_texts enc) (case_members cs d) ws 1 NoTrees [] done =
+      subst (λ (ms : Members). LowersMembers false (moment_of L.seen a) (moment_of L.seen a) (host_texts enc) ms ws 1 NoTrees [] done) (sym none)
+      (attempt_none false (moment_of L.seen a) [] (members_words false (host_texts enc) no_members ws 1 NoTrees) no_trees small refl (λ ts h. refl) refl (λ pointer rest. refl)) in
       subst (λ (z : Shape). TypedLowers L.seen L.moves options a a z ws 0 (λ t. t ≡ case d) [] (Ok tt)) (sym shape)
-      (typed_none L a [] (value_words false enc (variant k cs) ws 0 (λ t. t ≡ case d)) (has_block (variant k cs)) (HasLarge enc (variant k cs))
-      (variant_words false (moment_of L.seen a) (moment_of L.seen a) enc k cs ws 0 d NoTrees (λ t. t ≡ case d) done inside tag few
+      (typed_none L a [] (value_words false (host_texts enc) (variant k cs) ws 0 (λ t. t ≡ case d)) (has_block (variant k cs)) (HasLarge enc (variant k cs))
+      (variant_words false (moment_of L.seen a) (moment_of L.seen a) (host_texts enc) k cs ws 0 d NoTrees (λ t. t ≡ case d) done inside tag few
       (λ j l u. zeros j (omega (arith, l)) (omega (arith, u, room, ap flat shape)))
-      (λ ts h. (ap (λ us. case_tree d us) h, subst (λ ms. CaseIs false enc ms d (case_tree d ts)) (sym none) (ap (λ us. case_tree d us) h)))
-      (λ t e. (ap case_number e, ap payload_trees e, subst (λ ms. CaseIs false enc ms d t) (sym none) e)) members)
+      (λ ts h. (ap (λ us. case_tree d us) h, subst (λ ms. CaseIs false (host_texts enc) ms d (case_tree d ts)) (sym none) (ap (λ us. case_tree d us) h)))
+      (λ t e. (ap case_number e, ap payload_trees e, subst (λ ms. CaseIs false (host_texts enc) ms d t) (sym none) e)) members)
       (bare_small enc k cs d none))
 
   -- with one
   module _ (u : Shape) (Has : Tree → Type 0) (gives : List (List Part)) (one : case_members cs d ≡ only u) where
-    with_payload : {hs : List ℕ} (ws : List ℕ) (e : Ending) → slice_index ws 0 ≡ d → AreZero ws (1 + flat u) (1 + cases_flat cs) → LowersValue false (moment_of L.seen a) (moment_of L.seen c) enc u ws 1 Has hs e
-        → LowersValue false (moment_of L.seen a) (moment_of L.seen c) enc (variant k cs) ws 0 (CaseOf d Has) hs e
+    with_payload : {hs : List ℕ} (ws : List ℕ) (e : Ending) → slice_index ws 0 ≡ d → AreZero ws (1 + flat u) (1 + cases_flat cs) → LowersValue false (moment_of L.seen a) (moment_of L.seen c) (host_texts enc) u ws 1 Has hs e
+        → LowersValue false (moment_of L.seen a) (moment_of L.seen c) (host_texts enc) (variant k cs) ws 0 (CaseOf d Has) hs e
     unfolding flat
-    with_payload {hs = hs} ws e tag zeros h = variant_words false (moment_of L.seen a) (moment_of L.seen c) enc k cs ws 0 d (FirstAnd Has NoTrees) (CaseOf d Has) e inside tag few
+    with_payload {hs = hs} ws e tag zeros h = variant_words false (moment_of L.seen a) (moment_of L.seen c) (host_texts enc) k cs ws 0 d (FirstAnd Has NoTrees) (CaseOf d Has) e inside tag few
         (subst (λ (ms : Members). AreZero ws (1 + members_flat ms) (1 + cases_flat cs)) (sym one) (λ j l v. zeros j (omega (arith, l)) v))
         (λ ts (t, us, e2, has, none). let is : ts ≡ tree t no_trees = e2 ∙ ap (λ (zs : Trees). tree t zs) none in
-        ((t, ap (λ (zs : Trees). case_tree d zs) is, has), subst (λ (ms : Members). CaseIs false enc ms d (case_tree d ts)) (sym one) (t, ap (λ (zs : Trees). case_tree d zs) is)))
-        (λ t (v, e2, has). (ap case_number e2, (v, no_trees, ap payload_trees e2, has, refl), subst (λ (ms : Members). CaseIs false enc ms d t) (sym one) (v, e2)))
-        (subst (λ (ms : Members). LowersMembers false (moment_of L.seen a) (moment_of L.seen c) enc ms ws 1 (FirstAnd Has NoTrees) hs e) (sym one) (only_member (moment_of L.seen a) (moment_of L.seen c) enc u ws 1 Has e h))
+        ((t, ap (λ (zs : Trees). case_tree d zs) is, has), subst (λ (ms : Members). CaseIs false (host_texts enc) ms d (case_tree d ts)) (sym one) (t, ap (λ (zs : Trees). case_tree d zs) is)))
+        (λ t (v, e2, has). (ap case_number e2, (v, no_trees, ap payload_trees e2, has, refl), subst (λ (ms : Members). CaseIs false (host_texts enc) ms d t) (sym one) (v, e2)))
+        (subst (λ (ms : Members). LowersMembers false (moment_of L.seen a) (moment_of L.seen c) (host_texts enc) ms ws 1 (FirstAnd Has NoTrees) hs e) (sym one) (only_member (moment_of L.seen a) (moment_of L.seen c) enc u ws 1 Has e h))
 
     whole : (ws : List ℕ) (r : Result (Unit {0}) Fault) → slice_index ws 0 ≡ d → AreZero ws (1 + flat u) (1 + cases_flat cs) → TypedLowers L.seen L.moves options a c u ws 1 Has gives r
         → TypedLowers L.seen L.moves options a c (variant k cs) ws 0 (CaseOf d Has) gives r
-    whole ws r tag zeros h = typed_map L a c [] [] (value_words false enc u ws 1 Has) (value_words false enc (variant k cs) ws 0 (CaseOf d Has)) gives (has_block u) (has_block (variant k cs)) (Kept a c)
+    whole ws r tag zeros h = typed_map L a c [] [] (value_words false (host_texts enc) u ws 1 Has) (value_words false (host_texts enc) (variant k cs) ws 0 (CaseOf d Has)) gives (has_block u) (has_block (variant k cs)) (Kept a c)
         (HasLarge enc u) (HasLarge enc (variant k cs)) r (λ hs e g. with_payload ws e tag zeros g) (case_quiet cs d u one)
         (case_large enc k cs d u Has one) h
 
@@ -117,9 +118,9 @@ module _ {D G : Type 0} (L : GuestLaws G) (options : ℕ) (a c : Parts D G) (s :
     case_lowers ws (Err e) room h none =
         let zeros : AreZero (d ∷ []) (1 + flat u) (1 + cases_flat cs) = λ j l v. omega (arith, get_or_past (d ∷ []) j 0 (omega (arith, l))) in
         let there : TypedLowers L.seen L.moves options a c u (d ∷ []) 1 Has gives (Err e) =
-        typed_other L a c [] (value_words false enc u ws 1 Has) (value_words false enc u (d ∷ []) 1 Has) gives (has_block u) (Kept a c) (HasLarge enc u) e (λ t has. (has, refl)) h in
+        typed_other L a c [] (value_words false (host_texts enc) u ws 1 Has) (value_words false (host_texts enc) u (d ∷ []) 1 Has) gives (has_block u) (Kept a c) (HasLarge enc u) e (λ t has. (has, refl)) h in
         subst (λ (z : Shape). TypedLowers L.seen L.moves options a c z ws 0 (CaseOf d Has) gives (Err e)) (sym shape)
-        (typed_other L a c [] (value_words false enc (variant k cs) (d ∷ []) 0 (CaseOf d Has)) (value_words false enc (variant k cs) ws 0 (CaseOf d Has)) gives (has_block (variant k cs)) (Kept a c) (HasLarge enc (variant k cs)) e
+        (typed_other L a c [] (value_words false (host_texts enc) (variant k cs) (d ∷ []) 0 (CaseOf d Has)) (value_words false (host_texts enc) (variant k cs) ws 0 (CaseOf d Has)) gives (has_block (variant k cs)) (Kept a c) (HasLarge enc (variant k cs)) e
         (λ t has. (has, refl)) (whole (d ∷ []) (Err e) refl zeros there))
 
 -- ---- by the types' cases

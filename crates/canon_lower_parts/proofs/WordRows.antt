@@ -19,6 +19,7 @@ use Rattle.canon_lowering.specs.Attempt.{members_words, value_words}
 use Rattle.canon_lowering.specs.Copies.{copies}
 use Rattle.canon_memory.specs.Guest.{GuestIn, Seen}
 use Rattle.canon_memory.specs.declared.event.Event.{Event}
+use Rattle.canon_model.specs.Homes.{host_texts}
 use Rattle.canon_model.specs.Fits.{Fits}
 use Rattle.canon_model.specs.Layout.{flat, members_flat}
 use Rattle.canon_model.specs.Shape.{Shape, fixed}
@@ -95,9 +96,9 @@ fixed_lowers L options a c s u n Walks xs ws gs r shape count h =
     let enc : Encoding = encoding_by a options in
     let here : TypedMembersLower L.seen L.moves options a c (copies n u) ws 0 (EachMeans Walks xs) gs r = subst (λ (k : ℕ). TypedMembersLower L.seen L.moves options a c (copies k u) ws 0 (EachMeans Walks xs) gs r) count h in
     subst (λ (z : Shape). TypedLowers L.seen L.moves options a c z ws 0 (RowMeans Walks xs) gs r) (sym shape)
-    (typed_map L a c [] [] (members_words false enc (copies n u) ws 0 (EachMeans Walks xs)) (value_words false enc (fixed n u) ws 0 (RowMeans Walks xs)) gs (have_block (copies n u)) (has_block (fixed n u)) (Kept a c)
+    (typed_map L a c [] [] (members_words false (host_texts enc) (copies n u) ws 0 (EachMeans Walks xs)) (value_words false (host_texts enc) (fixed n u) ws 0 (RowMeans Walks xs)) gs (have_block (copies n u)) (has_block (fixed n u)) (Kept a c)
     (HaveLarge enc (copies n u)) (HasLarge enc (fixed n u)) r
-    (λ hs e m. fixed_words false (moment_of L.seen a) (moment_of L.seen c) enc n u ws 0 (EachMeans Walks xs) (RowMeans Walks xs) e
+    (λ hs e m. fixed_words false (moment_of L.seen a) (moment_of L.seen c) (host_texts enc) n u ws 0 (EachMeans Walks xs) (RowMeans Walks xs) e
     (λ ts each. ((ts, refl, each), each_count Walks xs ts each ∙ count)) (row_trees Walks xs) m)
     (copies_quiet n u) (fixed_large enc n u Walks xs count) here)
 

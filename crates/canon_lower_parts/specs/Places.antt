@@ -9,6 +9,7 @@ use Rattle.canon_lowering.specs.Attempt.{items_call, value_words}
 use Rattle.canon_lowering.specs.Storing.{IsPair}
 use Rattle.canon_memory.specs.Guest.{GuestIn, Seen}
 use Rattle.canon_memory.specs.declared.event.Event.{Event}
+use Rattle.canon_model.specs.Homes.{host_texts}
 use Rattle.canon_model.specs.Layout.{size}
 use Rattle.canon_model.specs.Shape.{Shape}
 use Rattle.canon_model.specs.Tree.{Tree}
@@ -30,7 +31,7 @@ module _ {D G : Type 0} (seen : G → Seen) (moves : GuestIn G → List Event �
   module _ (options : ℕ) (before after : Parts D G) where
     -- a text or a list of the shape s, in a block of its own
     pub record TypedPlaces (s : Shape) (Has : Tree → Type 0) (gives : List (List Part)) (result : Result Placed Fault) : Type 0 where
-      pub placed : TypedAttempt seen moves before after [] (value_words false (encoding_by before options) s (block_words result) 0 Has) gives true ⊤ (HasLarge (encoding_by before options) s) (without_value result)
+      pub placed : TypedAttempt seen moves before after [] (value_words false (host_texts (encoding_by before options)) s (block_words result) 0 Has) gives true ⊤ (HasLarge (encoding_by before options) s) (without_value result)
       pub narrow : IfOk result (λ b. (b.pointer < 2 ^ 32) × (b.length < 2 ^ 32))
 
   module _ (before after : Parts D G) (s : Shape) (n : ℕ) where

@@ -5,6 +5,7 @@ use Rattle.std.specs.Vec.{with_items}
 use Rattle.std.specs.declared.alloc.Global.{Global}
 use Rattle.std.proofs.lemmas.List.{length-map, with_items_is}
 use Rattle.std.proofs.lemmas.Option.{none-some}
+use Rattle.canon_lowering.specs.Storing.{narrow}
 use Rattle.canon_func.proofs.Legs.{asks_so, legs_as, legs_so}
 use Rattle.canon_func.specs.Asks.{Limits}
 use Rattle.canon_host.specs.HostSide.{Giving, HostSide, host_side}
@@ -162,16 +163,16 @@ module _ {R : Type 0} (args : Arguments) (its : ReturnedValues R) (Told : R → 
   loaded = with_plan s (plan s.core.guest.guest.plan.allocator)
 
   abbrev starts : GuestIn Plan
-  starts = guest_in (plan s.core.guest.guest.plan.allocator) s.core.memory
+  starts = guest_in (plan s.core.guest.guest.plan.allocator) (narrow s.core.memory)
 
   abbrev ends : GuestIn Plan
-  ends = guest_in left.core.guest.guest.plan left.core.memory
+  ends = guest_in left.core.guest.guest.plan (narrow left.core.memory)
 
   -- the guest acted by its plan from ask to ask
   lives_by : (legs : List Leg) (es : List Event) → EnteredLives loaded left called legs es → LivesBy starts ends legs es
   lives_by legs es h =
       legs_as StoreMoves ActsBy (λ j. (journaled j.guest).live) (λ g. g.guest.allocator.live) (λ j rest. OnAnswered called (StoreMoves j rest (guest_of left.core))) (λ g rest. ActsBy g rest ends)
-      (λ j. record { guest = j.guest.guest.plan; len = j.len }) (λ j xs k moved. (moved.moves.new_marks, moved.moves.does)) (λ j. refl)
+      (λ j. record { guest = j.guest.guest.plan; len = j.len; wide = false }) (λ j xs k moved. (moved.moves.new_marks, moved.moves.does)) (λ j. refl)
       (λ j xs moved. let did : StoreMoves j xs (guest_of left.core) = on_answered called _ short moved in (did.moves.new_marks, did.moves.does)) (guest_of loaded.core) legs es h
 
   -- the call, by the events before it, those that are printed after it, and the events that it added

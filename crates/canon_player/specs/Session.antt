@@ -1,5 +1,6 @@
 -- What a script, played, leaves: one record for each item, in order, and the store between them.
 use Rattle.std.specs.Prelude.{Bool, Err, List, None, Ok, Option, Result, Some, [], false, is_err, length, map, nat_lt, not, replicate, slice_get, true, ℕ, ⊤, ◌⊎◌, ◌++◌, ◌∷◌, ◌≡◌, ◌≢◌, ◌||◌}
+use Rattle.canon_lowering.specs.Storing.{narrow}
 use Rattle.canon_model.specs.Shape.{no_members}
 use Rattle.canon_indices.specs.Options.{encoding_of}
 use Rattle.canon_types.specs.Instance.{Instance}
@@ -215,7 +216,7 @@ pub record WasCalled {R : Type 0} (args : Arguments) (its : ReturnedValues R) (T
   pub ended : Result R Error
   pub told : Tells Told ended r.answer
   pub left : Plan
-  pub called : IsCallOf args its (LivesBy (guest_in (plan before.allocator) before.memory) (guest_in left after.memory)) LeavesSame (GivesAnswers answers) callee limits (moment_with_events before []) (moment_with_events after r.events) (host_side_of before) (host_side_of after) ended r.events
+  pub called : IsCallOf args its (LivesBy (guest_in (plan before.allocator) (narrow before.memory)) (guest_in left (narrow after.memory))) LeavesSame (GivesAnswers answers) callee limits (moment_with_events before []) (moment_with_events after r.events) (host_side_of before) (host_side_of after) ended r.events
   pub served : Logs before.log after.log r.served.items
   pub new_marks : List Mark
   pub does : CarriesOut (plan before.allocator) (length before.memory) r.events new_marks left (length after.memory)

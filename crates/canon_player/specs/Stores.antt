@@ -87,6 +87,7 @@ fresh_store memory heap fuel turns handles component imports = record {
       shortages = 0;
     };
     memory = replicate memory 0;
+    wide = false;
     component = component;
     ledger = new_ledger 256 handles 0;
     fuel = fuel;

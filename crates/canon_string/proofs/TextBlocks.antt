@@ -14,13 +14,14 @@ use Rattle.canon_memory.specs.Guest.{Moment}
 use Rattle.canon_memory.specs.Memory.{written_over}
 use Rattle.canon_memory.specs.Realloc.{block, call}
 use Rattle.canon_model.proofs.Texts.{spells_same}
+use Rattle.canon_model.specs.Homes.{host_texts}
 use Rattle.canon_model.specs.Memory.{bytes_at}
-use Rattle.canon_model.specs.Requests.{Call, Request, anew, resized, shrunk, text_requests}
+use Rattle.canon_model.specs.Requests.{Call, Request, anew, resized_at, shrunk_at, text_requests}
 use Rattle.canon_model.specs.Shape.{string}
-use Rattle.canon_model.specs.Text.{Encoding, IsLeastTag, Spells, in_utf8, text_align, text_bytes, text_form}
+use Rattle.canon_model.specs.Text.{Encoding, IsLeastTag, Spells, in_utf8, text_align, text_bytes, text_form, most_bytes}
 use Rattle.canon_model.specs.Tree.{Tree, scalars_of}
 use Rattle.canon_context.specs.Core.{Parts, encoding_by, guest_of, moment_of}
-use Rattle.canon_string.specs.Limits.{IsTooLong, most_bytes}
+use Rattle.canon_string.specs.Limits.{IsTooLong}
 use Rattle.canon_string.specs.Texts.{FitsTo, IsTextOf, PutsText}
 use Rattle.canon_context.specs.Lowers.{fault_ending}
 use Rattle.canon_context.specs.Moves.{Moves}
@@ -44,11 +45,11 @@ source_scalars : (source cs : List ℕ) → Spells in_utf8 source cs → (t : Tr
 source_scalars source cs h t (ds, n, g, is) = ap scalars_of is ∙ spells_same in_utf8 source ds cs g h
 
 -- what is given back, by whether there is anything
-shrunk_some : (k n : ℕ) → n < k → shrunk k n ≡ resized k n ∷ []
-shrunk_some k n l = cond-true (nat_lt n k) (resized k n ∷ []) [] (lt-ltb n k l)
+shrunk_some : (al k n : ℕ) → n < k → shrunk_at al k n ≡ resized_at al k n ∷ []
+shrunk_some al k n l = cond-true (nat_lt n k) (resized_at al k n ∷ []) [] (lt-ltb n k l)
 
-shrunk_none : (k n : ℕ) → k ≤ n → shrunk k n ≡ []
-shrunk_none k n l = cond-false (nat_lt n k) (resized k n ∷ []) [] (le-ltb n k l)
+shrunk_none : (al k n : ℕ) → k ≤ n → shrunk_at al k n ≡ []
+shrunk_none al k n l = cond-false (nat_lt n k) (resized_at al k n ∷ []) [] (le-ltb n k l)
 
 abbrev told : ℕ → Result ℕ Fault
 told p = Ok p
@@ -85,17 +86,17 @@ module _ {T G : Type 0} (L : GuestLaws G) (options : ℕ) where
   begun_written a b al rs p k old bytes m h w fits begins =
       subst (λ (xs : List ℕ). Begun a (record b { memory = xs }) al rs p k bytes) (sym (written_whole b.memory m w.same_length)) (record {
         text = text_write (moment_of L.seen a) (L.seen b.guest) b.memory m rs p k old bytes h.text w fits begins;
-        moved = moves_written L (guest_of a) b.guest b.memory m done w.same_length h.moved;
+        moved = moves_written L (guest_of a) b.guest b.wide b.memory m done w.same_length h.moved;
         same = ap (λ (x : Parts T G). record x { memory = m }) h.same;
         small = omega (arith, h.small, w.same_length);
         aligned = h.aligned;
         narrow = h.narrow;
       })
 
-  pub begun_again : (a b c : Parts T G) (al : ℕ) (rs : List Request) (p k n q : ℕ) (bytes : List ℕ) → Begun a b al rs p k bytes → AsksFor L.seen L.moves b c (call p k 2 n) (Ok q) → length bytes ≤ n
-      → Begun a c 2 (rs ++ resized k n ∷ []) q n bytes
+  pub begun_again : (a b c : Parts T G) (al : ℕ) (rs : List Request) (p k n q : ℕ) (bytes : List ℕ) → Begun a b al rs p k bytes → AsksFor L.seen L.moves b c (call p k al n) (Ok q) → length bytes ≤ n
+      → Begun a c al (rs ++ resized_at al k n ∷ []) q n bytes
   begun_again a b c al rs p k n q bytes h g fits = record {
-    text = text_resize (moment_of L.seen a) (moment_of L.seen b) (moment_of L.seen c) rs p k n q bytes g.small h.text g.does fits;
+    text = text_resize (moment_of L.seen a) (moment_of L.seen b) (moment_of L.seen c) al rs p k n q bytes g.small h.text g.does fits;
     moved = moves_then L (guest_of a) (guest_of b) (guest_of c) done _ _ h.text.lowering.goes.events g.does.answered.goes.events h.moved g.moved;
     same = same_then a b c h.same g.same;
     small = g.small;
@@ -104,13 +105,13 @@ module _ {T G : Type 0} (L : GuestLaws G) (options : ℕ) where
   }
 
   -- what isn't needed is given back
-  pub begun_fitted : (a b c : Parts T G) (rs : List Request) (p k n q : ℕ) (bytes : List ℕ) → Begun a b 2 rs p k bytes → n ≡ length bytes → FitsTo L.seen L.moves b c p k n (Ok q) → Begun a c 2 (rs ++ shrunk k n) q n bytes
-  begun_fitted a b c rs p k n q bytes h is (inl (less, g)) =
-      subst (λ (qs : List Request). Begun a c 2 (rs ++ qs) q n bytes) (sym (shrunk_some k n less)) (begun_again a b c 2 rs p k n q bytes h g (omega (arith, is)))
-  begun_fitted a b c rs p k n q bytes h is (inr (all, same, at)) =
+  pub begun_fitted : (a b c : Parts T G) (al : ℕ) (rs : List Request) (p k n q : ℕ) (bytes : List ℕ) → Begun a b al rs p k bytes → n ≡ length bytes → FitsTo L.seen L.moves b c al p k n (Ok q) → Begun a c al (rs ++ shrunk_at al k n) q n bytes
+  begun_fitted a b c al rs p k n q bytes h is (inl (less, g)) =
+      subst (λ (qs : List Request). Begun a c al (rs ++ qs) q n bytes) (sym (shrunk_some al k n less)) (begun_again a b c al rs p k n q bytes h g (omega (arith, is)))
+  begun_fitted a b c al rs p k n q bytes h is (inr (all, same, at)) =
       let whole : k ≡ n = omega (arith, is, all, h.text.fits) in
-      subst (λ (qs : List Request). Begun a c 2 qs q n bytes) (sym (ap (λ (qs : List Request). rs ++ qs) (shrunk_none k n all) ∙ append-nil rs))
-      (subst (λ (x : Parts T G). Begun a x 2 rs q n bytes) (sym same) (subst (λ (x : ℕ). Begun a b 2 rs x n bytes) (sym (ok_same p q at)) (subst (λ (x : ℕ). Begun a b 2 rs p x bytes) whole h)))
+      subst (λ (qs : List Request). Begun a c al qs q n bytes) (sym (ap (λ (qs : List Request). rs ++ qs) (shrunk_none al k n all) ∙ append-nil rs))
+      (subst (λ (x : Parts T G). Begun a x al rs q n bytes) (sym same) (subst (λ (x : ℕ). Begun a b al rs x n bytes) (sym (ok_same p q at)) (subst (λ (x : ℕ). Begun a b al rs p x bytes) whole h)))
 
   -- ---- how it ends, for the text `source` of these scalar values
 
@@ -125,9 +126,9 @@ module _ {T G : Type 0} (L : GuestLaws G) (options : ℕ) where
         → text_align enc ≡ al → length bytes ≡ text_bytes enc n → Spells (text_form enc n) bytes cs
         → IsLeastTag enc n cs → text_requests enc cs ≡ rs → PutsText L.seen L.moves options a b source (Ok (record { pointer = p; length = n }))
     text_stands b al rs p k n bytes short h few to len spelled least asks = record {
-      lowered = under (λ (x : Encoding). LowersValue false (moment_of L.seen a) (moment_of L.seen b) x string (p ∷ n ∷ []) 0 (IsTextOf source) [] done)
-          (text_end false (moment_of L.seen a) (moment_of L.seen b) enc rs p k n cs bytes (IsTextOf source) h.text h.narrow few (subst (λ (x : ℕ). p % x ≡ 0) (sym to) h.aligned) len spelled least
-          (cs, text_bytes enc n, spells, refl) asks (source_scalars source cs spells));
+      lowered = under (λ (x : Encoding). LowersValue false (moment_of L.seen a) (moment_of L.seen b) (host_texts x) string (p ∷ n ∷ []) 0 (IsTextOf source) [] done)
+          (text_end false (moment_of L.seen a) (moment_of L.seen b) (host_texts enc) rs p k n cs bytes (IsTextOf source) h.text h.narrow few (subst (λ (x : ℕ). p % x ≡ 0) (sym to) h.aligned) len spelled least
+          (cs, text_bytes enc n, spells, refl) (record { bytes = bytes; spelled = spelled; count = len; is = refl; least = least }) (asks_of rs asks));
       narrow = (h.narrow, few);
       fits = under (λ (x : Encoding). (j : ℕ) → ¬ IsTooLong x source j) (not_too_long enc source cs spells short);
       blames = tt;
@@ -137,8 +138,8 @@ module _ {T G : Type 0} (L : GuestLaws G) (options : ℕ) where
 
     pub text_unasked : (b : Parts T G) (al k : ℕ) (more : List Request) (e : Fault) → text_requests enc cs ≡ anew al k ∷ more → AsksFor L.seen L.moves a b (call 0 0 al k) (Err e) → PutsText L.seen L.moves options a b source (Err e)
     text_unasked b al k more e asks h = record {
-      lowered = under (λ (x : Encoding). LowersValue false (moment_of L.seen a) (moment_of L.seen b) x string [] 0 (IsTextOf source) [] (fault_ending e))
-          (text_begin_stop false (moment_of L.seen a) (moment_of L.seen b) enc al k (IsTextOf source) [] 0 (fault_ending e) 0 (not_done e) h.small (λ t has. (more, asks_of (anew al k ∷ more) asks t has)) h.does);
+      lowered = under (λ (x : Encoding). LowersValue false (moment_of L.seen a) (moment_of L.seen b) (host_texts x) string [] 0 (IsTextOf source) [] (fault_ending e))
+          (text_begin_stop false (moment_of L.seen a) (moment_of L.seen b) (host_texts enc) al k (IsTextOf source) [] 0 (fault_ending e) 0 (not_done e) h.small (λ t has. (more, asks_of (anew al k ∷ more) asks t has)) h.does);
       narrow = tt;
       fits = tt;
       blames = λ is. absurd (never_refused (moment_of L.seen a) (moment_of L.seen b) (call 0 0 al k) (fault_ending e) 0 is h.does);
@@ -146,25 +147,25 @@ module _ {T G : Type 0} (L : GuestLaws G) (options : ℕ) where
       same = h.same;
     }
 
-    pub text_ungrown : (b c : Parts T G) (al : ℕ) (rs : List Request) (p k n : ℕ) (bytes : List ℕ) (more : List Request) (e : Fault) → Begun a b al rs p k bytes → text_requests enc cs ≡ rs ++ resized k n ∷ more
-        → AsksFor L.seen L.moves b c (call p k 2 n) (Err e) → PutsText L.seen L.moves options a c source (Err e)
+    pub text_ungrown : (b c : Parts T G) (al : ℕ) (rs : List Request) (p k n : ℕ) (bytes : List ℕ) (more : List Request) (e : Fault) → Begun a b al rs p k bytes → text_requests enc cs ≡ rs ++ resized_at al k n ∷ more
+        → AsksFor L.seen L.moves b c (call p k al n) (Err e) → PutsText L.seen L.moves options a c source (Err e)
     text_ungrown b c al rs p k n bytes more e h asks g = record {
-      lowered = under (λ (x : Encoding). LowersValue false (moment_of L.seen a) (moment_of L.seen c) x string [] 0 (IsTextOf source) [] (fault_ending e))
-          (text_resize_stop false (moment_of L.seen a) (moment_of L.seen b) (moment_of L.seen c) enc rs p k n bytes (IsTextOf source) [] 0 (fault_ending e) 0 (not_done e) g.small
-          (λ t has. (more, asks_of (rs ++ resized k n ∷ more) asks t has)) h.text g.does);
+      lowered = under (λ (x : Encoding). LowersValue false (moment_of L.seen a) (moment_of L.seen c) (host_texts x) string [] 0 (IsTextOf source) [] (fault_ending e))
+          (text_resize_stop false (moment_of L.seen a) (moment_of L.seen b) (moment_of L.seen c) (host_texts enc) al rs p k n bytes (IsTextOf source) [] 0 (fault_ending e) 0 (not_done e) g.small
+          (λ t has. (more, asks_of (rs ++ resized_at al k n ∷ more) asks t has)) h.text g.does);
       narrow = tt;
       fits = tt;
-      blames = λ is. absurd (never_refused (moment_of L.seen b) (moment_of L.seen c) (call p k 2 n) (fault_ending e) 0 is g.does);
+      blames = λ is. absurd (never_refused (moment_of L.seen b) (moment_of L.seen c) (call p k al n) (fault_ending e) 0 is g.does);
       moved = moves_then L (guest_of a) (guest_of b) (guest_of c) (fault_ending e) _ _ h.text.lowering.goes.events
-          (stopped (moment_of L.seen b) (moment_of L.seen c) (call p k 2 n) (fault_ending e) 0 (not_done e) g.small g.does).lowering.goes.events h.moved g.moved;
+          (stopped (moment_of L.seen b) (moment_of L.seen c) (call p k al n) (fault_ending e) 0 (not_done e) g.small g.does).lowering.goes.events h.moved g.moved;
       same = same_then a b c h.same g.same;
     }
 
-    pub text_unfitted : (b c : Parts T G) (rs : List Request) (p k n : ℕ) (bytes : List ℕ) (e : Fault) → Begun a b 2 rs p k bytes → text_requests enc cs ≡ rs ++ shrunk k n → FitsTo L.seen L.moves b c p k n (Err e)
+    pub text_unfitted : (b c : Parts T G) (al : ℕ) (rs : List Request) (p k n : ℕ) (bytes : List ℕ) (e : Fault) → Begun a b al rs p k bytes → text_requests enc cs ≡ rs ++ shrunk_at al k n → FitsTo L.seen L.moves b c al p k n (Err e)
         → PutsText L.seen L.moves options a c source (Err e)
-    text_unfitted b c rs p k n bytes e h asks (inl (less, g)) =
-        text_ungrown b c 2 rs p k n bytes [] e h (asks ∙ ap (λ (qs : List Request). rs ++ qs) (shrunk_some k n less)) g
-    text_unfitted b c rs p k n bytes e h asks (inr (all, same, at)) = absurd (not_ok p e at)
+    text_unfitted b c al rs p k n bytes e h asks (inl (less, g)) =
+        text_ungrown b c al rs p k n bytes [] e h (asks ∙ ap (λ (qs : List Request). rs ++ qs) (shrunk_some al k n less)) g
+    text_unfitted b c al rs p k n bytes e h asks (inr (all, same, at)) = absurd (not_ok p e at)
 
     pub text_too_long : (n : ℕ) → length a.memory ≤ 2 ^ 32 → n ≡ length source → 2 ^ 31 ≤ most_bytes enc n cs → PutsText L.seen L.moves options a a source (Err (fault.StringTooLong n))
     text_too_long n small is many = record {

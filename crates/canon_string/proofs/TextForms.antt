@@ -9,7 +9,7 @@ use Rattle.std.specs.Char.{encode_utf8}
 use Rattle.std.specs.Str.{all_scalars, encode_utf8_all}
 use Rattle.canon_lowering.specs.Storing.{narrow}
 use Rattle.canon_model.proofs.Passes.{units-append}
-use Rattle.canon_model.specs.Memory.{bytes_at}
+use Rattle.canon_model.specs.Memory.{bytes_at, bytes_in}
 use Rattle.canon_model.specs.Text.{Spells, all_latin1, can_spell, compact, in_utf16, in_utf8, spelling, unit_bytes, units}
 use Rattle.canon_text.proofs.Bytes.{latin1_not, latin1_units}
 use Rattle.canon_text.proofs.Splits.{GoesOn, first_can, first_units, fronts}
@@ -21,7 +21,7 @@ use Rattle.canon_text.proofs.Lawful.{one_fault}
 use Rattle.canon_model.proofs.Numbers.{bytes_at-put_mid}
 use borrow.Rule.Slice.PartMut.{put_mid}
 use Rattle.canon_text.specs.Writing.{over}
-use Rattle.canon_string.specs.Limits.{most_bytes}
+use Rattle.canon_model.specs.Text.{most_bytes}
 
 -- ---- which texts are Latin-1
 
@@ -161,12 +161,12 @@ units_few source cs spells = omega (arith, widths_le cs, ap length spells.is)
 
 -- the first of the bytes at an address
 pub first_bytes : (xs : List ℕ) (p j k : ℕ) → j ≤ k → take j (bytes_at (narrow xs) p k) ≡ bytes_at (narrow xs) p j
-unfolding bytes_at
+unfolding bytes_in
 first_bytes xs p j k h = take-take j k _ h
 
 -- a block of memory that was lent, before and after
 pub block_old : (xs : List ℕ) (at n : ℕ) → take (at + n - at) (drop at xs) ≡ bytes_at (narrow xs) at n
-unfolding bytes_at
+unfolding bytes_in
 block_old xs at n = ap (λ (k : ℕ). take k (drop at xs)) (omega arith)
 
 pub block_new : (xs ys : List ℕ) (at n : ℕ) → at + n ≤ length xs → length ys ≡ length (take (at + n - at) (drop at xs)) → bytes_at (narrow (put_mid at (at + n - at) xs ys)) at n ≡ ys

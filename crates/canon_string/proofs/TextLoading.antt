@@ -4,7 +4,7 @@ use Rattle.std.proofs.lemmas.Bool.{cond-false}
 use Rattle.std.specs.Str.{all_scalars}
 use Rattle.std.specs.declared.alloc.Global.{Global}
 use Rattle.canon_lowering.specs.Storing.{narrow}
-use Rattle.canon_model.specs.Memory.{bytes_at}
+use Rattle.canon_model.specs.Memory.{bytes_at, bytes_in}
 use Rattle.canon_model.specs.Reach.{IsGood}
 use Rattle.canon_model.specs.Text.{Encoding, Form, Spells, can_spell, compact, in_latin1, in_utf16, in_utf8, is_tagged, text_align, text_bytes, text_form}
 use Rattle.canon_text.proofs.Bytes.{latin1_scalars}
@@ -13,12 +13,12 @@ use Rattle.canon_string.specs.Loading.{IsTextLoaded}
 
 -- what a slice of memory reads
 pub read_there : (bytes : List ℕ) (p n : ℕ) → take (p + n - p) (drop p bytes) ≡ bytes_at (narrow bytes) p n
-unfolding bytes_at
+unfolding bytes_in
 read_there bytes p n = let count : p + n - p ≡ n = omega arith in ap (λ k. take k (drop p bytes)) count
 
 -- units of two bytes
 pub even_bytes : (bytes read : List ℕ) (p k : ℕ) → read ≡ bytes_at (narrow bytes) p (2 * k) → p + 2 * k ≤ length bytes → length read % 2 ≡ 0
-unfolding bytes_at
+unfolding bytes_in
 even_bytes bytes read p k is inside = let count : length read ≡ 2 * k = ap length is ∙ length-take-le (2 * k) (drop p bytes) (omega (arith, length-drop p bytes)) in omega (arith, count)
 
 -- what a form spells are scalar values

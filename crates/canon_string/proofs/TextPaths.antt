@@ -9,13 +9,14 @@ use Rattle.canon_lowering.specs.Storing.{narrow}
 use Rattle.canon_memory.specs.Memory.{written_over}
 use Rattle.canon_memory.specs.Realloc.{block, call}
 use Rattle.canon_model.specs.Memory.{bytes_at}
+use Rattle.canon_model.proofs.Asked.{short_text_asks}
 use Rattle.canon_model.specs.Requests.{Request, anew, resized, shrunk, text_requests}
 use Rattle.canon_model.specs.Text.{Form, IsLeastTag, Spells, all_latin1, compact, in_latin1, in_utf16, in_utf8, spelling, text_bytes, text_form, units, utf16, utf8}
 use Rattle.canon_text.proofs.Kept.{compact_lengths}
 use Rattle.canon_text.specs.Answers.{Narrows, Widens, compact_form, compact_length}
 use Rattle.canon_context.specs.Core.{Parts, encoding_by}
 use Rattle.canon_context.specs.Asks.{AsksFor}
-use Rattle.canon_string.specs.Limits.{most_bytes}
+use Rattle.canon_model.specs.Text.{most_bytes}
 use Rattle.canon_string.specs.Texts.{FitsTo, PutsText}
 use Rattle.canon_context.specs.declared.fault.Fault.{Fault}
 use Rattle.canon_context.proofs.Moves.{GuestLaws}
@@ -49,26 +50,26 @@ module _ {T G : Type 0} (L : GuestLaws G) (options : ℕ) (a : Parts T G) (sourc
 
   -- ---- UTF-8
 
-  utf8_asks : text_requests utf8 cs ≡ anew 1 n ∷ []
-  utf8_asks = ap (λ (bs : List ℕ). anew 1 (length bs) ∷ []) spells.is
+  utf8_asks : n < 2 ^ 31 → text_requests utf8 cs ≡ anew 1 n ∷ []
+  utf8_asks few = short_text_asks utf8 n cs (ap length spells.is) few
 
-  pub utf8_unasked : (b : Parts T G) (e : Fault) → encoding_by a options ≡ utf8 → AsksFor L.seen L.moves a b (call 0 0 1 n) (Err e) → PutsText L.seen L.moves options a b source (Err e)
-  utf8_unasked b e form h = text_unasked L options a source cs spells utf8 form b 1 n [] e utf8_asks h
+  pub utf8_unasked : (b : Parts T G) (e : Fault) → encoding_by a options ≡ utf8 → n < 2 ^ 31 → AsksFor L.seen L.moves a b (call 0 0 1 n) (Err e) → PutsText L.seen L.moves options a b source (Err e)
+  utf8_unasked b e form few h = text_unasked L options a source cs spells utf8 form b 1 n [] e (utf8_asks few) h
 
   pub utf8_stands : (b : Parts T G) (ys m : List ℕ) (p : ℕ) → encoding_by a options ≡ utf8 → ys ≡ b.memory → AsksFor L.seen L.moves a b (call 0 0 1 n) (Ok p) → n < 2 ^ 31 → Writes (block p n) ys m
       → bytes_at (narrow m) p n ≡ source → PutsText L.seen L.moves options a (after b m) source (Ok (record { pointer = p; length = n }))
   utf8_stands b ys m p form same h few w there =
       text_stands L options a source cs spells utf8 form (after b m) 1 (anew 1 n ∷ []) p n n source few
       (begun_written L options a b 1 (anew 1 n ∷ []) p n [] source m (begun_first L options a b 1 n p h) (subst (λ (xs : List ℕ). Writes (block p n) xs m) same w) (omega arith) (λ _. there))
-      (omega (arith, few)) refl refl spells tt utf8_asks
+      (omega (arith, few)) refl refl spells tt (utf8_asks few)
 
   -- ---- UTF-16
 
-  utf16_asks : text_requests utf16 cs ≡ anew 2 (2 * n) ∷ shrunk (2 * n) (length wide)
-  utf16_asks = ap (λ (bs : List ℕ). anew 2 (2 * length bs) ∷ shrunk (2 * length bs) (length wide)) spells.is
+  utf16_asks : 2 * n < 2 ^ 31 → text_requests utf16 cs ≡ anew 2 (2 * n) ∷ shrunk (2 * n) (length wide)
+  utf16_asks few = short_text_asks utf16 n cs (ap length spells.is) few
 
-  pub utf16_unasked : (b : Parts T G) (e : Fault) → encoding_by a options ≡ utf16 → AsksFor L.seen L.moves a b (call 0 0 2 (2 * n)) (Err e) → PutsText L.seen L.moves options a b source (Err e)
-  utf16_unasked b e form h = text_unasked L options a source cs spells utf16 form b 2 (2 * n) (shrunk (2 * n) (length wide)) e utf16_asks h
+  pub utf16_unasked : (b : Parts T G) (e : Fault) → encoding_by a options ≡ utf16 → 2 * n < 2 ^ 31 → AsksFor L.seen L.moves a b (call 0 0 2 (2 * n)) (Err e) → PutsText L.seen L.moves options a b source (Err e)
+  utf16_unasked b e form few h = text_unasked L options a source cs spells utf16 form b 2 (2 * n) (shrunk (2 * n) (length wide)) e (utf16_asks few) h
 
   module _ (b : Parts T G) (ys m : List ℕ) (p k : ℕ) (form : encoding_by a options ≡ utf16) (same : ys ≡ b.memory) (h : AsksFor L.seen L.moves a b (call 0 0 2 (2 * n)) (Ok p)) (w : Writes (block p (2 * n)) ys m)
       (done : Widens in_utf8 source (bytes_at (narrow ys) p (2 * n)) (bytes_at (narrow m) p (2 * n)) 0 k) where
@@ -79,29 +80,28 @@ module _ {T G : Type 0} (L : GuestLaws G) (options : ℕ) (a : Parts T G) (sourc
     utf16_begun = begun_written L options a b 2 (anew 2 (2 * n) ∷ []) p (2 * n) [] wide m (begun_first L options a b 2 (2 * n) p h) (subst (λ (xs : List ℕ). Writes (block p (2 * n)) xs m) same w) wide_fits
         (λ _. sym (first_bytes m p (length wide) (2 * n) wide_fits) ∙ wide_there [] cs source _ _ 0 k (sym spells.is) done refl)
 
-    utf16_asks_so : text_requests utf16 cs ≡ (anew 2 (2 * n) ∷ []) ++ shrunk (2 * n) (2 * k)
-    utf16_asks_so = utf16_asks ∙ ap (λ (x : ℕ). anew 2 (2 * n) ∷ shrunk (2 * n) x) utf16_long
+    utf16_asks_so : 2 * n < 2 ^ 31 → text_requests utf16 cs ≡ (anew 2 (2 * n) ∷ []) ++ shrunk (2 * n) (2 * k)
+    utf16_asks_so few = utf16_asks few ∙ ap (λ (x : ℕ). anew 2 (2 * n) ∷ shrunk (2 * n) x) utf16_long
 
-    pub utf16_stands : (d : Parts T G) (q : ℕ) → 2 * n < 2 ^ 31 → FitsTo L.seen L.moves (after b m) d p (2 * n) (2 * k) (Ok q) → PutsText L.seen L.moves options a d source (Ok (record { pointer = q; length = k }))
+    pub utf16_stands : (d : Parts T G) (q : ℕ) → 2 * n < 2 ^ 31 → FitsTo L.seen L.moves (after b m) d 2 p (2 * n) (2 * k) (Ok q) → PutsText L.seen L.moves options a d source (Ok (record { pointer = q; length = k }))
     utf16_stands d q few fits =
         text_stands L options a source cs spells utf16 form d 2 ((anew 2 (2 * n) ∷ []) ++ shrunk (2 * n) (2 * k)) q (2 * k) k wide few
-        (begun_fitted L options a (after b m) d (anew 2 (2 * n) ∷ []) p (2 * n) (2 * k) q wide utf16_begun (sym utf16_long) fits) (omega (arith, few, utf16_long, wide_fits)) refl utf16_long
-        (record { can = spells.can; is = refl }) tt utf16_asks_so
+        (begun_fitted L options a (after b m) d 2 (anew 2 (2 * n) ∷ []) p (2 * n) (2 * k) q wide utf16_begun (sym utf16_long) fits) (omega (arith, few, utf16_long, wide_fits)) refl utf16_long
+        (record { can = spells.can; is = refl }) tt (utf16_asks_so few)
 
-    pub utf16_unfitted : (d : Parts T G) (e : Fault) → FitsTo L.seen L.moves (after b m) d p (2 * n) (2 * k) (Err e) → PutsText L.seen L.moves options a d source (Err e)
-    utf16_unfitted d e fits = text_unfitted L options a source cs spells utf16 form (after b m) d (anew 2 (2 * n) ∷ []) p (2 * n) (2 * k) wide e utf16_begun utf16_asks_so fits
+    pub utf16_unfitted : (d : Parts T G) (e : Fault) → 2 * n < 2 ^ 31 → FitsTo L.seen L.moves (after b m) d 2 p (2 * n) (2 * k) (Err e) → PutsText L.seen L.moves options a d source (Err e)
+    utf16_unfitted d e few fits = text_unfitted L options a source cs spells utf16 form (after b m) d 2 (anew 2 (2 * n) ∷ []) p (2 * n) (2 * k) wide e utf16_begun (utf16_asks_so few) fits
 
   -- ---- Latin-1 or UTF-16
 
   abbrev later : List Request
   later = if all_latin1 cs then shrunk n (length cs) else resized n (2 * n) ∷ shrunk (2 * n) (length wide)
 
-  compact_asks : text_requests compact cs ≡ anew 2 n ∷ later
-  compact_asks =
-      ap (λ (bs : List ℕ). anew 2 (length bs) ∷ (if all_latin1 cs then shrunk (length bs) (length cs) else resized (length bs) (2 * length bs) ∷ shrunk (2 * length bs) (length wide))) spells.is
+  compact_asks : most_bytes compact n cs < 2 ^ 31 → text_requests compact cs ≡ anew 2 n ∷ later
+  compact_asks short = short_text_asks compact n cs (ap length spells.is) short
 
-  pub compact_unasked : (b : Parts T G) (e : Fault) → encoding_by a options ≡ compact → AsksFor L.seen L.moves a b (call 0 0 2 n) (Err e) → PutsText L.seen L.moves options a b source (Err e)
-  compact_unasked b e form h = text_unasked L options a source cs spells compact form b 2 n later e compact_asks h
+  pub compact_unasked : (b : Parts T G) (e : Fault) → encoding_by a options ≡ compact → most_bytes compact n cs < 2 ^ 31 → AsksFor L.seen L.moves a b (call 0 0 2 n) (Err e) → PutsText L.seen L.moves options a b source (Err e)
+  compact_unasked b e form short h = text_unasked L options a source cs spells compact form b 2 n later e (compact_asks short) h
 
   module _ (b : Parts T G) (ys m : List ℕ) (p read written : ℕ) (form : encoding_by a options ≡ compact) (same : ys ≡ b.memory) (h : AsksFor L.seen L.moves a b (call 0 0 2 n) (Ok p)) (w : Writes (block p n) ys m)
       (done : Narrows in_utf8 source (bytes_at (narrow ys) p n) (bytes_at (narrow m) p n) read written) where
@@ -132,22 +132,22 @@ module _ {T G : Type 0} (L : GuestLaws G) (options : ℕ) (a : Parts T G) (sourc
       narrow_long : written ≡ length cs
       narrow_long = parts.2.count ∙ ap length (sym whole)
 
-      narrow_asks : text_requests compact cs ≡ (anew 2 n ∷ []) ++ shrunk n written
-      narrow_asks = compact_asks ∙ (ap (λ (rs : List Request). anew 2 n ∷ rs) (cond-true (all_latin1 cs) _ _ narrow_text) ∙ ap (λ (x : ℕ). anew 2 n ∷ shrunk n x) (sym narrow_long))
+      narrow_asks : most_bytes compact n cs < 2 ^ 31 → text_requests compact cs ≡ (anew 2 n ∷ []) ++ shrunk n written
+      narrow_asks short = compact_asks short ∙ (ap (λ (rs : List Request). anew 2 n ∷ rs) (cond-true (all_latin1 cs) _ _ narrow_text) ∙ ap (λ (x : ℕ). anew 2 n ∷ shrunk n x) (sym narrow_long))
 
       narrow_begun : Begun L options a (after b m) 2 (anew 2 n ∷ []) p n cs
       narrow_begun = subst (λ (bs : List ℕ). Begun L options a (after b m) 2 (anew 2 n ∷ []) p n bs) (sym whole) compact_begun
 
-      pub narrow_stands : (d : Parts T G) (q : ℕ) → most_bytes compact n cs < 2 ^ 31 → FitsTo L.seen L.moves (after b m) d p n written (Ok q) → PutsText L.seen L.moves options a d source (Ok (record { pointer = q; length = written }))
+      pub narrow_stands : (d : Parts T G) (q : ℕ) → most_bytes compact n cs < 2 ^ 31 → FitsTo L.seen L.moves (after b m) d 2 p n written (Ok q) → PutsText L.seen L.moves options a d source (Ok (record { pointer = q; length = written }))
       narrow_stands d q short fits =
           let few : n < 2 ^ 31 = omega (arith, short, most_more n cs (all_latin1 cs) refl) in
           let (len, spelled, least) = compact_ends cs written in_latin1 cs (omega (arith, few, units_few source cs spells)) (narrow_long ∙ sym (cond-true (all_latin1 cs) _ _ narrow_text)) (sym (cond-true (all_latin1 cs) _ _ narrow_text))
           (record { can = narrow_text; is = refl }) in
           text_stands L options a source cs spells compact form d 2 ((anew 2 n ∷ []) ++ shrunk n written) q written written cs short
-          (begun_fitted L options a (after b m) d (anew 2 n ∷ []) p n written q cs narrow_begun narrow_long fits) (omega (arith, few, parts.2.count, front_fits)) refl len spelled least narrow_asks
+          (begun_fitted L options a (after b m) d 2 (anew 2 n ∷ []) p n written q cs narrow_begun narrow_long fits) (omega (arith, few, parts.2.count, front_fits)) refl len spelled least (narrow_asks short)
 
-      pub narrow_unfitted : (d : Parts T G) (e : Fault) → FitsTo L.seen L.moves (after b m) d p n written (Err e) → PutsText L.seen L.moves options a d source (Err e)
-      narrow_unfitted d e fits = text_unfitted L options a source cs spells compact form (after b m) d (anew 2 n ∷ []) p n written cs e narrow_begun narrow_asks fits
+      pub narrow_unfitted : (d : Parts T G) (e : Fault) → most_bytes compact n cs < 2 ^ 31 → FitsTo L.seen L.moves (after b m) d 2 p n written (Err e) → PutsText L.seen L.moves options a d source (Err e)
+      narrow_unfitted d e short fits = text_unfitted L options a source cs spells compact form (after b m) d 2 (anew 2 n ∷ []) p n written cs e narrow_begun (narrow_asks short) fits
 
     -- what is left is a text
     abbrev left : List ℕ
@@ -164,11 +164,11 @@ module _ {T G : Type 0} (L : GuestLaws G) (options : ℕ) (a : Parts T G) (sourc
       wide_text : all_latin1 cs ≡ false
       wide_text = cut_short source cs _ read written front more spells parts.2 some
 
-      wide_asks : text_requests compact cs ≡ anew 2 n ∷ resized n (2 * n) ∷ shrunk (2 * n) (length wide)
-      wide_asks = compact_asks ∙ ap (λ (rs : List Request). anew 2 n ∷ rs) (cond-false (all_latin1 cs) _ _ wide_text)
+      wide_asks : most_bytes compact n cs < 2 ^ 31 → text_requests compact cs ≡ anew 2 n ∷ resized n (2 * n) ∷ shrunk (2 * n) (length wide)
+      wide_asks short = compact_asks short ∙ ap (λ (rs : List Request). anew 2 n ∷ rs) (cond-false (all_latin1 cs) _ _ wide_text)
 
-      pub wide_ungrown : (c : Parts T G) (e : Fault) → AsksFor L.seen L.moves (after b m) c (call p n 2 (2 * n)) (Err e) → PutsText L.seen L.moves options a c source (Err e)
-      wide_ungrown c e g = text_ungrown L options a source cs spells compact form (after b m) c 2 (anew 2 n ∷ []) p n (2 * n) front (shrunk (2 * n) (length wide)) e compact_begun wide_asks g
+      pub wide_ungrown : (c : Parts T G) (e : Fault) → most_bytes compact n cs < 2 ^ 31 → AsksFor L.seen L.moves (after b m) c (call p n 2 (2 * n)) (Err e) → PutsText L.seen L.moves options a c source (Err e)
+      wide_ungrown c e short g = text_ungrown L options a source cs spells compact form (after b m) c 2 (anew 2 n ∷ []) p n (2 * n) front (shrunk (2 * n) (length wide)) e compact_begun (wide_asks short) g
 
       module _ (c : Parts T G) (zs m2 : List ℕ) (q k : ℕ) (same2 : zs ≡ c.memory) (g : AsksFor L.seen L.moves (after b m) c (call p n 2 (2 * n)) (Ok q)) (w2 : Writes (block q (2 * n)) zs m2)
           (widened : Widens in_utf8 left (bytes_at (narrow zs) q (2 * n)) (bytes_at (narrow m2) q (2 * n)) written k) where
@@ -194,17 +194,17 @@ module _ {T G : Type 0} (L : GuestLaws G) (options : ℕ) (a : Parts T G) (sourc
         wide_begun = begun_written L options a c 2 asked q (2 * n) front wide m2 (begun_again L options a (after b m) c 2 (anew 2 n ∷ []) p n (2 * n) q front compact_begun g (omega (arith, front_fits)))
             (subst (λ (xs : List ℕ). Writes (block q (2 * n)) xs m2) same2 w2) wide_fits there
 
-        wide_asks_so : text_requests compact cs ≡ asked ++ shrunk (2 * n) (2 * k)
-        wide_asks_so = wide_asks ∙ ap (λ (x : ℕ). anew 2 n ∷ resized n (2 * n) ∷ shrunk (2 * n) x) wide_long
+        wide_asks_so : most_bytes compact n cs < 2 ^ 31 → text_requests compact cs ≡ asked ++ shrunk (2 * n) (2 * k)
+        wide_asks_so short = wide_asks short ∙ ap (λ (x : ℕ). anew 2 n ∷ resized n (2 * n) ∷ shrunk (2 * n) x) wide_long
 
-        pub wide_stands : (d : Parts T G) (r : ℕ) → most_bytes compact n cs < 2 ^ 31 → FitsTo L.seen L.moves (after c m2) d q (2 * n) (2 * k) (Ok r)
+        pub wide_stands : (d : Parts T G) (r : ℕ) → most_bytes compact n cs < 2 ^ 31 → FitsTo L.seen L.moves (after c m2) d 2 q (2 * n) (2 * k) (Ok r)
             → PutsText L.seen L.moves options a d source (Ok (record { pointer = r; length = k + 2 ^ 31 }))
         wide_stands d r short fits =
             let few : n < 2 ^ 31 = omega (arith, short, most_more n cs (all_latin1 cs) refl) in
             let (len, spelled, least) = compact_ends cs (k + 2 ^ 31) in_utf16 wide (omega (arith, few, units_few source cs spells))
             (ap (λ (x : ℕ). x + 2 ^ 31) wide_units ∙ sym (cond-false (all_latin1 cs) _ _ wide_text)) (sym (cond-false (all_latin1 cs) _ _ wide_text)) (record { can = spells.can; is = refl }) in
             text_stands L options a source cs spells compact form d 2 (asked ++ shrunk (2 * n) (2 * k)) r (2 * k) (k + 2 ^ 31) wide short
-            (begun_fitted L options a (after c m2) d asked q (2 * n) (2 * k) r wide wide_begun (sym wide_long) fits) (omega (arith, few, wide_units, units_few source cs spells)) refl len spelled least wide_asks_so
+            (begun_fitted L options a (after c m2) d 2 asked q (2 * n) (2 * k) r wide wide_begun (sym wide_long) fits) (omega (arith, few, wide_units, units_few source cs spells)) refl len spelled least (wide_asks_so short)
 
-        pub wide_unfitted : (d : Parts T G) (e : Fault) → FitsTo L.seen L.moves (after c m2) d q (2 * n) (2 * k) (Err e) → PutsText L.seen L.moves options a d source (Err e)
-        wide_unfitted d e fits = text_unfitted L options a source cs spells compact form (after c m2) d asked q (2 * n) (2 * k) wide e wide_begun wide_asks_so fits
+        pub wide_unfitted : (d : Parts T G) (e : Fault) → most_bytes compact n cs < 2 ^ 31 → FitsTo L.seen L.moves (after c m2) d 2 q (2 * n) (2 * k) (Err e) → PutsText L.seen L.moves options a d source (Err e)
+        wide_unfitted d e short fits = text_unfitted L options a source cs spells compact form (after c m2) d 2 asked q (2 * n) (2 * k) wide e wide_begun (wide_asks_so short) fits

@@ -5,6 +5,7 @@ use Rattle.canon_lowering.specs.Lowering.{refused}
 use Rattle.canon_memory.specs.Guest.{GuestIn, Seen}
 use Rattle.canon_memory.specs.Realloc.{call}
 use Rattle.canon_memory.specs.declared.event.Event.{Event}
+use Rattle.canon_model.specs.Homes.{host_texts}
 use Rattle.canon_model.specs.Shape.{string}
 use Rattle.canon_model.specs.Text.{Spells, in_utf8}
 use Rattle.canon_model.specs.Tree.{Tree, text}
@@ -27,14 +28,14 @@ text_words (Ok b) = b.pointer ∷ b.length ∷ []
 text_words (Err e) = []
 
 module _ {T G : Type 0} (seen : G → Seen) (moves : GuestIn G → List Event → GuestIn G → Type 0) where
-  -- Of the block of k bytes at p only n are needed: the rest is given back, where there is one.
-  abbrev pub FitsTo : Parts T G → Parts T G → ℕ → ℕ → ℕ → Result ℕ Fault → Type 0
-  FitsTo before after p k n result = ((n < k) × AsksFor seen moves before after (call p k 2 n) result) ⊎ ((k ≤ n) × (after ≡ before) × (result ≡ Ok p))
+  -- Of the block of k bytes at p, aligned to `al`, only n are needed: the rest is given back, where there is one.
+  abbrev pub FitsTo : Parts T G → Parts T G → ℕ → ℕ → ℕ → ℕ → Result ℕ Fault → Type 0
+  FitsTo before after al p k n result = ((n < k) × AsksFor seen moves before after (call p k al n) result) ⊎ ((k ≤ n) × (after ≡ before) × (result ≡ Ok p))
 
   -- The text, which isn't too long, was put into a block of its own; or it is refused, since it is too long, or for an answer of
   -- the guest's (`ending_of`).
   pub record PutsText (options : ℕ) (before after : Parts T G) (bytes : List ℕ) (result : Result TextBlock Fault) : Type 0 where
-    pub lowered : LowersValue false (moment_of seen before) (moment_of seen after) (encoding_by before options) string (text_words result) 0 (IsTextOf bytes) [] (ending_of result)
+    pub lowered : LowersValue false (moment_of seen before) (moment_of seen after) (host_texts (encoding_by before options)) string (text_words result) 0 (IsTextOf bytes) [] (ending_of result)
     pub narrow : IfOk result (λ b. (b.pointer < 2 ^ 32) × (b.length < 2 ^ 32))
     pub fits : IfOk result (λ b. (n : ℕ) → ¬ IsTooLong (encoding_by before options) bytes n)
     pub blames : IfErr result (λ e. fault_ending e ≡ refused → (after ≡ before) × (n : ℕ) × (e ≡ fault.StringTooLong n) × IsTooLong (encoding_by before options) bytes n)

@@ -4,11 +4,11 @@ ghost use Rattle.std.specs.Prelude.{◌≡◌, ◌≤◌, ◌<◌, ◌+◌, ◌*
 ghost use Rattle.canon_lowering.specs.Steps.{Writes};
 ghost use Rattle.canon_lowering.specs.Storing.{narrow};
 ghost use Rattle.canon_memory.specs.Realloc.{block};
+ghost use Rattle.canon_model.specs.Laws.{IsAlignment};
 ghost use Rattle.canon_model.specs.Memory.{bytes_at};
-ghost use Rattle.canon_model.specs.Text.{Spells, all_latin1, compact, in_utf8, utf16, utf8};
+ghost use Rattle.canon_model.specs.Text.{Spells, all_latin1, compact, in_utf8, most_bytes, utf16, utf8};
 ghost use Rattle.canon_text.specs.Answers.{Narrows, Widens};
 ghost use Rattle.canon_context.specs.Core.{encoding_by};
-ghost use Rattle.canon_string.specs.Limits.{most_bytes};
 ghost use Rattle.canon_string.specs.Texts.{FitsTo, PutsText};
 
 use canon_context::{Fault, LowerContext, ask, ask_again};
@@ -90,7 +90,7 @@ fn put_utf16<T, G: Guest>(cx: &mut LowerContext<'_, T, G>, text: &[u8]) -> Resul
         Err(fault) => return Err(fault),
     };
     let units = write_units(cx.core.as_slice_mut(), pointer, 2 * count, text, 0);
-    match fit(cx, pointer, 2 * count, 2 * units) {
+    match fit(cx, pointer, 2 * count, 2, 2 * units) {
         Ok(pointer) => Ok(TextBlock {
             pointer,
             length: units,
@@ -122,7 +122,7 @@ fn put_compact<T, G: Guest>(
     };
     let done = write_latin1(cx.core.as_slice_mut(), pointer, text);
     if done.src_read == count {
-        return match fit(cx, pointer, count, done.dst_written) {
+        return match fit(cx, pointer, count, 2, done.dst_written) {
             Ok(pointer) => Ok(TextBlock {
                 pointer,
                 length: done.dst_written,
@@ -130,7 +130,7 @@ fn put_compact<T, G: Guest>(
             Err(fault) => Err(fault),
         };
     }
-    let pointer = match ask_again(cx, pointer, count, 2 * count) {
+    let pointer = match ask_again(cx, pointer, count, 2, 2 * count) {
         Ok(pointer) => pointer,
         Err(fault) => return Err(fault),
     };
@@ -142,7 +142,7 @@ fn put_compact<T, G: Guest>(
         rest,
         done.dst_written,
     );
-    match fit(cx, pointer, 2 * count, 2 * units) {
+    match fit(cx, pointer, 2 * count, 2, 2 * units) {
         Ok(pointer) => Ok(TextBlock {
             pointer,
             length: units + UTF16_TAG,
@@ -174,22 +174,24 @@ fn is_latin1(text: &[u8]) -> bool
     true
 }
 
-/// Gives back what isn't needed of a text's block.
+/// Gives back what isn't needed of a text's block, of this alignment.
 fn fit<T, G: Guest>(
     cx: &mut LowerContext<'_, T, G>,
     pointer: u64,
     size: u64,
+    align: u32,
     needed: u64,
 ) -> Result<u64, Fault>
+    requires alignment { IsAlignment align }
     requires narrow { pointer < 2 ^ 32 }
     requires sized { size < 2 ^ 32 }
     requires fits { needed ≤ size }
-    ensures fits { FitsTo G.seen G.moves cx.old.core.now cx.new.core.now pointer size needed result }
+    ensures fits { FitsTo G.seen G.moves cx.old.core.now cx.new.core.now align pointer size needed result }
     ensures same_reference { cx.new.core.ghost_name ≡ cx.old.core.ghost_name }
     ensures same_options { cx.new.options ≡ cx.old.options }
 {
     if needed < size {
-        ask_again(cx, pointer, size, needed)
+        ask_again(cx, pointer, size, align, needed)
     } else {
         Ok(pointer)
     }

@@ -1,6 +1,6 @@
 //! A core, what is asked of it, and whether a value of one of its types has room in its memory or in words.
 
-ghost use Rattle.std.specs.Prelude.{◌≡◌, ◌≤◌, ◌+◌, ◌*◌, IfOk, IfSome, IsTrue, false, length};
+ghost use Rattle.std.specs.Prelude.{◌≡◌, ◌≤◌, ◌+◌, ◌*◌, IfOk, IfSome, IsFalse, IsTrue, false, length};
 ghost use Rattle.canon_context.specs.Component.{HasOptions};
 ghost use Rattle.canon_context.specs.Core.{component_types};
 ghost use Rattle.canon_model.specs.Layout.{flat, size};
@@ -27,6 +27,7 @@ pub fn core_of(
     types: ComponentTypes,
     memory: Memory,
 ) -> Result<TestCore, OutOfMemory>
+    requires narrow { IsFalse memory.wide }
     ensures options { IfOk result (λ c. length c.component.options.items ≡ 1) }
 {
     let options = CanonicalOptions {
@@ -55,7 +56,7 @@ pub fn core_of(
 }
 
 /// What is answered of a core of texts of this encoding, of this memory and these types, and of the one of its types. The core is gone
-/// then, so that little is alive where a test asserts. None where there is no such core.
+/// then, so that little is alive where a test asserts. None where there is no such core, or the memory is wide.
 pub fn with_core<R, F: FnOnce(Global, &mut TestCore, &InterfaceType) -> Option<R>>(
     alloc: Global,
     string_encoding: StringEncoding,
@@ -66,6 +67,9 @@ pub fn with_core<R, F: FnOnce(Global, &mut TestCore, &InterfaceType) -> Option<R
     requires { F.IsAlwaysCallable ask }
 {
     let memory = memory.ok()?;
+    if memory.is_wide() {
+        return None;
+    }
     let (types, ty) = typed.ok()?;
     let mut core = core_of(alloc, string_encoding, types, memory).ok()?;
     ask(alloc, &mut core, &ty)

@@ -4,6 +4,7 @@ ghost use Rattle.std.specs.Prelude.{◌≡◌, ◌≤◌, ◌<◌, ◌+◌, IfEr
 ghost use Rattle.canon_model.specs.Flat.{max_results};
 ghost use Rattle.canon_model.specs.Layout.{members_flat, size};
 ghost use Rattle.canon_model.specs.Shape.{member_count, of_places, product};
+ghost use Rattle.canon_model.specs.Homes.{host_texts};
 ghost use Rattle.canon_lowering.specs.Attempt.{StoresMembers};
 ghost use Rattle.canon_types.specs.Table.{HasTuple, tuple_members};
 ghost use Rattle.canon_value_parts.specs.Args.{IsArea, IsNoArea, LowersResults};
@@ -128,7 +129,7 @@ fn store_results<T, G: Guest>(
     requires count { length results.now ≡ member_count (tuple_members (component_types cx.old.core.now) ty) }
     requires room { at + size false (product of_places (tuple_members (component_types cx.old.core.now) ty)) ≤ length cx.old.core.now.memory }
     ensures stored { PartsLower cx.old.core.now cx.new.core.now (all_passes (tuple_members (component_types cx.old.core.now) ty) results.now)
-        (λ hs. StoresMembers false (moment_of G.seen cx.old.core.now) (moment_of G.seen cx.new.core.now) (encoding_by cx.old.core.now cx.old.options)
+        (λ hs. StoresMembers false (moment_of G.seen cx.old.core.now) (moment_of G.seen cx.new.core.now) (host_texts (encoding_by cx.old.core.now cx.old.options))
         (tuple_members (component_types cx.old.core.now) ty) 0 at (HaveTrees (tuple_members (component_types cx.old.core.now) ty) results.now) hs (ending_of result)) result }
     ensures cause { IfErr result (BlamesMembers (encoding_by cx.old.core.now cx.old.options) (tuple_members (component_types cx.old.core.now) ty) results.now) }
     ensures small { OnOk result (AreSmall (encoding_by cx.old.core.now cx.old.options) (tuple_members (component_types cx.old.core.now) ty) results.now) }

@@ -1,6 +1,7 @@
 //! Stores values in a guest's memory.
 
 ghost use Rattle.std.specs.Prelude.{◌≡◌, ◌≤◌, ◌+◌, ◌%◌, false, IfErr, Ok, OnOk, length};
+ghost use Rattle.canon_model.specs.Homes.{host_texts};
 ghost use Rattle.canon_lowering.specs.Attempt.{StoresValue};
 ghost use Rattle.canon_model.specs.Layout.{align, size};
 ghost use Rattle.canon_types.specs.Table.{Knows, shape_of};
@@ -33,7 +34,7 @@ pub fn linear_lower_to_memory<T, G: Guest>(
     requires aligned { offset % align false (shape_of (component_types cx.old.core.now) ty) ≡ 0 }
     requires room { offset + size false (shape_of (component_types cx.old.core.now) ty) ≤ length cx.old.core.now.memory }
     ensures stored { Crosses cx.old.core.now.component.types (has_handle (shape_of (component_types cx.old.core.now) ty)) (passes value.now (shape_of (component_types cx.old.core.now) ty))
-        (λ hs ending. StoresValue false (moment_of G.seen cx.old.core.now) (moment_of G.seen cx.new.core.now) (encoding_by cx.old.core.now cx.old.options)
+        (λ hs ending. StoresValue false (moment_of G.seen cx.old.core.now) (moment_of G.seen cx.new.core.now) (host_texts (encoding_by cx.old.core.now cx.old.options))
         (shape_of (component_types cx.old.core.now) ty) offset (HasTree (shape_of (component_types cx.old.core.now) ty) value.now) hs ending)
         cx.old.core.now.ledger cx.new.core.now.ledger result }
     ensures cause { IfErr result (BlamesValue (encoding_by cx.old.core.now cx.old.options) (shape_of (component_types cx.old.core.now) ty) value.now) }

@@ -5,6 +5,7 @@ use Rattle.std.proofs.lemmas.Bool.{cases_order}
 use Rattle.std.specs.declared.alloc.Global.{Global}
 use Rattle.canon_lowering.proofs.AimedCases.{CaseIs}
 use Rattle.canon_lowering.specs.Copies.{case_members, case_tree, payload_trees}
+use Rattle.canon_model.specs.Homes.{host_texts}
 use Rattle.canon_model.specs.Shape.{Cases, Name, VariantKind, bare, case_count, no_cases, of_cases, of_names, of_option, of_result, payload}
 use Rattle.canon_model.specs.Same.{Carried, CarriedTrees}
 use Rattle.canon_model.specs.Text.{Encoding}
@@ -44,7 +45,7 @@ case_back lifted (payload name s cs) zero d vs ts (v, t, ev, et, has) = ap (λ u
 case_back lifted (payload name s cs) (suc i) d vs ts h = case_back lifted cs i d vs ts h
 
 -- its tree has a payload where the case has one
-pub case_is : (lifted wide : Bool) (enc : Encoding) (cs : Cases) (i d : ℕ) (vs : List Val) (ts : Trees) → CaseHas lifted cs i vs ts → CaseIs wide enc (case_members cs i) d (case_tree d ts)
+pub case_is : (lifted wide : Bool) (enc : Encoding) (cs : Cases) (i d : ℕ) (vs : List Val) (ts : Trees) → CaseHas lifted cs i vs ts → CaseIs wide (host_texts enc) (case_members cs i) d (case_tree d ts)
 case_is lifted wide enc no_cases i d vs ts h = absurd h
 case_is lifted wide enc (bare name cs) zero d vs ts (ev, et) = ap (λ us. case_tree d us) et
 case_is lifted wide enc (bare name cs) (suc i) d vs ts h = case_is lifted wide enc cs i d vs ts h

@@ -13,6 +13,7 @@ use Rattle.canon_abi.specs.Abi.{HasLayout}
 use Rattle.canon_abi.specs.declared.abi.CanonicalAbiInfo.{CanonicalAbiInfo}
 use Rattle.canon_lowering.proofs.Parameters.{args_far, args_other, args_ungiven, far_first, far_only, far_ungiven, other_same}
 use Rattle.canon_memory.specs.Realloc.{call}
+use Rattle.canon_model.specs.Homes.{host_texts}
 use Rattle.canon_model.specs.Flat.{max_params}
 use Rattle.canon_model.specs.Layout.{align, flat, members_align, members_flat, size}
 use Rattle.canon_model.specs.Shape.{Members, Shape, of_places, product, member_count}
@@ -68,8 +69,8 @@ module _ {T G : Type 0} (L : GuestLaws G) (options options2 : ℕ) (a b c : Part
   stood = subst (λ (x : TypeTable). PartsStoreTo L.seen L.moves options b c 0 (tuple_members x j) 0 p (no_names vs) vs 0 r) (same_types a b g.same)
       (subst (λ (n : ℕ). PartsStoreTo L.seen L.moves n b c 0 (tuple_members (component_types b) j) 0 p (no_names vs) vs 0 r) eo h)
 
-  storing : StoresMembers false (moment_of L.seen b) (moment_of L.seen c) (encoding_by a options) ms 0 p (Named ms (no_names vs) vs) stood.handles (ending_of r)
-  storing = subst (λ (x : Encoding). StoresMembers false (moment_of L.seen b) (moment_of L.seen c) x ms 0 p (Named ms (no_names vs) vs) stood.handles (ending_of r)) (same_encoding a b options g.same) stood.storing
+  storing : StoresMembers false (moment_of L.seen b) (moment_of L.seen c) (host_texts (encoding_by a options)) ms 0 p (Named ms (no_names vs) vs) stood.handles (ending_of r)
+  storing = subst (λ (x : Encoding). StoresMembers false (moment_of L.seen b) (moment_of L.seen c) (host_texts x) ms 0 p (Named ms (no_names vs) vs) stood.handles (ending_of r)) (same_encoding a b options g.same) stood.storing
 
   from : (ts : Trees) → HaveTrees ms vs ts → Named ms (no_names vs) vs ts
   from ts have = (tuple_names (component_types a) j vs count, have)
@@ -77,10 +78,10 @@ module _ {T G : Type 0} (L : GuestLaws G) (options options2 : ℕ) (a b c : Part
   -- the block is given, and the members are stored there
   lowered : LowersParams (moment_of L.seen a) (moment_of L.seen c) (encoding_by a options) ms (HaveTrees ms vs) (p ∷ []) stood.handles (ending_of r)
   lowered = record {
-    lowered = args_far false (encoding_by a options) ms (Named ms (no_names vs) vs) (HaveTrees ms vs) (λ ts have. have.1) from (moment_of L.seen a) (moment_of L.seen b) (moment_of L.seen c) p (ending_of r) far g.small g.does storing;
+    lowered = args_far false (host_texts (encoding_by a options)) ms (Named ms (no_names vs) vs) (HaveTrees ms vs) (λ ts have. have.1) from (moment_of L.seen a) (moment_of L.seen b) (moment_of L.seen c) p (ending_of r) far g.small g.does storing;
     asks = λ many. (
-      far_first false (encoding_by a options) ms (Named ms (no_names vs) vs) (HaveTrees ms vs) (λ ts have. have.1) from (moment_of L.seen a) (moment_of L.seen b) (moment_of L.seen c) p (ending_of r) far g.small g.does storing,
-      λ quiet. far_only false (encoding_by a options) ms (Named ms (no_names vs) vs) (HaveTrees ms vs) (λ ts have. have.1) from (moment_of L.seen a) (moment_of L.seen b) (moment_of L.seen c) p (ending_of r) far g.small g.does storing
+      far_first false (host_texts (encoding_by a options)) ms (Named ms (no_names vs) vs) (HaveTrees ms vs) (λ ts have. have.1) from (moment_of L.seen a) (moment_of L.seen b) (moment_of L.seen c) p (ending_of r) far g.small g.does storing,
+      λ quiet. far_only false (host_texts (encoding_by a options)) ms (Named ms (no_names vs) vs) (HaveTrees ms vs) (λ ts have. have.1) from (moment_of L.seen a) (moment_of L.seen b) (moment_of L.seen c) p (ending_of r) far g.small g.does storing
           (none_answered (L.seen b.guest).marks storing.answers (ap (λ (x : G). (L.seen x).marks) (sym (stood.quiet quiet).0) ∙ storing.lowering.goes.marks))
           (no_trap (moment_of L.seen b) (moment_of L.seen c) storing.answers storing.trap r (stood.quiet quiet).1 storing.lowering.cause),
     );
@@ -103,14 +104,14 @@ module _ (enc : Encoding) (ms : Members) (Have : Trees → Type 0) where
   -- the block isn't given
   pub far_ungiven_asked : (a b : Moment) (ws : List ℕ) (e : Ending) (p : ℕ) → max_params < members_flat ms → NotDone e → length b.bytes ≤ 2 ^ 32 → Reallocated a b (args_call false ms) e p → LowersParams a b enc ms Have ws [] e
   far_ungiven_asked a b ws e p far not small h =
-      let asked = far_ungiven false enc ms Have Have [] a b ws e p far not small h in
-      record { lowered = args_ungiven false enc ms Have Have a b ws e p far not small h; asks = λ many. (asked.0, λ quiet. asked.1) }
+      let asked = far_ungiven false (host_texts enc) ms Have Have [] a b ws e p far not small h in
+      record { lowered = args_ungiven false (host_texts enc) ms Have Have a b ws e p far not small h; asks = λ many. (asked.0, λ quiet. asked.1) }
 
   -- where it wasn't done, the words say nothing
   pub far_other : {hs : List ℕ} (a b : Moment) (ws vs : List ℕ) (e : Ending) → NotDone e → LowersParams a b enc ms Have ws hs e → LowersParams a b enc ms Have vs hs e
   far_other {hs = hs} a b ws vs e not h =
-      let other : LowersArgs false a b enc ms Have vs hs e = args_other false enc ms Have Have a b ws vs e not h.lowered in
-      let same = other_same false enc ms Have Have hs a b ws vs e not h.lowered in
+      let other : LowersArgs false a b (host_texts enc) ms Have vs hs e = args_other false (host_texts enc) ms Have Have a b ws vs e not h.lowered in
+      let same = other_same false (host_texts enc) ms Have Have hs a b ws vs e not h.lowered in
       record { lowered = other; asks = subst (λ t. AsksTuple ms e other.answers t) (sym same.1) (subst (λ xs. AsksTuple ms e xs h.lowered.trap) (sym same.0) h.asks) }
 
 -- how many words, by whether there are few

@@ -5,14 +5,14 @@ use Rattle.std.proofs.lemmas.Bool.Decides.{nat_tests}
 use Rattle.canon_lowering.specs.Storing.{narrow}
 use Rattle.canon_model.specs.Flat.{low_number}
 use Rattle.canon_model.specs.Layout.{flag_words, flags_size}
-use Rattle.canon_model.specs.Memory.{bytes_at, le_number, low, num}
+use Rattle.canon_model.specs.Memory.{bytes_in, le_number, low, num}
 use Rattle.canon_value_parts.specs.Flags.{HasPlace, HasRoom, digit_of, marked_number, width_of}
 use Rattle.canon_value_parts.specs.declared.flags.Marks.{Marks}
 use Rattle.canon_value_parts.specs.declared.flags.Marks.TheVariants as marks
 use Rattle.canon_value_parts.proofs.FlagBits.{digit_bit, digits}
 
 pub num_digits : (xs : List ℕ) (n at : ℕ) → at + n ≤ length xs → num (narrow xs) at n ≡ digits 8 (λ i. slice_index xs i) at n
-unfolding bytes_at
+unfolding bytes_in
 num_digits xs zero at room = refl
 num_digits xs (suc n) at room =
     let here : drop at xs ≡ get_or xs at 0 ∷ drop (suc at) xs = drop-cons xs at 0 (omega (arith, room)) in

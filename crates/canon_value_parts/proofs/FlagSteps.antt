@@ -14,6 +14,7 @@ use Rattle.canon_lowering.proofs.Lowerings.{lowering_write, requested_later}
 use Rattle.canon_lowering.specs.Lowering.{Lowering, done, refused}
 use Rattle.canon_lowering.specs.Steps.{Writes}
 use Rattle.canon_lowering.specs.Storing.{narrow}
+use Rattle.canon_model.specs.Homes.{host_texts}
 use Rattle.canon_model.specs.Layout.{flag_words, flags_size, flat, size}
 use Rattle.canon_model.specs.Memory.{Block, cap, num}
 use Rattle.canon_model.specs.Shape.{Name, Shape, flags}
@@ -73,11 +74,11 @@ module _ {T G : Type 0} (L : GuestLaws G) (options : ℕ) (a : Parts T G) (names
         let (least, marked, known) = marked_all names (names_of set.items) (num (narrow m) at (flags_size (length names))) there.marked there.known in
         subst (λ (x : Shape). StoresTo L.seen L.moves options a (record a { memory = m }) x at (val.Flags set) place (Ok next)) (sym is) (record {
           handles = [];
-          storing = flags_stored false (L.seen a.guest) a.memory m (encoding_by a options) at (HasTree (flags names) (val.Flags set)) small names (omega (arith, room, many)) there.writes least
+          storing = flags_stored false (L.seen a.guest) a.memory m (host_texts (encoding_by a options)) at (HasTree (flags names) (val.Flags set)) small names (omega (arith, room, many)) there.writes least
               (names_of set.items, _, (set, refl, refl), known, refl, marked, λ h. any_order h);
           handed = passes_none a.component.types a.ledger a.ledger (passes (val.Flags set) (flags names)) refl (flags_none names set);
           counted = (omega (arith, counted, places_flags (names_of set.items) (val.Flags set) (set, refl, refl)), flags_small (encoding_by a options) names (val.Flags set));
-          moved = moves_written L (guest_of a) a.guest a.memory m done h.writes.same_length (moves_none L (guest_of a) done);
+          moved = moves_written L (guest_of a) a.guest a.wide a.memory m done h.writes.same_length (moves_none L (guest_of a) done);
           same = refl;
           quiet = λ none. (refl, tt);
         })
@@ -99,7 +100,7 @@ module _ {T G : Type 0} (L : GuestLaws G) (options : ℕ) (a : Parts T G) (names
           };
           handed = passes_stopped a.component.types a.ledger a.ledger (passes (val.Flags set) (flags names)) (fault.UnknownFlag place) refl refl;
           counted = (0, omega (arith, few), (refl, (names_of set.items, (set, refl, refl), unknown)));
-          moved = moves_written L (guest_of a) a.guest a.memory m refused h.writes.same_length (moves_none L (guest_of a) refused);
+          moved = moves_written L (guest_of a) a.guest a.wide a.memory m refused h.writes.same_length (moves_none L (guest_of a) refused);
           same = refl;
           quiet = λ none. (refl, refl);
         })
@@ -112,7 +113,7 @@ module _ {T G : Type 0} (L : GuestLaws G) (options : ℕ) (a : Parts T G) (names
     unfolding flat
     flags_lower to (below, (least, marked, known)) ew ep = subst (λ (x : Shape). LowersTo L.seen L.moves options a a dst dst2 from (Ok to) x (val.Flags set)) (sym is) (record {
       handles = [];
-      lowered = flags_words false (moment_of L.seen a) (encoding_by a options) dst2 from.word (HasTree (flags names) (val.Flags set)) small names below least (names_of set.items, _, (set, refl, refl), known, refl, marked, λ h. any_order h);
+      lowered = flags_words false (moment_of L.seen a) (host_texts (encoding_by a options)) dst2 from.word (HasTree (flags names) (val.Flags set)) small names below least (names_of set.items, _, (set, refl, refl), known, refl, marked, λ h. any_order h);
       handed = passes_none a.component.types a.ledger a.ledger (passes (val.Flags set) (flags names)) refl (flags_none names set);
       stays = stays;
       passed = ew;

@@ -21,6 +21,7 @@ use Rattle.canon_lowering.specs.Storing.{narrow}
 use Rattle.canon_memory.specs.Guest.{moment}
 use Rattle.canon_memory.specs.Memory.{written_over}
 use Rattle.canon_memory.specs.Realloc.{block}
+use Rattle.canon_model.specs.Homes.{host_texts}
 use Rattle.canon_model.specs.Layout.{flat, size}
 use Rattle.canon_model.specs.Memory.{cap, low, num}
 use Rattle.canon_model.specs.Shape.{borrow, own}
@@ -82,9 +83,9 @@ module _ {T G : Type 0} (L : GuestLaws G) (options : ℕ) (a : Parts T G) (l : L
   -- ---- in memory
 
   storing : (m : List ℕ) (at : ℕ) (owns : Bool) → at + 4 ≤ length a.memory → Writes (block at 4) a.memory m
-      → StoresValue false (moment_of L.seen a) (moment (L.seen a.guest) m) (encoding_by a options) (shaped_handle owns r) at (HasTree (shaped_handle owns r) (val.Resource x)) (num (narrow m) at 4 ∷ []) done
-  storing m at true room w = own_stored false (L.seen a.guest) a.memory m (encoding_by a options) at (HasTree (own r) (val.Resource x)) small r room w (x, num (narrow m) at 4, refl, refl)
-  storing m at false room w = borrow_stored false (L.seen a.guest) a.memory m (encoding_by a options) at (HasTree (borrow r) (val.Resource x)) small r room w (x, num (narrow m) at 4, refl, refl)
+      → StoresValue false (moment_of L.seen a) (moment (L.seen a.guest) m) (host_texts (encoding_by a options)) (shaped_handle owns r) at (HasTree (shaped_handle owns r) (val.Resource x)) (num (narrow m) at 4 ∷ []) done
+  storing m at true room w = own_stored false (L.seen a.guest) a.memory m (host_texts (encoding_by a options)) at (HasTree (own r) (val.Resource x)) small r room w (x, num (narrow m) at 4, refl, refl)
+  storing m at false room w = borrow_stored false (L.seen a.guest) a.memory m (host_texts (encoding_by a options)) at (HasTree (borrow r) (val.Resource x)) small r room w (x, num (narrow m) at 4, refl, refl)
 
   pub handle_stored : (m : List ℕ) (at h place next : ℕ) → at + 4 ≤ length a.memory → h < 2 ^ 32 → Writes (block at 4) a.memory m → num (narrow m) at 4 ≡ h % 256 ^ 4 → next ≡ cap (place + 1)
       → Took a.component.types a.ledger l (passed owned r x ∷ []) (h ∷ [])
@@ -95,7 +96,7 @@ module _ {T G : Type 0} (L : GuestLaws G) (options : ℕ) (a : Parts T G) (l : L
         storing = storing m at owned room w;
         handed = took_as a.component.types a.ledger l owned r x h (num (narrow m) at 4) (there ∙ mod-eq_of_lt few) took;
         counted = (omega (arith, counted, handle_places x), handle_small (encoding_by a options) owned r (val.Resource x));
-        moved = moves_written L (guest_of a) a.guest a.memory m done w.same_length (moves_none L (guest_of a) done);
+        moved = moves_written L (guest_of a) a.guest a.wide a.memory m done w.same_length (moves_none L (guest_of a) done);
         same = refl;
         quiet = λ none. (refl, tt);
       })
@@ -103,9 +104,9 @@ module _ {T G : Type 0} (L : GuestLaws G) (options : ℕ) (a : Parts T G) (l : L
   -- ---- in words
 
   lowering : (ws : List ℕ) (i : ℕ) (owns : Bool) → slice_index ws i < 2 ^ 32
-      → LowersValue false (moment_of L.seen a) (moment_of L.seen a) (encoding_by a options) (shaped_handle owns r) ws i (HasTree (shaped_handle owns r) (val.Resource x)) (low (slice_index ws i) ∷ []) done
-  lowering ws i true few = own_words false (moment_of L.seen a) (encoding_by a options) ws i (HasTree (own r) (val.Resource x)) small r few (x, low (slice_index ws i), refl, refl)
-  lowering ws i false few = borrow_words false (moment_of L.seen a) (encoding_by a options) ws i (HasTree (borrow r) (val.Resource x)) small r few (x, low (slice_index ws i), refl, refl)
+      → LowersValue false (moment_of L.seen a) (moment_of L.seen a) (host_texts (encoding_by a options)) (shaped_handle owns r) ws i (HasTree (shaped_handle owns r) (val.Resource x)) (low (slice_index ws i) ∷ []) done
+  lowering ws i true few = own_words false (moment_of L.seen a) (host_texts (encoding_by a options)) ws i (HasTree (own r) (val.Resource x)) small r few (x, low (slice_index ws i), refl, refl)
+  lowering ws i false few = borrow_words false (moment_of L.seen a) (host_texts (encoding_by a options)) ws i (HasTree (borrow r) (val.Resource x)) small r few (x, low (slice_index ws i), refl, refl)
 
   pub handle_lowered : (dst : List ℕ) (from to : Spot) (h w : ℕ) → from.word + 1 ≤ length dst → h < 2 ^ 32 → w ≡ h → to.word ≡ from.word + 1 → to.place ≡ cap (from.place + 1)
       → Took a.component.types a.ledger l (passed owned r x ∷ []) (h ∷ []) → LowersTo L.seen L.moves options a taken dst (set dst from.word w) from (Ok to) (shaped_handle owned r) (val.Resource x)

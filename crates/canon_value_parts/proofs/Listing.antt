@@ -6,6 +6,7 @@ use Rattle.canon_abi.specs.declared.abi.CanonicalAbiInfo.{CanonicalAbiInfo}
 use Rattle.canon_lowering.proofs.AimedPairs.{MakesRow, copies_row, pairs_row}
 use Rattle.canon_lowering.proofs.Pairing.{at_start, pair_shape, pairs_end}
 use Rattle.canon_lowering.specs.Copies.{copies, paired, pairs_of, unpaired}
+use Rattle.canon_model.specs.Homes.{host_texts}
 use Rattle.canon_model.specs.Layout.{align, flat, members_end, size}
 use Rattle.canon_model.specs.Shape.{ListKind, Members, Shape, list, map_of, of_items, of_pairs}
 use Rattle.canon_model.specs.Text.{Encoding}
@@ -41,7 +42,7 @@ pub record IsListOf (whole : Shape) (v : Val) (n : ℕ) (ms : Members) (vs : Lis
   pub all : ℕ
   pub group : Trees → Trees
   pub ungroup : Tree → Trees
-  pub row : (enc : Encoding) → MakesRow false enc part n ms all group
+  pub row : (enc : Encoding) → MakesRow false (host_texts enc) part n ms all group
   pub is : (ts : Trees) → Named ms (no_names vs) vs ts → HasTree (list kind part) v (items (group ts)) × (tree_count ts ≡ all)
   pub back : (t : Tree) → HasTree (list kind part) v t → Named ms (no_names vs) vs (ungroup t) × (trees_of t ≡ group (ungroup t))
   pub fails : (how : Failure) (j : ℕ) → MemberFails how ms vs j → FailsAt how (list kind part) v (1 + j)
@@ -59,7 +60,7 @@ items_listed s xs = record {
   all = length xs.items;
   group = λ ts. ts;
   ungroup = λ t. trees_of t;
-  row = λ enc. copies_row false enc s (length xs.items);
+  row = λ enc. copies_row false (host_texts enc) s (length xs.items);
   is = row_is (length xs.items) s xs refl;
   back = λ t has. (row_back (length xs.items) s xs refl t has, refl);
   fails = λ how j f. inr (xs.items, j, (xs, refl, refl), refl, copies_fail how (length xs.items) s xs.items j f);
@@ -78,7 +79,7 @@ pairs_listed s u xs = record {
   all = length xs.items + length xs.items;
   group = λ ts. paired ts;
   ungroup = λ t. unpaired (trees_of t);
-  row = λ enc. pairs_row false enc s u (length xs.items);
+  row = λ enc. pairs_row false (host_texts enc) s u (length xs.items);
   is = λ ts (named, have). let (each, count) = pairs_have false s u xs.items ts have in ((refl, (xs.items, paired ts, (xs, refl, refl), refl, each)), count);
   back = λ t (two, (ps, ts, p, et, each)).
       let same : ps ≡ xs.items = one_pairs xs.items ps (val.Map xs) (xs, refl, refl) p in

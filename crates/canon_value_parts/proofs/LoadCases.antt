@@ -11,6 +11,7 @@ use Rattle.canon_lowering.specs.Copies.{case_members, case_tree}
 use Rattle.canon_lowering.specs.Storing.{narrow}
 use Rattle.canon_model.proofs.Layouts.{alignment, payloads_fit, tag-le-size}
 use Rattle.canon_model.proofs.Reached.{reach_is_the_cost}
+use Rattle.canon_model.specs.Homes.{host_texts}
 use Rattle.canon_model.specs.Cost.{case_cost, cost, members_cost, names_length, val_cost}
 use Rattle.canon_model.specs.Layout.{align, begins, members_align, members_end, payload_offset, payload_shape, size}
 use Rattle.canon_model.specs.Leaves.{members_reach_leaves, reach_leaves}
@@ -150,7 +151,7 @@ module _ (enc : Encoding) (bytes : List ℕ) where
 
       module _ (inside : a + size false s ≤ length bytes) where
         pub case_inside : place + members_end false 0 these ≤ length bytes
-        case_inside = omega (arith, inside, ap (size false) is.1, case_room false enc is.0 (variant_cases s) tag there)
+        case_inside = omega (arith, inside, ap (size false) is.1, case_room false (host_texts enc) is.0 (variant_cases s) tag there)
 
         case_represented : (ts : Trees) → MembersStored (Inside (narrow bytes)) false enc (narrow bytes) these 0 place ts → RepMem false enc (narrow bytes) a s (case_tree tag ts)
         case_represented ts stored =

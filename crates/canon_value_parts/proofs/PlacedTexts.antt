@@ -4,6 +4,7 @@ use Rattle.std.specs.declared.alloc.Global.{Global}
 use Rattle.canon_lowering.proofs.Attempts.{attempt_as}
 use Rattle.canon_lowering.specs.Attempt.{LowersValue, value_words}
 use Rattle.canon_lowering.specs.Lowering.{Ending, done}
+use Rattle.canon_model.specs.Homes.{host_texts}
 use Rattle.canon_model.specs.Shape.{string}
 use Rattle.canon_model.specs.Text.{Spells, in_utf8}
 use Rattle.canon_context.specs.Core.{Parts, encoding_by, moment_of}
@@ -26,10 +27,10 @@ use Rattle.canon_value_parts.proofs.Steps.{blames_unless}
 
 module _ {T G : Type 0} (L : GuestLaws G) (options : ℕ) (a b : Parts T G) (s : String Global) where
   -- a text's trees are its value's
-  as_value : (ws : List ℕ) (e : Ending) → LowersValue false (moment_of L.seen a) (moment_of L.seen b) (encoding_by a options) string ws 0 (IsTextOf (string_bytes s)) [] e
-      → LowersValue false (moment_of L.seen a) (moment_of L.seen b) (encoding_by a options) string ws 0 (HasTree string (val.String s)) [] e
-  as_value ws e h = attempt_as false (moment_of L.seen a) (moment_of L.seen b) [] [] (value_words false (encoding_by a options) string ws 0 (IsTextOf (string_bytes s)))
-      (value_words false (encoding_by a options) string ws 0 (HasTree string (val.String s))) e (λ i q. q) (record {
+  as_value : (ws : List ℕ) (e : Ending) → LowersValue false (moment_of L.seen a) (moment_of L.seen b) (host_texts (encoding_by a options)) string ws 0 (IsTextOf (string_bytes s)) [] e
+      → LowersValue false (moment_of L.seen a) (moment_of L.seen b) (host_texts (encoding_by a options)) string ws 0 (HasTree string (val.String s)) [] e
+  as_value ws e h = attempt_as false (moment_of L.seen a) (moment_of L.seen b) [] [] (value_words false (host_texts (encoding_by a options)) string ws 0 (IsTextOf (string_bytes s)))
+      (value_words false (host_texts (encoding_by a options)) string ws 0 (HasTree string (val.String s))) e (λ i q. q) (record {
         turn = λ t. t;
         back = λ t. t;
         is = λ t (cs, n, g, is). (cs, n, (s, refl, g), is);

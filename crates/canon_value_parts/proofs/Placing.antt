@@ -4,6 +4,7 @@ use Rattle.canon_lowering.proofs.Attempts.{attempt_refused, attempt_other}
 use Rattle.canon_lowering.specs.Attempt.{LowersValue, StoresMembers, items_call, value_words}
 use Rattle.canon_lowering.specs.Lowering.{Ending, Reallocated}
 use Rattle.canon_memory.specs.Guest.{Moment}
+use Rattle.canon_model.specs.Homes.{host_texts}
 use Rattle.canon_model.specs.Requests.{Call}
 use Rattle.canon_model.specs.Shape.{Members, Shape, list}
 use Rattle.canon_model.specs.Text.{Encoding, utf8}
@@ -45,7 +46,7 @@ module _ {T G : Type 0} (L : GuestLaws G) (options : ℕ) where
       → PlacesTo L.seen L.moves options a a s v place (Err e)
   unplaced a s v place e small is b = record {
     handles = [];
-    lowered = subst (λ (end : Ending). LowersValue false (moment_of L.seen a) (moment_of L.seen a) (encoding_by a options) s [] 0 (HasTree s v) [] end) (sym (own_ends e is)) (attempt_refused false (moment_of L.seen a) [] _ small);
+    lowered = subst (λ (end : Ending). LowersValue false (moment_of L.seen a) (moment_of L.seen a) (host_texts (encoding_by a options)) s [] 0 (HasTree s v) [] end) (sym (own_ends e is)) (attempt_refused false (moment_of L.seen a) [] _ small);
     handed = passes_stopped a.component.types a.ledger a.ledger (passes v s) e refl (own_elsewhere e is);
     narrow = tt;
     counted = b;
@@ -87,7 +88,7 @@ module _ (whole : Shape) (v : Val) (n : ℕ) (ms : Members) (vs : List Val) (l :
         let h : AsksFor L.seen L.moves a b (items_call false l.part n) (Err e) = subst₂ (λ (j : ℕ) (s : Shape). AsksFor L.seen L.moves a b (items_call false s j) (Err e)) is (ap element_shape l.shape) asked in
         by_parts (λ s. PlacesTo L.seen L.moves options a b s v place (Err e)) (record {
           handles = [];
-          lowered = list_ungiven false (moment_of L.seen a) (moment_of L.seen b) (encoding_by a options) l.kind l.part n 0 [] 0 (HasTree shape v) (fault_ending e) (not_done e) h.small list_count h.does;
+          lowered = list_ungiven false (moment_of L.seen a) (moment_of L.seen b) (host_texts (encoding_by a options)) l.kind l.part n 0 [] 0 (HasTree shape v) (fault_ending e) (not_done e) h.small list_count h.does;
           handed = passes_stopped a.component.types a.ledger b.ledger (passes v shape) e (same_ledger a b h.same) (ungiven_elsewhere (moment_of L.seen a) (moment_of L.seen b) (items_call false l.part n) e 0 h.does);
           narrow = tt;
           counted = asked_blames (encoding_by a options) (λ how k. FailsAt how shape v k) place (moment_of L.seen a) (moment_of L.seen b) (items_call false l.part n) e 0 h.does;
@@ -101,10 +102,10 @@ module _ (whole : Shape) (v : Val) (n : ℕ) (ms : Members) (vs : List Val) (l :
       g = subst₂ (λ (j : ℕ) (s : Shape). AsksFor L.seen L.moves a b (items_call false s j) (Ok p)) is (ap element_shape l.shape) asked
 
       module _ (r : Result ℕ Fault) (h : PartsStoreTo L.seen L.moves options b c place ms 0 p (no_names vs) vs (cap (place + 1)) r) where
-        row_words : LowersValue false (moment_of L.seen a) (moment_of L.seen c) (encoding_by a options) shape (p ∷ n ∷ []) 0 (HasTree shape v) h.handles (ending_of r)
-        row_words = rows_words false (moment_of L.seen a) (moment_of L.seen b) (moment_of L.seen c) (encoding_by a options) l.kind l.part n p l.all ms l.group l.ungroup (l.row (encoding_by a options))
+        row_words : LowersValue false (moment_of L.seen a) (moment_of L.seen c) (host_texts (encoding_by a options)) shape (p ∷ n ∷ []) 0 (HasTree shape v) h.handles (ending_of r)
+        row_words = rows_words false (moment_of L.seen a) (moment_of L.seen b) (moment_of L.seen c) (host_texts (encoding_by a options)) l.kind l.part n p l.all ms l.group l.ungroup (l.row (encoding_by a options))
             (Named ms (no_names vs) vs) (HasTree shape v) (ending_of r) g.small g.does (λ _. omega (arith, is, few)) l.is l.back
-            (subst (λ (x : Encoding). StoresMembers false (moment_of L.seen b) (moment_of L.seen c) x ms 0 p (Named ms (no_names vs) vs) h.handles (ending_of r)) (same_encoding a b options g.same) h.storing)
+            (subst (λ (x : Encoding). StoresMembers false (moment_of L.seen b) (moment_of L.seen c) (host_texts x) ms 0 p (Named ms (no_names vs) vs) h.handles (ending_of r)) (same_encoding a b options g.same) h.storing)
 
         row_handed : LowersHandles a.component.types a.ledger c.ledger (passes v shape) h.handles r
         row_handed = passes_as a.component.types a.ledger c.ledger (all_passes ms vs) (passes v shape) h.handles r (ap (passes v) (sym l.shape) ∙ given) (passes_from a b c.ledger (all_passes ms vs) h.handles r g.same h.handed)
@@ -136,7 +137,7 @@ module _ (whole : Shape) (v : Val) (n : ℕ) (ms : Members) (vs : List Val) (l :
       pub list_broken : (e : Fault) → PartsStoreTo L.seen L.moves options b c place ms 0 p (no_names vs) vs (cap (place + 1)) (Err e) → PlacesTo L.seen L.moves options a c whole v place (Err e)
       list_broken e h = by_parts (λ s. PlacesTo L.seen L.moves options a c s v place (Err e)) (record {
         handles = h.handles;
-        lowered = attempt_other false (moment_of L.seen a) (moment_of L.seen c) [] _ (value_words false (encoding_by a options) shape [] 0 (HasTree shape v)) (fault_ending e) (not_done e) (λ t has. (has, refl)) (row_words (Err e) h);
+        lowered = attempt_other false (moment_of L.seen a) (moment_of L.seen c) [] _ (value_words false (host_texts (encoding_by a options)) shape [] 0 (HasTree shape v)) (fault_ending e) (not_done e) (λ t has. (has, refl)) (row_words (Err e) h);
         handed = row_handed (Err e) h;
         narrow = tt;
         counted = row_counted (Err e) h;

@@ -10,6 +10,7 @@ use Rattle.canon_memory.specs.Guest.{moment}
 use Rattle.canon_memory.specs.Memory.{written_over}
 use Rattle.canon_memory.specs.Realloc.{block}
 use Rattle.canon_model.proofs.Layouts.{tag-le-size}
+use Rattle.canon_model.specs.Homes.{host_texts}
 use Rattle.canon_model.specs.Layout.{members_end, payload_offset, size, tag_size}
 use Rattle.canon_model.specs.Memory.{Block, cap, num}
 use Rattle.canon_model.specs.Shape.{Cases, Members, Name, Shape, VariantKind, case_count, member_count, variant}
@@ -46,17 +47,17 @@ tag_few : (n : ℕ) → tag_size n ≤ 8
 tag_few n = grind arith
 
 module _ (wide : Bool) (enc : Encoding) (k : VariantKind) (cs : Cases) (d : ℕ) (names : List Name) (vs : List Val) (v : Val) (lt : d < case_count cs) (of : IsCase k cs d vs v) (named : names ≡ member_names (case_members cs d)) where
-  pub case_told : (ts : Trees) → Named (case_members cs d) names vs ts → HasTree (variant k cs) v (case_tree d ts) × CaseIs wide enc (case_members cs d) d (case_tree d ts)
+  pub case_told : (ts : Trees) → Named (case_members cs d) names vs ts → HasTree (variant k cs) v (case_tree d ts) × CaseIs wide (host_texts enc) (case_members cs d) d (case_tree d ts)
   case_told ts (_, have) = let has = case_has false cs d vs ts lt have in ((d, vs, ts, of, refl, has), case_is false wide enc cs d d vs ts has)
 
-  pub case_untold : (t : Tree) → HasTree (variant k cs) v t → (case_number t ≡ d) × Named (case_members cs d) names vs (payload_trees t) × CaseIs wide enc (case_members cs d) d t
+  pub case_untold : (t : Tree) → HasTree (variant k cs) v t → (case_number t ≡ d) × Named (case_members cs d) names vs (payload_trees t) × CaseIs wide (host_texts enc) (case_members cs d) d t
   case_untold t (j, ws, ts, q, et, has) =
       let (ej, ew) = one_case k cs d j vs ws v of q in
       let et2 : t ≡ case_tree d ts = et ∙ ap (λ x. case_tree x ts) ej in
       let has2 : CaseHas false cs d vs ts = subst (λ (x : ℕ). CaseHas false cs x vs ts) ej (subst (λ (xs : List Val). CaseHas false cs j xs ts) ew has) in (
         ap case_number et2 ∙ number_of d ts,
         (named, subst (λ us. HaveTrees (case_members cs d) vs us) (sym (ap payload_trees et2 ∙ case_back false cs d d vs ts has2)) (has_case false cs d vs ts has2)),
-        subst (λ u. CaseIs wide enc (case_members cs d) d u) (sym et2) (case_is false wide enc cs d d vs ts has2),
+        subst (λ u. CaseIs wide (host_texts enc) (case_members cs d) d u) (sym et2) (case_is false wide enc cs d d vs ts has2),
       )
 
 pub case_counted : (enc : Encoding) (k : VariantKind) (cs : Cases) (d : ℕ) (vs : List Val) (v : Val) (place : ℕ) (r : Result ℕ Fault) → IsCase k cs d vs v
@@ -80,7 +81,7 @@ pub case_wants : (t : TypeTable) (s : Shape) (v : Val) (c : Case) (at : ℕ) →
 case_wants t s v c at h = record {
   few = omega (arith, h.info.size, tag_few (case_count h.cases));
   inside = omega (arith, h.info.size, tag-le-size false h.kind h.cases, ap (size false) h.shape);
-  room = omega (arith, h.info.offset, case_room false utf8 h.kind h.cases c.tag h.inside, ap (members_end false 0) h.shapes, ap (size false) h.shape);
+  room = omega (arith, h.info.offset, case_room false (host_texts utf8) h.kind h.cases c.tag h.inside, ap (members_end false 0) h.shapes, ap (size false) h.shape);
   known = h.known;
   count = h.count;
   falls = omega (arith, ap deepest h.shapes, case_shallow h.cases c.tag, ap depth h.shape);
@@ -99,13 +100,13 @@ module _ {T G : Type 0} (L : GuestLaws G) (options : ℕ) where
       → PartsStoreTo L.seen L.moves options (record a { memory = m }) c place (case_members cs d) 0 (at + payload_offset false cs) names vs (cap (place + 1)) r → StoresTo L.seen L.moves options a c (variant k cs) at v place r
   case_stores a c m k cs at d names vs v place r small room given lt few of named w tag h = record {
     handles = h.handles;
-    storing = variant_stored false (encoding_by a options) k cs at d lt (Named (case_members cs d) names vs) (moment_of L.seen a) (moment (L.seen a.guest) m) (moment_of L.seen c)
-        (tag_written false (encoding_by a options) (L.seen a.guest) a.memory m cs at d small (omega (arith, room, tag-le-size false k cs)) w (tag ∙ mod-eq_of_lt (tag_fits (case_count cs) d lt few)))
+    storing = variant_stored false (host_texts (encoding_by a options)) k cs at d lt (Named (case_members cs d) names vs) (moment_of L.seen a) (moment (L.seen a.guest) m) (moment_of L.seen c)
+        (tag_written false (host_texts (encoding_by a options)) (L.seen a.guest) a.memory m cs at d small (omega (arith, room, tag-le-size false k cs)) w (tag ∙ mod-eq_of_lt (tag_fits (case_count cs) d lt few)))
         (HasTree (variant k cs) v) (ending_of r) (omega (arith, room, w.same_length, h.storing.lowering.goes.no_shorter))
         (case_told false (encoding_by a options) k cs d names vs v lt of named) (case_untold false (encoding_by a options) k cs d names vs v lt of named) h.storing;
     handed = passes_as a.component.types a.ledger c.ledger (all_passes (case_members cs d) vs) (passes v (variant k cs)) h.handles r given h.handed;
     counted = case_counted (encoding_by a options) k cs d vs v place r of (count_members (encoding_by a options) place (case_members cs d) names vs (cap (place + 1)) r named h.counted);
-    moved = subst (λ (n : ℕ). Moves L.seen L.moves (record { guest = a.guest; len = n }) (guest_of c) (ending_of r)) w.same_length h.moved;
+    moved = subst (λ (n : ℕ). Moves L.seen L.moves (record { guest = a.guest; len = n; wide = a.wide }) (guest_of c) (ending_of r)) w.same_length h.moved;
     same = h.same;
     quiet = λ none. h.quiet (case_quiet cs d none);
   }

@@ -6,6 +6,7 @@ use Rattle.std.proofs.lemmas.List.{get_or_past, get_or-set_other, get_or-set_sam
 use Rattle.canon_lowering.proofs.AimedCases.{variant_words}
 use Rattle.canon_lowering.proofs.AimedWords.{members_flat_kept}
 use Rattle.canon_lowering.proofs.Attempts.{attempt_as, attempt_other, keeps_same}
+use Rattle.canon_model.specs.Homes.{host_texts}
 use Rattle.canon_model.specs.Fits.{MembersFit}
 use Rattle.canon_lowering.proofs.WordsKept.{members_homes_moved}
 use Rattle.canon_lowering.specs.Attempt.{LowersMembers, LowersValue, members_words, value_words}
@@ -42,15 +43,15 @@ use Rattle.canon_value_parts.proofs.WordSteps.{have_fit}
 
 -- the words of a payload stay where those behind it are written
 members_moved : {hs : List ℕ} (wide : Bool) (a b : Moment) (enc : Encoding) (ms : Members) (ws vs : List ℕ) (i j : ℕ) (Have : Trees → Type 0) (e : Ending) → ((ts : Trees) → Have ts → MembersFit ms ts) → SameWords ws i vs j (members_flat ms)
-    → LowersMembers wide a b enc ms ws i Have hs e → LowersMembers wide a b enc ms vs j Have hs e
-members_moved wide a b enc ms ws vs i j Have e fits same h = attempt_as wide a b [] [] _ (members_words wide enc ms vs j Have) e (λ k q. q) (record {
+    → LowersMembers wide a b (host_texts enc) ms ws i Have hs e → LowersMembers wide a b (host_texts enc) ms vs j Have hs e
+members_moved wide a b enc ms ws vs i j Have e fits same h = attempt_as wide a b [] [] _ (members_words wide (host_texts enc) ms vs j Have) e (λ k q. q) (record {
   turn = λ ts. ts;
   back = λ ts. ts;
   is = λ ts have. have;
   is_back = λ ts have. have;
   asks = λ ts have. refl;
-  rep = λ fresh ts have g. members_flat_kept wide enc fresh fresh b.bytes b.bytes (keeps_same _ _ _ (λ k q. q)) ws vs ms i j ts same g;
-  home = λ pointer ts xs ys have g. members_homes_moved wide pointer enc ws vs ms i j ts xs ys (fits ts have) same g;
+  rep = λ fresh ts have g. members_flat_kept wide (host_texts enc) fresh fresh b.bytes b.bytes (keeps_same _ _ _ (λ k q. q)) ws vs ms i j ts same g;
+  home = λ pointer ts xs ys have g. members_homes_moved wide pointer (host_texts enc) ws vs ms i j ts xs ys (fits ts have) same g;
   handles = λ ts have. refl;
 }) h
 
@@ -89,11 +90,11 @@ module _ {T G : Type 0} (L : GuestLaws G) (options : ℕ) where
       let same : SameWords dst2 (from.word + 1) dst3 (from.word + 1) (members_flat ms) =
       λ p q l u is. let at : p ≡ q = omega (arith, is) in ap (slice_index dst2) at ∙ sym (clears.written.stays.before q (omega (arith, u, at, h.passed))) in
       let zeros : AreZero dst3 (from.word + 1 + members_flat ms) (from.word + 1 + cases_flat cs) = λ j l u. clears.zeros j (omega (arith, l, h.passed)) (omega (arith, u, words)) in
-      let moved : LowersMembers false (moment_of L.seen a) (moment_of L.seen c) enc ms dst3 (from.word + 1) (Named ms names vs) h.handles done =
+      let moved : LowersMembers false (moment_of L.seen a) (moment_of L.seen c) (host_texts enc) ms dst3 (from.word + 1) (Named ms names vs) h.handles done =
       members_moved false (moment_of L.seen a) (moment_of L.seen c) enc ms dst2 dst3 (from.word + 1) (from.word + 1) (Named ms names vs) done (λ ts (_, have). have_fit ms vs ts have) same h.lowered in
       record {
         handles = h.handles;
-        lowered = variant_words false (moment_of L.seen a) (moment_of L.seen c) enc k cs dst3 from.word d (Named ms names vs) (HasTree (variant k cs) v) done lt tag3 few zeros
+        lowered = variant_words false (moment_of L.seen a) (moment_of L.seen c) (host_texts enc) k cs dst3 from.word d (Named ms names vs) (HasTree (variant k cs) v) done lt tag3 few zeros
             (case_told false enc k cs d names vs v lt of named) (case_untold false enc k cs d names vs v lt of named) moved;
         handed = passes_as a.component.types a.ledger c.ledger (all_passes ms vs) (passes v (variant k cs)) h.handles (Ok past) given h.handed;
         stays = record {
@@ -116,14 +117,14 @@ module _ {T G : Type 0} (L : GuestLaws G) (options : ℕ) where
       let stopped : Result Spot Fault = Err e in
       let enc : Encoding = encoding_by a options in
       let zeros : AreZero (d ∷ []) (1 + members_flat ms) (1 + cases_flat cs) = λ j l u. omega (arith, get_or_past (d ∷ []) j 0 (omega (arith, l))) in
-      let inner : LowersMembers false (moment_of L.seen a) (moment_of L.seen c) enc ms (d ∷ []) 1 (Named ms names vs) h.handles (fault_ending e) =
-      attempt_other false (moment_of L.seen a) (moment_of L.seen c) [] _ (members_words false enc ms (d ∷ []) 1 (Named ms names vs)) (fault_ending e) (not_done e) (λ ts have. (have, refl)) h.lowered in
-      let whole : LowersValue false (moment_of L.seen a) (moment_of L.seen c) enc (variant k cs) (d ∷ []) 0 (HasTree (variant k cs) v) h.handles (fault_ending e) =
-      variant_words false (moment_of L.seen a) (moment_of L.seen c) enc k cs (d ∷ []) 0 d (Named ms names vs) (HasTree (variant k cs) v) (fault_ending e) lt refl few zeros
+      let inner : LowersMembers false (moment_of L.seen a) (moment_of L.seen c) (host_texts enc) ms (d ∷ []) 1 (Named ms names vs) h.handles (fault_ending e) =
+      attempt_other false (moment_of L.seen a) (moment_of L.seen c) [] _ (members_words false (host_texts enc) ms (d ∷ []) 1 (Named ms names vs)) (fault_ending e) (not_done e) (λ ts have. (have, refl)) h.lowered in
+      let whole : LowersValue false (moment_of L.seen a) (moment_of L.seen c) (host_texts enc) (variant k cs) (d ∷ []) 0 (HasTree (variant k cs) v) h.handles (fault_ending e) =
+      variant_words false (moment_of L.seen a) (moment_of L.seen c) (host_texts enc) k cs (d ∷ []) 0 d (Named ms names vs) (HasTree (variant k cs) v) (fault_ending e) lt refl few zeros
       (case_told false enc k cs d names vs v lt of named) (case_untold false enc k cs d names vs v lt of named) inner in
       record {
         handles = h.handles;
-        lowered = attempt_other false (moment_of L.seen a) (moment_of L.seen c) [] _ (value_words false enc (variant k cs) dst2 from.word (HasTree (variant k cs) v)) (fault_ending e) (not_done e) (λ t has. (has, refl)) whole;
+        lowered = attempt_other false (moment_of L.seen a) (moment_of L.seen c) [] _ (value_words false (host_texts enc) (variant k cs) dst2 from.word (HasTree (variant k cs) v)) (fault_ending e) (not_done e) (λ t has. (has, refl)) whole;
         handed = passes_as a.component.types a.ledger c.ledger (all_passes ms vs) (passes v (variant k cs)) h.handles stopped given h.handed;
         stays = record {
           same_length = h.stays.same_length ∙ (ap length e1 ∙ length-set dst from.word d);

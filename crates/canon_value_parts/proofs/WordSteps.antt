@@ -1,5 +1,6 @@
 -- Steps of lowering to words, over plain variables.
 use Rattle.std.proofs.Common.{◌∙◌, ◌++◌, List, [], ◌∷◌, subst, sym, ◌≡◌, ◌≤◌, ◌<◌, ◌+◌, ◌^◌, Err, Ok, Result, ap, arith, inl, inr, length, refl, set, suc, true, zero, ℕ, ◌%◌, false}
+use Rattle.canon_model.specs.Homes.{host_texts}
 use Rattle.canon_model.specs.Shape.{Cases, Members, Shape, bare, borrow, fixed, flags, list, member, no_cases, no_members, own, payload, product, scalar, string, variant, Name, member_count}
 use Rattle.canon_model.specs.Tree.{Tree, Trees, no_trees, payload_of}
 use Rattle.canon_model.specs.Fits.{AllTrees, CaseFits, Fits, MembersFit}
@@ -106,7 +107,7 @@ module _ {T G : Type 0} (L : GuestLaws G) (options : ℕ) where
       → LowersTo L.seen L.moves options a a dst dst from (Err e) s v
   value_refused a dst from s v e small is b = record {
     handles = [];
-    lowered = subst (λ (end : Ending). LowersValue false (moment_of L.seen a) (moment_of L.seen a) (encoding_by a options) s dst from.word (HasTree s v) [] end) (sym (own_ends e is)) (attempt_refused false (moment_of L.seen a) [] _ small);
+    lowered = subst (λ (end : Ending). LowersValue false (moment_of L.seen a) (moment_of L.seen a) (host_texts (encoding_by a options)) s dst from.word (HasTree s v) [] end) (sym (own_ends e is)) (attempt_refused false (moment_of L.seen a) [] _ small);
     handed = passes_stopped a.component.types a.ledger a.ledger (passes v s) e refl (own_elsewhere e is);
     stays = stays_none from.word dst;
     passed = tt;
@@ -125,7 +126,7 @@ module _ {T G : Type 0} (L : GuestLaws G) (options : ℕ) where
       let here : slice_index (set dst from.word w) from.word ≡ w = get_or-set_same dst from.word w 0 (omega (arith, room, ap flat shape)) in
       subst (λ (s : Shape). LowersTo L.seen L.moves options a a dst (set dst from.word w) from (Ok to) s v) (sym shape) (record {
         handles = [];
-        lowered = scalar_words false (moment_of L.seen a) (encoding_by a options) (set dst from.word w) from.word (HasTree (scalar k) v) small k t
+        lowered = scalar_words false (moment_of L.seen a) (host_texts (encoding_by a options)) (set dst from.word w) from.word (HasTree (scalar k) v) small k t
             (subst (λ (x : ℕ). ScalarIs k (x % 2 ^ flat_bits k) t) (sym here) is) (subst (λ (x : ℕ). IsLeastWord k x) (sym here) least) has;
         handed = passes_none a.component.types a.ledger a.ledger (passes v (scalar k)) refl (ap (passes v) (sym shape) ∙ none);
         stays = record { same_length = length-set dst from.word w; before = λ p l. get_or-set_other dst from.word p w 0 (omega (arith, l)) };
@@ -142,7 +143,7 @@ module _ {T G : Type 0} (L : GuestLaws G) (options : ℕ) where
       → PlacesTo L.seen L.moves options a c s v from.place (Ok b) → LowersTo L.seen L.moves options a c dst dst2 from (Ok (record { word = from.word + 2; place = b.next })) s v
   placed_lowers a c dst dst2 from s v b block two stays there h = record {
     handles = h.handles;
-    lowered = words_moved false (moment_of L.seen a) (moment_of L.seen c) (encoding_by a options) s (b.pointer ∷ b.length ∷ []) dst2 0 from.word (HasTree s v) done (has_fits s v)
+    lowered = words_moved false (moment_of L.seen a) (moment_of L.seen c) (host_texts (encoding_by a options)) s (b.pointer ∷ b.length ∷ []) dst2 0 from.word (HasTree s v) done (has_fits s v)
         (subst (λ (n : ℕ). SameWords (b.pointer ∷ b.length ∷ []) 0 dst2 from.word n) (sym two) there) h.lowered;
     handed = h.handed;
     stays = stays;
@@ -157,7 +158,7 @@ module _ {T G : Type 0} (L : GuestLaws G) (options : ℕ) where
       → LowersTo L.seen L.moves options a c dst dst from (Err e) s v
   placed_refused a c dst from s v e block h = record {
     handles = h.handles;
-    lowered = attempt_other false (moment_of L.seen a) (moment_of L.seen c) [] _ (value_words false (encoding_by a options) s dst from.word (HasTree s v)) (fault_ending e) (not_done e) (λ t has. (has, refl)) h.lowered;
+    lowered = attempt_other false (moment_of L.seen a) (moment_of L.seen c) [] _ (value_words false (host_texts (encoding_by a options)) s dst from.word (HasTree s v)) (fault_ending e) (not_done e) (λ t has. (has, refl)) h.lowered;
     handed = h.handed;
     stays = stays_none from.word dst;
     passed = tt;
@@ -173,7 +174,7 @@ module _ {T G : Type 0} (L : GuestLaws G) (options : ℕ) where
   unfolding flat requests leaves
   parts_none a dst from place small few = record {
     handles = [];
-    lowered = attempt_none false (moment_of L.seen a) [] (members_words false (encoding_by a options) no_members dst from.word (Named no_members [] [])) no_trees small (refl, (refl, refl)) (λ ts h. refl) refl (λ pointer rest. refl);
+    lowered = attempt_none false (moment_of L.seen a) [] (members_words false (host_texts (encoding_by a options)) no_members dst from.word (Named no_members [] [])) no_trees small (refl, (refl, refl)) (λ ts h. refl) refl (λ pointer rest. refl);
     handed = passes_none a.component.types a.ledger a.ledger [] refl refl;
     stays = stays_none from.word dst;
     passed = omega arith;
@@ -185,10 +186,10 @@ module _ {T G : Type 0} (L : GuestLaws G) (options : ℕ) where
 
   -- the trees of members are a first one and others
   first_and : {hs : List ℕ} (a b : Parts T G) (enc : Encoding) (name named : Name) (s : Shape) (ms : Members) (ws : List ℕ) (i : ℕ) (names : List Name) (v : Val) (vs : List Val) (e : Ending) → named ≡ name
-      → LowersMembers false (moment_of L.seen a) (moment_of L.seen b) enc (member name s ms) ws i (FirstAnd (HasTree s v) (Named ms names vs)) hs e
-      → LowersMembers false (moment_of L.seen a) (moment_of L.seen b) enc (member name s ms) ws i (Named (member name s ms) (named ∷ names) (v ∷ vs)) hs e
-  first_and a b enc name named s ms ws i names v vs e en h = attempt_as false (moment_of L.seen a) (moment_of L.seen b) [] [] (members_words false enc (member name s ms) ws i (FirstAnd (HasTree s v) (Named ms names vs)))
-      (members_words false enc (member name s ms) ws i (Named (member name s ms) (named ∷ names) (v ∷ vs))) e (λ j q. q)
+      → LowersMembers false (moment_of L.seen a) (moment_of L.seen b) (host_texts enc) (member name s ms) ws i (FirstAnd (HasTree s v) (Named ms names vs)) hs e
+      → LowersMembers false (moment_of L.seen a) (moment_of L.seen b) (host_texts enc) (member name s ms) ws i (Named (member name s ms) (named ∷ names) (v ∷ vs)) hs e
+  first_and a b enc name named s ms ws i names v vs e en h = attempt_as false (moment_of L.seen a) (moment_of L.seen b) [] [] (members_words false (host_texts enc) (member name s ms) ws i (FirstAnd (HasTree s v) (Named ms names vs)))
+      (members_words false (host_texts enc) (member name s ms) ws i (Named (member name s ms) (named ∷ names) (v ∷ vs))) e (λ j q. q)
       (record { turn = λ ts. ts; back = λ ts. ts; is = named_join name named s ms names v vs en; is_back = named_split name named s ms names v vs; asks = λ ts h. refl; rep = λ fresh ts is h. h; home = λ pointer ts xs ys is h. h; handles = λ ts h. refl }) h
 
   pub parts_cons : (a b c : Parts T G) (dst dst2 dst3 : List ℕ) (place : ℕ) (name named : Name) (s : Shape) (ms : Members) (names : List Name) (v : Val) (vs : List Val) (from mid : Spot) (r : Result Spot Fault) → named ≡ name
@@ -197,13 +198,13 @@ module _ {T G : Type 0} (L : GuestLaws G) (options : ℕ) where
   unfolding flat
   parts_cons a b c dst dst2 dst3 place name named s ms names v vs from mid r en h k =
       let enc : Encoding = encoding_by a options in
-      let rest : LowersMembers false (moment_of L.seen b) (moment_of L.seen c) enc ms dst3 (from.word + flat s) (Named ms names vs) k.handles (ending_of r) =
-      subst (λ (i : ℕ). LowersMembers false (moment_of L.seen b) (moment_of L.seen c) enc ms dst3 i (Named ms names vs) k.handles (ending_of r)) h.passed
-      (subst (λ (x : Encoding). LowersMembers false (moment_of L.seen b) (moment_of L.seen c) x ms dst3 mid.word (Named ms names vs) k.handles (ending_of r)) (handles_encoding a b options h.same) k.lowered) in
+      let rest : LowersMembers false (moment_of L.seen b) (moment_of L.seen c) (host_texts enc) ms dst3 (from.word + flat s) (Named ms names vs) k.handles (ending_of r) =
+      subst (λ (i : ℕ). LowersMembers false (moment_of L.seen b) (moment_of L.seen c) (host_texts enc) ms dst3 i (Named ms names vs) k.handles (ending_of r)) h.passed
+      (subst (λ (x : Encoding). LowersMembers false (moment_of L.seen b) (moment_of L.seen c) (host_texts x) ms dst3 mid.word (Named ms names vs) k.handles (ending_of r)) (handles_encoding a b options h.same) k.lowered) in
       record {
         handles = h.handles ++ k.handles;
         lowered = first_and a c enc name named s ms dst3 from.word names v vs (ending_of r) en
-            (members_words_cons false enc name s ms from.word (HasTree s v) (Named ms names vs) dst3 (moment_of L.seen a) (moment_of L.seen b) (moment_of L.seen c) dst2 (ending_of r) (has_fits s v)
+            (members_words_cons false (host_texts enc) name s ms from.word (HasTree s v) (Named ms names vs) dst3 (moment_of L.seen a) (moment_of L.seen b) (moment_of L.seen c) dst2 (ending_of r) (has_fits s v)
             (first_stay from.word mid.word (flat s) dst2 dst3 h.passed k.stays) h.lowered rest);
         handed = passes_then a.component.types a.ledger b.ledger c.ledger (passes v s) (all_passes ms vs) h.handles k.handles r h.handed
             (subst (λ (i : Instance). LowersHandles i b.ledger c.ledger (all_passes ms vs) k.handles r) (handles_instance a b h.same) k.handed);
@@ -222,7 +223,7 @@ module _ {T G : Type 0} (L : GuestLaws G) (options : ℕ) where
   parts_stop a b dst dst2 place name named s ms names v vs from e en h = record {
     handles = h.handles;
     lowered = first_and a b (encoding_by a options) name named s ms dst2 from.word names v vs (fault_ending e) en
-        (members_words_stop false (encoding_by a options) name s ms from.word (HasTree s v) (Named ms names vs) dst2 (moment_of L.seen a) (moment_of L.seen b) dst2 (fault_ending e) (not_done e) h.lowered);
+        (members_words_stop false (host_texts (encoding_by a options)) name s ms from.word (HasTree s v) (Named ms names vs) dst2 (moment_of L.seen a) (moment_of L.seen b) dst2 (fault_ending e) (not_done e) h.lowered);
     handed = passes_stop a.component.types a.ledger b.ledger (passes v s) (all_passes ms vs) e h.handed;
     stays = h.stays;
     passed = tt;
@@ -256,8 +257,8 @@ module _ {T G : Type 0} (L : GuestLaws G) (options : ℕ) where
   members_lower a c dst dst2 from (product k ns) ms names vs v r few e p count given h = record {
     handles = h.handles;
     lowered =
-        product_words false (moment_of L.seen a) (moment_of L.seen c) (encoding_by a options) k ns dst2 from.word (Named ns names vs) (HasTree (product k ns) v) (ending_of r) (product_is k ns names vs v p) (product_back k ns names vs v p)
-        (subst (λ (xs : Members). LowersMembers false (moment_of L.seen a) (moment_of L.seen c) (encoding_by a options) xs dst2 from.word (Named xs names vs) h.handles (ending_of r)) e h.lowered);
+        product_words false (moment_of L.seen a) (moment_of L.seen c) (host_texts (encoding_by a options)) k ns dst2 from.word (Named ns names vs) (HasTree (product k ns) v) (ending_of r) (product_is k ns names vs v p) (product_back k ns names vs v p)
+        (subst (λ (xs : Members). LowersMembers false (moment_of L.seen a) (moment_of L.seen c) (host_texts (encoding_by a options)) xs dst2 from.word (Named xs names vs) h.handles (ending_of r)) e h.lowered);
     handed = passes_as a.component.types a.ledger c.ledger (all_passes ms vs) (passes v (product k ns)) h.handles r given h.handed;
     stays = h.stays;
     passed = subst (λ (n : ℕ). WordsPassed from n r) (ap members_flat e) h.passed;
@@ -272,9 +273,9 @@ module _ {T G : Type 0} (L : GuestLaws G) (options : ℕ) where
       let named : names ≡ member_names (copies n s) = en ∙ copies_names n s vs enough in
       record {
         handles = h.handles;
-        lowered = fixed_words false (moment_of L.seen a) (moment_of L.seen c) (encoding_by a options) n s dst2 from.word (Named (copies n s) names vs) (HasTree (fixed n s) v) (ending_of r)
+        lowered = fixed_words false (moment_of L.seen a) (moment_of L.seen c) (host_texts (encoding_by a options)) n s dst2 from.word (Named (copies n s) names vs) (HasTree (fixed n s) v) (ending_of r)
             (fixed_is n s names vs v enough p) (fixed_back n s names vs v en enough p)
-            (subst (λ (ys : Members). LowersMembers false (moment_of L.seen a) (moment_of L.seen c) (encoding_by a options) ys dst2 from.word (Named ys names vs) h.handles (ending_of r)) e h.lowered);
+            (subst (λ (ys : Members). LowersMembers false (moment_of L.seen a) (moment_of L.seen c) (host_texts (encoding_by a options)) ys dst2 from.word (Named ys names vs) h.handles (ending_of r)) e h.lowered);
         handed = passes_as a.component.types a.ledger c.ledger (all_passes ms vs) (passes v (fixed n s)) h.handles r given h.handed;
         stays = h.stays;
         passed = subst (λ (k : ℕ). WordsPassed from k r) (ap members_flat e ∙ copies_flat n s) h.passed;
@@ -297,7 +298,7 @@ module _ {T G : Type 0} (L : GuestLaws G) (options : ℕ) where
 
 module _ {T G : Type 0} (L : GuestLaws G) (options : ℕ) (a c : Parts T G) (dst dst2 : List ℕ) (ms : Members) (vs : List Val) (r : Result Spot Fault) (named : no_names vs ≡ member_names ms) (from : Spot) (first : from.word ≡ 0)
     (h : PartsLowerTo L.seen L.moves options a c dst dst2 from r 0 ms (no_names vs) vs) where
-  pub near_lowered : members_flat ms ≤ max_params → length dst ≡ members_flat ms → LowersArgs false (moment_of L.seen a) (moment_of L.seen c) (encoding_by a options) ms (HaveTrees ms vs) dst2 h.handles (ending_of r)
+  pub near_lowered : members_flat ms ≤ max_params → length dst ≡ members_flat ms → LowersArgs false (moment_of L.seen a) (moment_of L.seen c) (host_texts (encoding_by a options)) ms (HaveTrees ms vs) dst2 h.handles (ending_of r)
   near_lowered near count =
-      args_near false (encoding_by a options) ms (Named ms (no_names vs) vs) (HaveTrees ms vs) (λ ts have. have.1) (λ ts have. (named, have)) (moment_of L.seen a) (moment_of L.seen c) dst2 (ending_of r) near (h.stays.same_length ∙ count)
-      (subst (λ (i : ℕ). LowersMembers false (moment_of L.seen a) (moment_of L.seen c) (encoding_by a options) ms dst2 i (Named ms (no_names vs) vs) h.handles (ending_of r)) first h.lowered)
+      args_near false (host_texts (encoding_by a options)) ms (Named ms (no_names vs) vs) (HaveTrees ms vs) (λ ts have. have.1) (λ ts have. (named, have)) (moment_of L.seen a) (moment_of L.seen c) dst2 (ending_of r) near (h.stays.same_length ∙ count)
+      (subst (λ (i : ℕ). LowersMembers false (moment_of L.seen a) (moment_of L.seen c) (host_texts (encoding_by a options)) ms dst2 i (Named ms (no_names vs) vs) h.handles (ending_of r)) first h.lowered)

@@ -4,6 +4,7 @@ use Rattle.std.specs.Prelude.{◌≡◌, ◌≤◌, ◌+◌, ◌<◌, ◌%◌, �
 use Rattle.canon_lowering.specs.Attempt.{LowersMembers, LowersValue}
 use Rattle.canon_memory.specs.Guest.{GuestIn, Seen}
 use Rattle.canon_memory.specs.declared.event.Event.{Event}
+use Rattle.canon_model.specs.Homes.{host_texts}
 use Rattle.canon_model.specs.Flat.{AreZero, IsLeastWord, flat_bits}
 use Rattle.canon_model.specs.Layout.{flat, members_flat}
 use Rattle.canon_model.specs.Rep.{ScalarIs}
@@ -68,7 +69,7 @@ module _ {T G : Type 0} (seen : G → Seen) (moves : GuestIn G → List Event �
   -- a value of the shape s
   pub record LowersTo (s : Shape) (v : Val) : Type 0 where
     pub handles : List ℕ
-    pub lowered : LowersValue false (moment_of seen before) (moment_of seen after) (encoding_by before options) s dst2 from.word (HasTree s v) handles (ending_of result)
+    pub lowered : LowersValue false (moment_of seen before) (moment_of seen after) (host_texts (encoding_by before options)) s dst2 from.word (HasTree s v) handles (ending_of result)
     pub handed : LowersHandles before.component.types before.ledger after.ledger (passes v s) handles result
     pub stays : WordsStay from.word dst dst2
     pub passed : WordsPassed from (flat s) result
@@ -80,7 +81,7 @@ module _ {T G : Type 0} (seen : G → Seen) (moves : GuestIn G → List Event �
   -- values in a row as members; the names of a record that has this place are tested
   pub record PartsLowerTo (place : ℕ) (ms : Members) (names : List Name) (vs : List Val) : Type 0 where
     pub handles : List ℕ
-    pub lowered : LowersMembers false (moment_of seen before) (moment_of seen after) (encoding_by before options) ms dst2 from.word (λ ts. (names ≡ member_names ms) × HaveTrees ms vs ts) handles (ending_of result)
+    pub lowered : LowersMembers false (moment_of seen before) (moment_of seen after) (host_texts (encoding_by before options)) ms dst2 from.word (λ ts. (names ≡ member_names ms) × HaveTrees ms vs ts) handles (ending_of result)
     pub handed : LowersHandles before.component.types before.ledger after.ledger (all_passes ms vs) handles result
     pub stays : WordsStay from.word dst dst2
     pub passed : WordsPassed from (members_flat ms) result

@@ -1,6 +1,7 @@
 //! Values, lowered into words.
 
 ghost use Rattle.std.specs.Prelude.{◌≡◌, ◌≤◌, ◌<◌, ◌+◌, ◌^◌, ◌∷◌, [], IfErr, Ok, OnOk, false, length};
+ghost use Rattle.canon_model.specs.Homes.{host_texts};
 ghost use Rattle.canon_lowering.specs.Attempt.{LowersArgs, LowersMembers};
 ghost use Rattle.canon_model.specs.Flat.{SameWords, max_params};
 ghost use Rattle.canon_model.specs.Layout.{flat, members_flat};
@@ -47,7 +48,7 @@ pub fn lower_args_near<T, G: Guest>(
     requires near { members_flat (tuple_members (component_types cx.old.core.now) ty) ≤ max_params }
     requires words { length dst.old ≡ members_flat (tuple_members (component_types cx.old.core.now) ty) }
     ensures lowered { PartsLower cx.old.core.now cx.new.core.now (all_passes (tuple_members (component_types cx.old.core.now) ty) args.now)
-        (λ hs. LowersArgs false (moment_of G.seen cx.old.core.now) (moment_of G.seen cx.new.core.now) (encoding_by cx.old.core.now cx.old.options)
+        (λ hs. LowersArgs false (moment_of G.seen cx.old.core.now) (moment_of G.seen cx.new.core.now) (host_texts (encoding_by cx.old.core.now cx.old.options))
         (tuple_members (component_types cx.old.core.now) ty) (HaveTrees (tuple_members (component_types cx.old.core.now) ty) args.now) dst.new hs (ending_of result)) result }
     ensures cause { IfErr result (BlamesMembers (encoding_by cx.old.core.now cx.old.options) (tuple_members (component_types cx.old.core.now) ty) args.now) }
     ensures small { OnOk result (AreSmall (encoding_by cx.old.core.now cx.old.options) (tuple_members (component_types cx.old.core.now) ty) args.now) }
@@ -77,7 +78,7 @@ pub fn lower_results_near<T, G: Guest>(
     requires count { length results.now ≡ member_count (tuple_members (component_types cx.old.core.now) ty) }
     requires words { length dst.old ≡ members_flat (tuple_members (component_types cx.old.core.now) ty) }
     ensures lowered { PartsLower cx.old.core.now cx.new.core.now (all_passes (tuple_members (component_types cx.old.core.now) ty) results.now)
-        (λ hs. LowersMembers false (moment_of G.seen cx.old.core.now) (moment_of G.seen cx.new.core.now) (encoding_by cx.old.core.now cx.old.options)
+        (λ hs. LowersMembers false (moment_of G.seen cx.old.core.now) (moment_of G.seen cx.new.core.now) (host_texts (encoding_by cx.old.core.now cx.old.options))
         (tuple_members (component_types cx.old.core.now) ty) dst.new 0 (HaveTrees (tuple_members (component_types cx.old.core.now) ty) results.now) hs (ending_of result)) result }
     ensures cause { IfErr result (BlamesMembers (encoding_by cx.old.core.now cx.old.options) (tuple_members (component_types cx.old.core.now) ty) results.now) }
     ensures small { OnOk result (AreSmall (encoding_by cx.old.core.now cx.old.options) (tuple_members (component_types cx.old.core.now) ty) results.now) }

@@ -10,7 +10,7 @@ returns-clause-asked g c =
     let L : GuestLaws _ = record { seen = g.G.Guest.seen; moves = g.G.Guest.moves; stays = g.met.G.Guest.stays; goes_on = g.met.G.Guest.goes_on } in
     record {
       does = c.realloc.ensures.does;
-      moved = moves_asked L core.guest asked.guest core.memory asked.memory (call 0 0 a.align a.size) c.realloc.result c.realloc.ensures.does c.realloc.ensures.moves;
+      moved = moves_asked L core asked (call 0 0 a.align a.size) c.realloc.result c.realloc.ensures.does c.realloc.ensures.moves;
       same = c.realloc.ensures.same;
       small = c.realloc.ensures.small;
     }

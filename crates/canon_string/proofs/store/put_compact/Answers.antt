@@ -21,7 +21,8 @@ returns-in-Err-clause-puts g c =
     let L : GuestLaws _ = record { seen = g.G.Guest.seen; moves = g.G.Guest.moves; stays = g.met.G.Guest.stays; goes_on = g.met.G.Guest.goes_on } in
     let (cs, (can, is)) = c.requires.text in
     let spells : Spells in_utf8 a.text.now cs = record { can = can; is = is } in
-    compact_unasked L a.cx.now.options a.cx.now.core.now a.text.now cs spells c.ask.new.cx.core.now c.in-Err.fault c.requires.form c.in-Err.ensures.asked
+    compact_unasked L a.cx.now.options a.cx.now.core.now a.text.now cs spells c.ask.new.cx.core.now c.in-Err.fault c.requires.form
+    (few a.text.now cs c.is_past_compact.result c.if-is_past_compact.false (c.is_past_compact.ensures cs spells)) c.in-Err.ensures.asked
 
 pub returns-in-Ok-fit-clause-puts : goal.returns-in-Ok-fit-clause-puts
 returns-in-Ok-fit-clause-puts g c =
@@ -44,7 +45,8 @@ returns-in-Err-fit-clause-puts g c =
     let done = c.write_latin1-done in
     narrow_unfitted L a.cx.now.options a.cx.now.core.now a.text.now cs spells c.ask.new.cx.core.now c.as_slice_mut.result.now done.new.memory
     c.in-Ok.pointer done.result.src_read done.result.dst_written c.requires.form c.as_slice_mut.ensures.value c.in-Ok.ensures.asked
-    done.ensures.writes done.ensures.narrows c.if-done-count.true c.fit.new.cx.core.now c.in-Err-fit.fault c.in-Err-fit.ensures.fits
+    done.ensures.writes done.ensures.narrows c.if-done-count.true c.fit.new.cx.core.now c.in-Err-fit.fault
+    (few a.text.now cs c.is_past_compact.result c.if-is_past_compact.false (c.is_past_compact.ensures cs spells)) c.in-Err-fit.ensures.fits
 
 pub returns-in-Err-ask_again-clause-puts : goal.returns-in-Err-ask_again-clause-puts
 returns-in-Err-ask_again-clause-puts g c =
@@ -55,7 +57,8 @@ returns-in-Err-ask_again-clause-puts g c =
     let done = c.write_latin1-done in
     wide_ungrown L a.cx.now.options a.cx.now.core.now a.text.now cs spells c.ask.new.cx.core.now c.as_slice_mut.result.now done.new.memory
     c.in-Ok.pointer done.result.src_read done.result.dst_written c.requires.form c.as_slice_mut.ensures.value c.in-Ok.ensures.asked
-    done.ensures.writes done.ensures.narrows c.if-done-count.false c.ask_again.new.cx.core.now c.in-Err-ask_again.fault c.in-Err-ask_again.ensures.asked
+    done.ensures.writes done.ensures.narrows c.if-done-count.false c.ask_again.new.cx.core.now c.in-Err-ask_again.fault
+    (few a.text.now cs c.is_past_compact.result c.if-is_past_compact.false (c.is_past_compact.ensures cs spells)) c.in-Err-ask_again.ensures.asked
 
 pub write_units-units-requires-clause-text : goal.write_units-units-requires-clause-text
 write_units-units-requires-clause-text g c =
@@ -97,4 +100,5 @@ returns-in-Err-fit-2-clause-puts g c =
     done.ensures.writes done.ensures.narrows c.if-done-count.false
     c.ask_again.new.cx.core.now c.as_slice_mut-2.result.now wrote.new.memory c.in-Ok-ask_again.pointer wrote.result
     c.as_slice_mut-2.ensures.value c.in-Ok-ask_again.ensures.asked wrote.ensures.writes wrote.ensures.widens
-    c.fit-2.new.cx.core.now c.in-Err-fit-2.fault c.in-Err-fit-2.ensures.fits
+    c.fit-2.new.cx.core.now c.in-Err-fit-2.fault
+    (few a.text.now cs c.is_past_compact.result c.if-is_past_compact.false (c.is_past_compact.ensures cs spells)) c.in-Err-fit-2.ensures.fits

@@ -19,7 +19,7 @@ returns-in-Err-clause-puts g c =
     let L : GuestLaws _ = record { seen = g.G.Guest.seen; moves = g.G.Guest.moves; stays = g.met.G.Guest.stays; goes_on = g.met.G.Guest.goes_on } in
     let (cs, (can, is)) = c.requires.text in
     let spells : Spells in_utf8 a.text.now cs = record { can = can; is = is } in
-    utf16_unasked L a.cx.now.options a.cx.now.core.now a.text.now cs spells c.ask.new.cx.core.now c.in-Err.fault c.requires.form c.in-Err.ensures.asked
+    utf16_unasked L a.cx.now.options a.cx.now.core.now a.text.now cs spells c.ask.new.cx.core.now c.in-Err.fault c.requires.form (omega (arith, c.if-count.false)) c.in-Err.ensures.asked
 
 pub returns-in-Ok-fit-clause-puts : goal.returns-in-Ok-fit-clause-puts
 returns-in-Ok-fit-clause-puts g c =
@@ -39,4 +39,4 @@ returns-in-Err-fit-clause-puts g c =
     let spells : Spells in_utf8 a.text.now cs = record { can = can; is = is } in
     let wrote = c.write_units-units in
     utf16_unfitted L a.cx.now.options a.cx.now.core.now a.text.now cs spells c.ask.new.cx.core.now c.as_slice_mut.result.now wrote.new.memory c.in-Ok.pointer wrote.result c.requires.form c.as_slice_mut.ensures.value c.in-Ok.ensures.asked
-    wrote.ensures.writes wrote.ensures.widens c.fit.new.cx.core.now c.in-Err-fit.fault c.in-Err-fit.ensures.fits
+    wrote.ensures.writes wrote.ensures.widens c.fit.new.cx.core.now c.in-Err-fit.fault (omega (arith, c.if-count.false)) c.in-Err-fit.ensures.fits

@@ -26,4 +26,4 @@ returns-in-Err-clause-puts g c =
     let a = c.args in
     let L : GuestLaws _ = record { seen = g.G.Guest.seen; moves = g.G.Guest.moves; stays = g.met.G.Guest.stays; goes_on = g.met.G.Guest.goes_on } in
     let (cs, (can, is)) = c.requires.text in
-    utf8_unasked L a.cx.now.options a.cx.now.core.now a.text.now cs (record { can = can; is = is }) c.ask.new.cx.core.now c.in-Err.fault c.requires.form c.in-Err.ensures.asked
+    utf8_unasked L a.cx.now.options a.cx.now.core.now a.text.now cs (record { can = can; is = is }) c.ask.new.cx.core.now c.in-Err.fault c.requires.form (omega (arith, c.if-count-gt-MAX_STRING_BYTES.false)) c.in-Err.ensures.asked

@@ -1,4 +1,5 @@
 use Rattle.std.proofs.Common.{false, refl}
+use Rattle.canon_model.specs.Homes.{host_texts}
 use Rattle.canon_context.proofs.Moves.{GuestLaws}
 use Rattle.canon_context.specs.Core.{encoding_by, guest_of, moment_of, component_types}
 use Rattle.canon_context.specs.Quiet.{has_block, has_handle}
@@ -22,7 +23,7 @@ returns-in-Err-clause-stored g c =
     let s = shape_of (component_types core) a.ty in
     let h = c.in-Err.ensures.stores in
     crossed core.component.types (has_handle s) (passes a.value.now s) (no_passes s a.value.now) core.ledger now.ledger c.in-Err.fault h.handed
-    (λ hs ending. StoresValue false (moment_of g.G.Guest.seen core) (moment_of g.G.Guest.seen now) (encoding_by core a.cx.now.options) s a.offset (HasTree s a.value.now) hs ending)
+    (λ hs ending. StoresValue false (moment_of g.G.Guest.seen core) (moment_of g.G.Guest.seen now) (host_texts (encoding_by core a.cx.now.options)) s a.offset (HasTree s a.value.now) hs ending)
     h.handles c.told.result c.told.ensures h.storing
 
 pub returns-in-Err-clause-cause : goal.returns-in-Err-clause-cause
