@@ -16,6 +16,34 @@ pub fn put_low_bytes(memory: &mut [u8], at: u64, number: u64, size: u32)
     ensures stored { num (narrow memory.new) at size ≡ number % 256 ^ size }
     ensures writes { Writes (block at size) memory.old memory.new }
 {
+    match size {
+        1 => put_first::<1>(memory, at, number),
+        2 => put_first::<2>(memory, at, number),
+        4 => put_first::<4>(memory, at, number),
+        8 => put_first::<8>(memory, at, number),
+        _ => put_any(memory, at, number, size),
+    }
+}
+
+/// The same of so many bytes. A constant number of bytes is one store of the machine.
+fn put_first<const N: usize>(memory: &mut [u8], at: u64, number: u64)
+    requires few { N ≤ 8 }
+    requires room { at + N ≤ length memory.old }
+    ensures stored { num (narrow memory.new) at N ≡ number % 256 ^ N }
+    ensures writes { Writes (block at N) memory.old memory.new }
+{
+    let start = at as usize;
+    let bytes = number.to_le_bytes();
+    memory[start..start + N].copy_from_slice(&bytes[..N]);
+}
+
+/// The same of any number of bytes up to 8.
+fn put_any(memory: &mut [u8], at: u64, number: u64, size: u32)
+    requires few { size ≤ 8 }
+    requires room { at + size ≤ length memory.old }
+    ensures stored { num (narrow memory.new) at size ≡ number % 256 ^ size }
+    ensures writes { Writes (block at size) memory.old memory.new }
+{
     let start = at as usize;
     let size = size as usize;
     let bytes = number.to_le_bytes();

@@ -42,7 +42,7 @@ module _ (s : Shape) (info : VariantInfo) (memory : List ℕ) (at : ℕ) (h : Is
 
   module _ (offset : ℕ) (off : offset ≡ info.payload_offset32) where
     offset_is : offset ≡ payload_offset false cs
-    offset_is = off ∙ h.numbers.offset
+    offset_is = off ∙ (h.numbers.offset false)
 
     pub place_is : stored (at + offset) ≡ payload_spot (narrow memory) (stored at) cs
     place_is = ap (λ n. stored (at + n)) offset_is

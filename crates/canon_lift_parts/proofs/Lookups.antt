@@ -180,7 +180,7 @@ module _ (t t2 : TypeTable) (j : ℕ) (type key value : InterfaceType) (m : Type
   map_layout = numbers.abi
 
   pub map_offset : m.value_offset32 ≡ begins false (ends false 0 (shape_of t key)) (shape_of t value)
-  map_offset = numbers.value
+  map_offset = (numbers.value false)
 
   pub map_element : tuple (shape_of t key ∷ shape_of t value ∷ []) ≡ element_shape (shape_of t type)
   map_element = sym (ap element_shape shape)

@@ -23,10 +23,10 @@ module _ {D G : Type 0} (core now : Parts D G) (same : now ≡ record core { led
 -- what a look-up gave of a type's size and alignment
 module _ (t t2 : TypeTable) (type : InterfaceType) (abi : CanonicalAbiInfo) (same : t2 ≡ t) (layout : HasLayout abi (shape_of t2 type)) where
   pub looked_up_size : (n : ℕ) → n ≡ abi.size32 → n ≡ size false (shape_of t type)
-  looked_up_size n is = is ∙ layout.size ∙ ap (λ (x : TypeTable). size false (shape_of x type)) same
+  looked_up_size n is = is ∙ (layout.size false) ∙ ap (λ (x : TypeTable). size false (shape_of x type)) same
 
   pub looked_up_align : (n : ℕ) → n ≡ abi.align32 → n ≡ align false (shape_of t type)
-  looked_up_align n is = is ∙ layout.align ∙ ap (λ (x : TypeTable). align false (shape_of x type)) same
+  looked_up_align n is = is ∙ (layout.align false) ∙ ap (λ (x : TypeTable). align false (shape_of x type)) same
 
 pub element_aligned : (s : Shape) (a i : ℕ) → a % align false s ≡ 0 → (a + i * size false s) % align false s ≡ 0
 unfolding align

@@ -13,7 +13,7 @@ use Rattle.canon_types.specs.declared.types.InterfaceType.TheVariants as ty
 use Rattle.canon_typed.specs.Types.{IsOptionOf}
 
 pub size_here : (t t2 : TypeTable) (type : InterfaceType) (abi : CanonicalAbiInfo) → t2 ≡ t → HasLayout abi (shape_of t2 type) → abi.size32 ≡ size false (shape_of t type)
-size_here t t2 type abi e h = h.size ∙ ap (λ (x : TypeTable). size false (shape_of x type)) e
+size_here t t2 type abi e h = (h.size false) ∙ ap (λ (x : TypeTable). size false (shape_of x type)) e
 
 pub layout_here : (t t2 : TypeTable) (type : InterfaceType) (abi : CanonicalAbiInfo) → t2 ≡ t → HasLayout abi (shape_of t2 type) → HasLayout abi (shape_of t type)
 layout_here t t2 type abi e h = subst (λ (x : TypeTable). HasLayout abi (shape_of x type)) e h

@@ -44,8 +44,8 @@ tuple_shape_of_now t t2 j types e h is = ap (λ (x : TypeTable). shape_of x (ty.
 pub tuple_call : (s : Shape) (ms : Members) (abi : CanonicalAbiInfo) → s ≡ product of_places ms → HasLayout abi s → call 0 0 abi.align32 abi.size32 ≡ args_call false ms
 unfolding align
 tuple_call s ms abi is h =
-    let a : abi.align32 ≡ members_align false ms = h.align ∙ ap (align false) is in
-    let n : abi.size32 ≡ size false (product of_places ms) = h.size ∙ ap (size false) is in
+    let a : abi.align32 ≡ members_align false ms = (h.align false) ∙ ap (align false) is in
+    let n : abi.size32 ≡ size false (product of_places ms) = (h.size false) ∙ ap (size false) is in
     ap (λ (x : ℕ). call 0 0 x abi.size32) a ∙ ap (λ (x : ℕ). call 0 0 (members_align false ms) x) n
 
 -- the only word

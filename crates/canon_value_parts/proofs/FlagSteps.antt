@@ -43,7 +43,7 @@ use Rattle.canon_context.proofs.Cores.{written_whole}
 pub flags_bytes : (t u : TypeTable) (i : ℕ) (f : TypeFlags) → u ≡ t → IsDefined u (ty.Flags i) (flags_type f) → HasLayout f.abi (shape_of u (ty.Flags i)) → f.abi.size32 ≡ flags_size (length (flag_names t i))
 unfolding size
 flags_bytes t u i f e is abi =
-    let here : f.abi.size32 ≡ flags_size (length (flag_names u i)) = abi.size ∙ ap (size false) (flags_are u i f is) in
+    let here : f.abi.size32 ≡ flags_size (length (flag_names u i)) = (abi.size false) ∙ ap (size false) (flags_are u i f is) in
     subst (λ (x : TypeTable). f.abi.size32 ≡ flags_size (length (flag_names x i))) e here
 
 pub size_flags : (s : Shape) (names : List Name) → s ≡ flags names → size false s ≡ flags_size (length names)

@@ -145,7 +145,7 @@ module _ (t t2 : TypeTable) (e e2 : Element) (abi : CanonicalAbiInfo) (et : t2 �
   same_element = ap₂ (λ (x : TypeTable) (y : Element). element_shape (list_shape x y)) et ee
 
   pub element_size : abi.size32 ≡ size false (element_shape (list_shape t e))
-  element_size = h.size ∙ ap (size false) same_element
+  element_size = (h.size false) ∙ ap (size false) same_element
 
   pub element_align : abi.align32 ≡ align false (element_shape (list_shape t e))
-  element_align = h.align ∙ ap (align false) same_element
+  element_align = (h.align false) ∙ ap (align false) same_element

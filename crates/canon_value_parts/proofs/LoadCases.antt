@@ -205,7 +205,7 @@ module _ (enc : Encoding) (bytes : List ℕ) (s : Shape) (a tag : ℕ) (is : IsV
   pub case_weighs : a % align false s ≡ 0 → a + size false s ≤ length bytes → (t : TypeTable) (c : CaseSlots) → IsCaseSlots t s tag c → (n : ℕ) → n ≡ info.payload_offset32
       → WeighsCase enc bytes s a tag (shapes_of t c.payload) (a + n)
   case_weighs aligned inside t c h n start =
-      let at : a + n ≡ a + payload_offset false (variant_cases s) = ap (λ (o : ℕ). a + o) (start ∙ has.offset) in
+      let at : a + n ≡ a + payload_offset false (variant_cases s) = ap (λ (o : ℕ). a + o) (start ∙ (has.offset false)) in
       subst₂ (λ (ms : Members) (b : ℕ). WeighsCase enc bytes s a tag ms b) (sym h.shapes) (sym at) (record {
         unpaid = case_unpaid enc bytes s a tag is case_read;
         refused = payload_refused enc bytes s a tag is case_read;

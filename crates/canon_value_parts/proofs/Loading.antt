@@ -64,10 +64,10 @@ module _ (enc : Encoding) (bytes : List ℕ) (ms rest more : Members) (name : Na
   there = subst (λ r. IsLoading enc bytes ms r a o before now vs) split so_far
 
   starts_so : align_to o abi.align32 ≡ begins false o s
-  starts_so = ap (align_to o) layout.align
+  starts_so = ap (align_to o) (layout.align false)
 
   ends_so : align_to o abi.align32 + abi.size32 ≡ ends false o s
-  ends_so = ap (λ n. n + abi.size32) starts_so ∙ ap (λ n. begins false o s + n) layout.size
+  ends_so = ap (λ n. n + abi.size32) starts_so ∙ ap (λ n. begins false o s + n) (layout.size false)
 
   ends_rest : members_end false (ends false o s) more ≡ members_end false 0 ms
   unfolding size

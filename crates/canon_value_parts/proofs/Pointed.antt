@@ -26,10 +26,10 @@ use Rattle.canon_context.proofs.Told.{blamed_by}
 -- the numbers of a tuple
 pub tuple_align : (abi : CanonicalAbiInfo) (s : Shape) (ms : Members) → HasLayout abi s → s ≡ product of_places ms → abi.align32 ≡ members_align false ms
 unfolding align
-tuple_align abi s ms h e = h.align ∙ ap (align false) e
+tuple_align abi s ms h e = (h.align false) ∙ ap (align false) e
 
 pub tuple_size : (abi : CanonicalAbiInfo) (s : Shape) (ms : Members) → HasLayout abi s → s ≡ product of_places ms → abi.size32 ≡ size false (product of_places ms)
-tuple_size abi s ms h e = h.size ∙ ap (size false) e
+tuple_size abi s ms h e = (h.size false) ∙ ap (size false) e
 
 module _ (enc : Encoding) (bytes ws : List ℕ) (most : ℕ) (ms : Members) (p before : ℕ) (is : p ≡ low (slice_index ws 0)) (far : most < members_flat ms) where
   abbrev IsBlamed : Fault → Type 0

@@ -81,7 +81,7 @@ pub case_wants : (t : TypeTable) (s : Shape) (v : Val) (c : Case) (at : ℕ) →
 case_wants t s v c at h = record {
   few = omega (arith, h.info.size, tag_few (case_count h.cases));
   inside = omega (arith, h.info.size, tag-le-size false h.kind h.cases, ap (size false) h.shape);
-  room = omega (arith, h.info.offset, case_room false (host_texts utf8) h.kind h.cases c.tag h.inside, ap (members_end false 0) h.shapes, ap (size false) h.shape);
+  room = omega (arith, (h.info.offset false), case_room false (host_texts utf8) h.kind h.cases c.tag h.inside, ap (members_end false 0) h.shapes, ap (size false) h.shape);
   known = h.known;
   count = h.count;
   falls = omega (arith, ap deepest h.shapes, case_shallow h.cases c.tag, ap depth h.shape);
@@ -119,7 +119,7 @@ module _ {T G : Type 0} (L : GuestLaws G) (options : ℕ) where
       → StoresTo L.seen L.moves options a c s at v place r
   case_stored t a c m ys s at n inner x v place from r small room seen given en ei ey w put ef h =
       let bytes : n ≡ tag_size (case_count seen.cases) = en ∙ seen.info.size in
-      let here : inner ≡ at + payload_offset false seen.cases = ei ∙ ap (λ (o : ℕ). at + o) seen.info.offset in
+      let here : inner ≡ at + payload_offset false seen.cases = ei ∙ ap (λ (o : ℕ). at + o) (seen.info.offset false) in
       let whole : written_over a.memory m ≡ m = written_whole a.memory m (w.same_length ∙ ap length ey) in
       let Step : List ℕ → Members → ℕ → ℕ → Type 0 = λ bs ms o f. PartsStoreTo L.seen L.moves options (record a { memory = bs }) c place ms 0 o (viewed_names x.payload) (viewed_values x.payload) f r in
       subst (λ (y : Shape). StoresTo L.seen L.moves options a c y at v place r) (sym seen.shape)

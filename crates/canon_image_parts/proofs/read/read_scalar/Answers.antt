@@ -1,4 +1,4 @@
-use Rattle.std.proofs.Common.{Ok, arith, length, refl, subst, sym, ℕ, ◌+◌, ◌-◌, ◌∙◌, ◌≡◌, ◌≤◌}
+use Rattle.std.proofs.Common.{Ok, arith, false, length, refl, subst, sym, ℕ, ◌+◌, ◌-◌, ◌∙◌, ◌≡◌, ◌≤◌}
 use Rattle.canon_model.specs.Layout.{scalar_size}
 use Rattle.canon_model.specs.Text.{utf8}
 use Rattle.canon_types.specs.Table.{shape_of}
@@ -8,7 +8,7 @@ use Rattle.canon_image_parts.proofs.read.read_scalar.Goals.{After-from-size}
 use Rattle.canon_image_parts.proofs.read.read_scalar.Goals as goal
 
 width : (c : After-from-size) → c.from-size.result ≡ scalar_size c.requires.scalar.0
-width c = scalar_width c.args.types.now c.args.ty.now c.requires.scalar.0 c.requires.scalar.1 c.args.bytes.now c.args.at.now c.from-size.result (c.from-size.ensures ∙ c.canonical_abi.ensures.size)
+width c = scalar_width c.args.types.now c.args.ty.now c.requires.scalar.0 c.requires.scalar.1 c.args.bytes.now c.args.at.now c.from-size.result (c.from-size.ensures ∙ (c.canonical_abi.ensures.size false))
 
 pub returns-then-bytes-at : goal.returns-then-bytes-at
 returns-then-bytes-at c =
@@ -29,7 +29,7 @@ returns-then-not-is_spelled c =
 pub load_scalar-requires-clause-inside : goal.load_scalar-requires-clause-inside
 load_scalar-requires-clause-inside c = λ k e.
     let a = (goal.at.load_scalar-requires-clause-inside c).After-from-size in
-    let w = scalar_width c.args.types.now c.args.ty.now k e c.args.bytes.now c.args.at.now c.from-size.result (c.from-size.ensures ∙ c.canonical_abi.ensures.size) in
+    let w = scalar_width c.args.types.now c.args.ty.now k e c.args.bytes.now c.args.at.now c.from-size.result (c.from-size.ensures ∙ (c.canonical_abi.ensures.size false)) in
     omega (arith, c.if-bytes-at.false, c.requires.inside, w)
 
 pub returns-in-Ok : goal.returns-in-Ok

@@ -1,4 +1,4 @@
-use Rattle.std.proofs.Common.{arith}
+use Rattle.std.proofs.Common.{arith, false}
 use Rattle.canon_value_parts.proofs.StoreSteps.{scalar_type_bytes}
 use Rattle.canon_image_parts.proofs.Writing.{scalar_written}
 use Rattle.canon_image_parts.proofs.write.write_scalar.Goals as goal
@@ -6,12 +6,12 @@ use Rattle.canon_image_parts.proofs.write.write_scalar.Goals as goal
 pub put_number-requires : goal.put_number-requires
 put_number-requires c =
     let (k, t, e, has, is, least) = c.requires.word in
-    record { few = omega (arith, c.canonical_abi.ensures.size, scalar_type_bytes c.args.types.now c.args.ty.now (k, e)) }
+    record { few = omega (arith, (c.canonical_abi.ensures.size false), scalar_type_bytes c.args.types.now c.args.ty.now (k, e)) }
 
 pub returns-in-Ok : goal.returns-in-Ok
 returns-in-Ok c =
     let a = c.args in
     record {
-      writes = scalar_written a.types.now a.bytes.now.items c.put_number.new.bytes.items a.ty.now a.value.now a.word c.canonical_abi.result.now.size32 a.place c.saturating_add.result c.canonical_abi.ensures.size c.requires.word c.in-Ok.ensures.ok
+      writes = scalar_written a.types.now a.bytes.now.items c.put_number.new.bytes.items a.ty.now a.value.now a.word c.canonical_abi.result.now.size32 a.place c.saturating_add.result (c.canonical_abi.ensures.size false) c.requires.word c.in-Ok.ensures.ok
           c.saturating_add.ensures;
     }

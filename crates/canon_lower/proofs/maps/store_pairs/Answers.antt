@@ -65,7 +65,7 @@ loop-key-preserved g c =
     let one = pair_stood L.seen L.moves a.cx.now.options W gives core.component.types now c.store_pair.new.cx.core.now c.loop-key.cx.options a.pair.now c.loop-key.at (a.offset + k * size false s) x (Ok tt) inv.options (handles_instance core now inv.stored.same) inv.place
     c.in-Ok.ensures.stores in
     let count : k + 1 ≡ length (c.loop-key.yielded ++ (c.in-Some.key, c.in-Some.value) ∷ []) = sym (length-append c.loop-key.yielded ((c.in-Some.key, c.in-Some.value) ∷ [])) in
-    let bytes : c.from-size.result ≡ size false s = c.from-size.ensures ∙ c.requires.pair.layout.size in
+    let bytes : c.from-size.result ≡ size false s = c.from-size.ensures ∙ (c.requires.pair.layout.size false) in
     record {
       stored = subst (λ (n : ℕ). RowIsStored L a.cx.now.options W (gives core.component.types s) s a.offset xs core c.store_pair.new.cx.core.now n) count (row_go_on L a.cx.now.options W (gives core.component.types s) s a.offset xs core now c.store_pair.new.cx.core.now k x here one inv.stored);
       left = sym (ap (λ (n : ℕ). drop n xs) (sym count) ∙ left_next xs c.next.new.self k x e);
