@@ -29,7 +29,7 @@ impl Model for AnswerMark {
 /// A block that lives.
 #[derive(Clone, Copy, Debug)]
 pub(crate) struct LiveBlock {
-    start: u32,
+    start: u64,
     size: u32,
 }
 
@@ -47,19 +47,18 @@ impl LiveBlock {
     ghost use Rattle.std.specs.Prelude.{◌≡◌, ◌+◌, ◌<◌, ◌^◌};
     ghost use Rattle.canon_memory.specs.Realloc.{block};
 
-    fn end(self) -> u64
+    fn end(self) -> u128
         ensures value { result ≡ self.start + self.size }
     {
-        u64::from(self.start) + u64::from(self.size)
+        u128::from(self.start) + u128::from(self.size)
     }
 
     pub(crate) fn new(start: u64, size: u64) -> Self
-        requires start { start < 2 ^ 32 }
         requires size { size < 2 ^ 32 }
         ensures { result ≡ block start size }
     {
         LiveBlock {
-            start: start as u32,
+            start,
             size: size as u32,
         }
     }
@@ -71,11 +70,14 @@ fn is_same(b: LiveBlock, c: LiveBlock) -> bool
     b.start == c.start && b.size == c.size
 }
 
-/// The byte at an address, or 0 past the end.
-fn byte_at(bytes: &[u8], at: u64) -> u8
-    ensures { result ≡ slice_index bytes.now at }
+/// The byte so far behind an address, or 0 past the end.
+fn byte_at(bytes: &[u8], at: u64, k: u64) -> u8
+    ensures { result ≡ slice_index bytes.now (at + k) }
 {
-    match bytes.get(at as usize) {
+    let Some(place) = at.checked_add(k) else {
+        return 0;
+    };
+    match bytes.get(place as usize) {
         Some(byte) => *byte,
         None => 0,
     }
@@ -83,12 +85,10 @@ fn byte_at(bytes: &[u8], at: u64) -> u8
 
 /// Whether `count` bytes from `at` on stand in `after` from `to` on. Past an end there are zeros.
 fn are_same(before: &[u8], at: u64, after: &[u8], to: u64, count: u64) -> bool
-    requires before { at + count < 2 ^ 64 }
-    requires after { to + count < 2 ^ 64 }
     ensures { IsTrue result ↔ SameBytes before.now at after.now to count }
 {
     for k in 0..count {
-        if byte_at(after, to + k) != byte_at(before, at + k) {
+        if byte_at(after, to, k) != byte_at(before, at, k) {
             return false;
         }
     }
@@ -99,15 +99,14 @@ fn are_same(before: &[u8], at: u64, after: &[u8], to: u64, count: u64) -> bool
 fn are_apart(b: LiveBlock, c: LiveBlock) -> bool
     ensures { IsTrue result ↔ AreApart b c }
 {
-    b.end().min(c.end()) <= u64::from(b.start.max(c.start))
+    b.end().min(c.end()) <= u128::from(b.start.max(c.start))
 }
 
 /// Whether a block keeps its bytes.
 fn is_kept(b: LiveBlock, before: &[u8], after: &[u8]) -> bool
     ensures { IsTrue result ↔ SameBytes before.now b.start after.now b.start b.size }
 {
-    let start = u64::from(b.start);
-    are_same(before, start, after, start, u64::from(b.size))
+    are_same(before, b.start, after, b.start, u64::from(b.size))
 }
 
 /// Whether a block is the old one, or is apart from the new one and keeps its bytes.
@@ -140,13 +139,7 @@ fn is_copied(old: LiveBlock, new: LiveBlock, before: &[u8], after: &[u8]) -> boo
     ensures { IsTrue result ↔ SameBytes before.now old.start after.now new.start (min old.size new.size) }
 {
     let count = u64::from(old.size.min(new.size));
-    are_same(
-        before,
-        u64::from(old.start),
-        after,
-        u64::from(new.start),
-        count,
-    )
+    are_same(before, old.start, after, new.start, count)
 }
 
 /// Whether an answer kept the law of `realloc`.
@@ -161,8 +154,8 @@ fn is_lawful(
     requires { 0 < align }
     ensures { IsTrue result ↔ LawHolds live.now before.now after.now (call old.start old.size align new.size) new.start }
 {
-    new.start % align == 0
-        && new.end() <= after.len() as u64
+    new.start % u64::from(align) == 0
+        && new.end() <= after.len() as u128
         && is_copied(old, new, before, after)
         && are_spared(live, old, new, before, after)
 }
@@ -172,8 +165,8 @@ fn is_tidy(before: &[u8], after: &[u8], new: LiveBlock) -> bool
     ensures { IsTrue result ↔ IsTidy before.now after.now new }
 {
     let len = before.len() as u64;
-    let start = u64::from(new.start).min(len);
-    let end = new.end().min(len);
+    let start = new.start.min(len);
+    let end = new.end().min(u128::from(len)) as u64;
     are_same(before, 0, after, 0, start) && are_same(before, end, after, end, len - end)
 }
 
@@ -186,18 +179,18 @@ fn is_seen_tidy(whole: bool, before: &[u8], after: &[u8], new: LiveBlock) -> boo
 }
 
 /// Where the last of some blocks ends, or `least` if they all end before it.
-fn end_of(live: &[LiveBlock], least: u64) -> u64
+fn end_of(live: &[LiveBlock], least: u64) -> u128
     ensures least { least ≤ result }
     ensures ends { All (EndsBy result) live.now }
 {
-    let mut end = least;
+    let mut end = u128::from(least);
     for b in live {
         end = end.max(b.end());
     }
     end
 }
 
-fn reach(end: u64, len: u64, whole: bool) -> u64
+fn reach(end: u128, len: u128, whole: bool) -> u128
     ensures end { end ≤ result }
     ensures whole { IsTrue whole → len ≤ result }
 {
@@ -208,7 +201,7 @@ fn reach(end: u64, len: u64, whole: bool) -> u64
 pub(crate) fn shot<'a>(live: &[LiveBlock], old_end: u64, whole: bool, memory: &'a [u8]) -> &'a [u8]
     ensures { IsShot whole live.now old_end memory.now result.now }
 {
-    let len = memory.len() as u64;
+    let len = memory.len() as u128;
     let end = reach(end_of(live, old_end), len, whole);
     &memory[..end.min(len) as usize]
 }
@@ -239,7 +232,7 @@ pub(crate) fn mark_answer(
     after: &[u8],
 )
     requires aligned { 0 < align }
-    requires narrow { (old < 2 ^ 32) × (old_size < 2 ^ 32) × (new_size < 2 ^ 32) × (answer < 2 ^ 32) }
+    requires narrow { (old < 2 ^ 32) × (old_size < 2 ^ 32) × (new_size < 2 ^ 32) }
     requires block_room { vec_len live.old < vec_capacity live.old }
     requires mark_room { vec_len marks.old < vec_capacity marks.old }
     ensures listed { live.new.items ≡ relisted live.old.items (call old old_size align new_size) answer }

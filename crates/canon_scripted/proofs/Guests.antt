@@ -1,6 +1,7 @@
 -- What a scripted guest does, as any guest is seen.
 use Rattle.std.proofs.Common.{◌≡◌, ℕ, ◌+◌, ◌-◌, ◌^◌, min, ◌<◌, ◌≤◌, Bool, true, false, List, [], ◌∷◌, ◌++◌, length, drop, Some, Result, Ok, Err, refl, sym, ap, subst, ◌∙◌, arith, append-nil, IsTrue}
 use Rattle.std.proofs.lemmas.Bool.{cond-true, cond-false}
+use Rattle.canon_model.specs.Memory.{memory_of}
 use Rattle.canon_model.specs.Requests.{Call}
 use Rattle.canon_memory.specs.declared.error.GuestFault.{GuestFault}
 use Rattle.canon_memory.specs.declared.error.GuestFault.TheVariants as fault
@@ -102,8 +103,8 @@ record One (g h : Doing) (m bytes : List ℕ) (call : Asked) (es : List Event) :
   traps : h.traps ≡ traps_after g.traps es
   shortages : h.shortages ≡ g.shortages
 
-one_call : (g h : Doing) (m bytes : List ℕ) (call : Asked) (es : List Event) → One g h m bytes call es → ScriptMoves (guest_in g m) es (guest_in h bytes)
-one_call g h m bytes call es o = record {
+one_call : (g h : Doing) (m bytes : List ℕ) (w w2 : Bool) (call : Asked) (es : List Event) → One g h m bytes call es → ScriptMoves (guest_in g (memory_of m w)) es (guest_in h (memory_of bytes w2))
+one_call g h m bytes w w2 call es o = record {
   new_marks = marks_told g.plan call;
   does = record {
     calls = call ∷ [];
@@ -118,15 +119,15 @@ one_call g h m bytes call es o = record {
 }
 
 -- a turn
-module _ (g h : Doing) (m bytes : List ℕ) where
+module _ (g h : Doing) (m bytes : List ℕ) (w w2 : Bool) where
   acts : (result : Result Step GuestFault) (call : Asked) (es : List ℕ → Result Step GuestFault → List Event)
       → events_telling g.plan call ≡ es (carry_out g.plan.actions m).memory (carry_out g.plan.actions m).result
       → after g.plan call ≡ record g.plan { actions = (carry_out g.plan.actions m).left }
       → len_before call ≡ length m → len_after g.plan call ≡ length (carry_out g.plan.actions m).memory → [] ≡ marks_told g.plan call
       → carry_out g.plan.actions m ≡ turn bytes result h.plan.actions
       → h.plan ≡ record g.plan { actions = h.plan.actions } → h.marks ≡ g.marks → h.traps ≡ traps_after g.traps (es bytes result) → h.shortages ≡ g.shortages
-      → ScriptMoves (guest_in g m) (es bytes result) (guest_in h bytes)
-  acts result call es told leaves first last none t p ms traps shortages = one_call g h m bytes call (es bytes result) (record {
+      → ScriptMoves (guest_in g (memory_of m w)) (es bytes result) (guest_in h (memory_of bytes w2))
+  acts result call es told leaves first last none t p ms traps shortages = one_call g h m bytes w w2 call (es bytes result) (record {
     told = sym (told ∙ ap (λ (u : ActionTurn). es u.memory u.result) t);
     leaves = p ∙ ap (λ (u : ActionTurn). record g.plan { actions = u.left }) (sym t) ∙ sym leaves;
     marks = ms ∙ sym (append-nil g.marks) ∙ ap (λ (ks : List Mark). g.marks ++ ks) none;
@@ -142,7 +143,7 @@ module _ (g h : Doing) (m bytes : List ℕ) where
       (first : len_before call ≡ length m) (last : len_after g.plan call ≡ length (carry_out g.plan.actions m).memory) (none : [] ≡ marks_told g.plan call)
       (goes : (x : Step) → traps_after g.traps (es bytes (Ok x)) ≡ g.traps) (traps : traps_after g.traps (es bytes (Err fault.Trap)) ≡ raised_count g.traps) where
     turn_moves : (result : Result Step GuestFault) → h ≡ counted result (with_actions g h.plan.actions)
-        → OnAnswer result (carry_out g.plan.actions m ≡ turn bytes result h.plan.actions) → OnAnswer result (ScriptMoves (guest_in g m) (es bytes result) (guest_in h bytes))
+        → OnAnswer result (carry_out g.plan.actions m ≡ turn bytes result h.plan.actions) → OnAnswer result (ScriptMoves (guest_in g (memory_of m w)) (es bytes result) (guest_in h (memory_of bytes w2)))
     turn_moves (Ok x) e t = acts (Ok x) call es told leaves first last none t (ap (λ (k : Doing). k.plan) e) (ap (λ (k : Doing). k.marks) e)
         (ap (λ (k : Doing). k.traps) e ∙ sym (goes x)) (ap (λ (k : Doing). k.shortages) e)
     turn_moves (Err fault.Trap) e t = acts (Err fault.Trap) call es told leaves first last none t (ap (λ (k : Doing). k.plan) e) (ap (λ (k : Doing). k.marks) e)
@@ -156,21 +157,21 @@ module _ (g h : Doing) (m bytes : List ℕ) where
 
   pub start_moves : (func : ℕ) (words : List ℕ) (result : Result Step GuestFault) → h ≡ counted result (with_actions g h.plan.actions)
       → OnAnswer result (carry_out g.plan.actions m ≡ turn bytes result h.plan.actions)
-      → OnAnswer result (ScriptMoves (guest_in g m) (start_events func words m bytes result) (guest_in h bytes))
+      → OnAnswer result (ScriptMoves (guest_in g (memory_of m w)) (start_events func words m bytes result) (guest_in h (memory_of bytes w2)))
   start_moves func words = turn_moves (started func words m) (λ b r. start_events func words m b r) refl refl refl refl refl (λ x. step_goes (event.Start func words m) x refl) refl
 
   pub resume_moves : (words : List ℕ) (result : Result Step GuestFault) → h ≡ counted result (with_actions g h.plan.actions)
       → OnAnswer result (carry_out g.plan.actions m ≡ turn bytes result h.plan.actions)
-      → OnAnswer result (ScriptMoves (guest_in g m) (resume_events words m bytes result) (guest_in h bytes))
+      → OnAnswer result (ScriptMoves (guest_in g (memory_of m w)) (resume_events words m bytes result) (guest_in h (memory_of bytes w2)))
   resume_moves words = turn_moves (resumed words m) (λ b r. resume_events words m b r) refl refl refl refl refl (λ x. step_goes (event.Resume words m) x refl) refl
 
 -- a call that the guest ends itself leaves the plan and memory
-module _ (g h : Doing) (m : List ℕ) (call : Asked) (traps : Bool) (es : Result (Unit {0}) GuestFault → List Event)
+module _ (g h : Doing) (m : List ℕ) (w w2 : Bool) (call : Asked) (traps : Bool) (es : Result (Unit {0}) GuestFault → List Event)
     (told : es (ended traps) ≡ events_telling g.plan call) (leaves : g.plan ≡ after g.plan call) (marks : [] ≡ marks_told g.plan call)
     (before : len_before call ≡ length m) (after_it : length m ≡ len_after g.plan call)
     (none : traps_after g.traps (es (Ok tt)) ≡ g.traps) (one : traps_after g.traps (es (Err fault.Trap)) ≡ raised_count g.traps) where
-  ended_moves : (result : Result (Unit {0}) GuestFault) → result ≡ ended traps → h ≡ counted result g → OnAnswer result (ScriptMoves (guest_in g m) (es result) (guest_in h m))
-  ended_moves (Ok tt) e k = one_call g h m m call (es (Ok tt)) (record {
+  ended_moves : (result : Result (Unit {0}) GuestFault) → result ≡ ended traps → h ≡ counted result g → OnAnswer result (ScriptMoves (guest_in g (memory_of m w)) (es result) (guest_in h (memory_of m w2)))
+  ended_moves (Ok tt) e k = one_call g h m m w w2 call (es (Ok tt)) (record {
     told = ap es e ∙ told;
     leaves = ap (λ (d : Doing). d.plan) k ∙ leaves;
     marks = ap (λ (d : Doing). d.marks) k ∙ sym (append-nil g.marks) ∙ ap (λ (ks : List Mark). g.marks ++ ks) marks;
@@ -179,7 +180,7 @@ module _ (g h : Doing) (m : List ℕ) (call : Asked) (traps : Bool) (es : Result
     traps = ap (λ (d : Doing). d.traps) k ∙ sym none;
     shortages = ap (λ (d : Doing). d.shortages) k;
   })
-  ended_moves (Err fault.Trap) e k = one_call g h m m call (es (Err fault.Trap)) (record {
+  ended_moves (Err fault.Trap) e k = one_call g h m m w w2 call (es (Err fault.Trap)) (record {
     told = ap es e ∙ told;
     leaves = ap (λ (d : Doing). d.plan) k ∙ leaves;
     marks = ap (λ (d : Doing). d.marks) k ∙ sym (append-nil g.marks) ∙ ap (λ (ks : List Mark). g.marks ++ ks) marks;
@@ -190,20 +191,20 @@ module _ (g h : Doing) (m : List ℕ) (call : Asked) (traps : Bool) (es : Result
   })
   ended_moves (Err fault.OutOfMemory) e k = tt
 
-pub post_moves : (g h : Doing) (func : ℕ) (words m : List ℕ) (result : Result (Unit {0}) GuestFault) → result ≡ ended g.plan.post_trap → h ≡ counted result g
-    → OnAnswer result (ScriptMoves (guest_in g m) (post_events func words m result) (guest_in h m))
-post_moves g h func words m = ended_moves g h m (post_returned func words m) g.plan.post_trap (λ r. post_events func words m r) refl refl refl refl refl refl refl
+pub post_moves : (g h : Doing) (func : ℕ) (words m : List ℕ) (w w2 : Bool) (result : Result (Unit {0}) GuestFault) → result ≡ ended g.plan.post_trap → h ≡ counted result g
+    → OnAnswer result (ScriptMoves (guest_in g (memory_of m w)) (post_events func words m result) (guest_in h (memory_of m w2)))
+post_moves g h func words m w w2 = ended_moves g h m w w2 (post_returned func words m) g.plan.post_trap (λ r. post_events func words m r) refl refl refl refl refl refl refl
 
-pub dtor_moves : (g h : Doing) (func rep : ℕ) (m : List ℕ) (result : Result (Unit {0}) GuestFault) → result ≡ ended g.plan.dtor_trap → h ≡ counted result g
-    → OnAnswer result (ScriptMoves (guest_in g m) (dtor_events func rep m result) (guest_in h m))
-dtor_moves g h func rep m = ended_moves g h m (destroyed func rep m) g.plan.dtor_trap (λ r. dtor_events func rep m r) refl refl refl refl refl refl refl
+pub dtor_moves : (g h : Doing) (func rep : ℕ) (m : List ℕ) (w w2 : Bool) (result : Result (Unit {0}) GuestFault) → result ≡ ended g.plan.dtor_trap → h ≡ counted result g
+    → OnAnswer result (ScriptMoves (guest_in g (memory_of m w)) (dtor_events func rep m result) (guest_in h (memory_of m w2)))
+dtor_moves g h func rep m w w2 = ended_moves g h m w w2 (destroyed func rep m) g.plan.dtor_trap (λ r. dtor_events func rep m r) refl refl refl refl refl refl refl
 
 -- ---- `realloc`
 
-module _ (g h : Doing) (m bytes : List ℕ) (c : Call) (same_len : length bytes ≡ length m) where
+module _ (g h : Doing) (m bytes : List ℕ) (w w2 : Bool) (c : Call) (same_len : length bytes ≡ length m) where
   told_moves : (result : Result ℕ GuestFault) → realloc (length m) g.plan c ≡ told result h.plan → h.marks ≡ g.marks ++ marks_by (is_free (next_order g.plan.reallocs)) result
-      → h.traps ≡ traps_after g.traps (realloc_events c m result) → h.shortages ≡ g.shortages → ScriptMoves (guest_in g m) (realloc_events c m result) (guest_in h bytes)
-  told_moves result t ms traps shortages = one_call g h m bytes (reallocated c m) (realloc_events c m result) (record {
+      → h.traps ≡ traps_after g.traps (realloc_events c m result) → h.shortages ≡ g.shortages → ScriptMoves (guest_in g (memory_of m w)) (realloc_events c m result) (guest_in h (memory_of bytes w2))
+  told_moves result t ms traps shortages = one_call g h m bytes w w2 (reallocated c m) (realloc_events c m result) (record {
     told = ap (λ (u : Reallocating). realloc_events c m u.result) (sym t);
     leaves = ap (λ (u : Reallocating). u.plan) (sym t);
     marks = ms ∙ ap (λ (u : Reallocating). g.marks ++ marks_by (is_free (next_order g.plan.reallocs)) u.result) (sym t);
@@ -213,7 +214,7 @@ module _ (g h : Doing) (m bytes : List ℕ) (c : Call) (same_len : length bytes 
     shortages = shortages;
   })
 
-  pub answer_moves : (answer : ℕ) → AnswersAsPlanned g m c h bytes answer → (h.traps ≡ g.traps) × (h.shortages ≡ g.shortages) → ScriptMoves (guest_in g m) (realloc_events c m (Ok answer)) (guest_in h bytes)
+  pub answer_moves : (answer : ℕ) → AnswersAsPlanned g m c h bytes answer → (h.traps ≡ g.traps) × (h.shortages ≡ g.shortages) → ScriptMoves (guest_in g (memory_of m w)) (realloc_events c m (Ok answer)) (guest_in h (memory_of bytes w2))
   answer_moves answer a same = told_moves (Ok answer) a.told a.marks same.0 same.1
 
   pub answer_does : (answer : ℕ) → AnswersAsPlanned g m c h bytes answer → (h.traps ≡ g.traps) × (h.shortages ≡ g.shortages)
@@ -255,10 +256,10 @@ module _ (g k h : Doing) (m bytes : List ℕ) (c : Call) (same : (k.traps ≡ g.
         rose = rises g.shortages k.shortages h.shortages same.1 (ap (λ (x : Doing). x.shortages) s);
       }
 
-  pub fault_moves : (f r : GuestFault) → r ≡ f → DoesRealloc g m c k bytes (Err f) → h ≡ with_fault_counted f k → OnAnswer {T = ℕ} (Err r) (ScriptMoves (guest_in g m) (realloc_events c m (Err r)) (guest_in h bytes))
-  fault_moves f r e d s = subst (λ (x : GuestFault). OnAnswer {T = ℕ} (Err x) (ScriptMoves (guest_in g m) (realloc_events c m (Err x)) (guest_in h bytes))) (sym e) (by f d s)
+  pub fault_moves : (w w2 : Bool) (f r : GuestFault) → r ≡ f → DoesRealloc g m c k bytes (Err f) → h ≡ with_fault_counted f k → OnAnswer {T = ℕ} (Err r) (ScriptMoves (guest_in g (memory_of m w)) (realloc_events c m (Err r)) (guest_in h (memory_of bytes w2)))
+  fault_moves w w2 f r e d s = subst (λ (x : GuestFault). OnAnswer {T = ℕ} (Err x) (ScriptMoves (guest_in g (memory_of m w)) (realloc_events c m (Err x)) (guest_in h (memory_of bytes w2)))) (sym e) (by f d s)
     where
-      by : (x : GuestFault) → DoesRealloc g m c k bytes (Err x) → h ≡ with_fault_counted x k → OnAnswer {T = ℕ} (Err x) (ScriptMoves (guest_in g m) (realloc_events c m (Err x)) (guest_in h bytes))
-      by fault.Trap d s = told_moves g h m bytes c same_len (Err fault.Trap) (d.told ∙ ap (λ (x : Doing). told (Err fault.Trap) x.plan) (sym s)) (ap (λ (x : Doing). x.marks) s ∙ d.marks ∙ sym (append-nil g.marks))
+      by : (x : GuestFault) → DoesRealloc g m c k bytes (Err x) → h ≡ with_fault_counted x k → OnAnswer {T = ℕ} (Err x) (ScriptMoves (guest_in g (memory_of m w)) (realloc_events c m (Err x)) (guest_in h (memory_of bytes w2)))
+      by fault.Trap d s = told_moves g h m bytes w w2 c same_len (Err fault.Trap) (d.told ∙ ap (λ (x : Doing). told (Err fault.Trap) x.plan) (sym s)) (ap (λ (x : Doing). x.marks) s ∙ d.marks ∙ sym (append-nil g.marks))
           (ap (λ (x : Doing). x.traps) s ∙ ap raised_count same.0) (ap (λ (x : Doing). x.shortages) s ∙ same.1)
       by fault.OutOfMemory d s = tt

@@ -54,8 +54,9 @@ impl Actions {
 
     /// Carries out actions up to and with the first return, ask or trap.
     pub(crate) fn carry_out(&mut self, memory: &mut Memory) -> Result<Step, GuestFault>
-        ensures turn { OnAnswer result (carry_out self.old memory.old ≡ turn memory.new result self.new) }
-        ensures no_shorter { length memory.old ≤ length memory.new }
+        ensures turn { OnAnswer result (carry_out self.old memory.old.bytes ≡ turn memory.new.bytes result self.new) }
+        ensures no_shorter { length memory.old.bytes ≤ length memory.new.bytes }
+        ensures width { memory.new.wide ≡ memory.old.wide }
     {
         while let Some(action) = self.left.next() {
             match act(action, memory) {
@@ -73,8 +74,9 @@ ghost use Rattle.canon_scripted.specs.declared.actions.Action.{Action};
 
 /// Carries out one action. The next one follows where it answers None.
 fn act(action: Action, memory: &mut Memory) -> Result<Option<Step>, GuestFault>
-    ensures acts { OnAnswer result ((left : List Action) → carry_out (action ∷ left) memory.old ≡ acted memory.new result left) }
-    ensures no_shorter { length memory.old ≤ length memory.new }
+    ensures acts { OnAnswer result ((left : List Action) → carry_out (action ∷ left) memory.old.bytes ≡ acted memory.new.bytes result left) }
+    ensures no_shorter { length memory.old.bytes ≤ length memory.new.bytes }
+    ensures width { memory.new.wide ≡ memory.old.wide }
 {
     match action {
         Action::Write(address, bytes) => match write(memory, address, bytes.as_slice()) {
@@ -94,8 +96,8 @@ fn act(action: Action, memory: &mut Memory) -> Result<Option<Step>, GuestFault>
 
 /// Writes bytes at an address, or traps where they pass the end of memory.
 fn write(memory: &mut Memory, address: u64, bytes: &[u8]) -> Result<(), GuestFault>
-    ensures ok { OnOk result ((address + length bytes.now ≤ length memory.old) × (memory.new ≡ written memory.old address bytes.now)) }
-    ensures err { OnErr result ((length memory.old < address + length bytes.now) × (memory.new ≡ memory.old)) }
+    ensures ok { OnOk result ((address + length bytes.now ≤ length memory.old.bytes) × (memory.new ≡ record memory.old { bytes = written memory.old.bytes address bytes.now })) }
+    ensures err { OnErr result ((length memory.old.bytes < address + length bytes.now) × (memory.new ≡ memory.old)) }
     ensures traps { IfErr result (λ e. e ≡ GuestFault.Trap) }
 {
     let len = memory.len();

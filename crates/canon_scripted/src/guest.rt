@@ -110,10 +110,11 @@ impl ScriptedGuest {
 
     /// Carries out actions.
     fn act(&mut self, memory: &mut Memory) -> Result<Step, GuestFault>
-        ensures turn { OnAnswer result (carry_out self.old.plan.actions memory.old ≡ turn memory.new result self.new.plan.actions) }
+        ensures turn { OnAnswer result (carry_out self.old.plan.actions memory.old.bytes ≡ turn memory.new.bytes result self.new.plan.actions) }
         ensures counts { self.new ≡ counted result (with_actions self.old self.new.plan.actions) }
         ensures later { (self.old.traps ≤ self.new.traps) × (self.old.shortages ≤ self.new.shortages) }
-        ensures no_shorter { length memory.old ≤ length memory.new }
+        ensures no_shorter { length memory.old.bytes ≤ length memory.new.bytes }
+        ensures width { memory.new.wide ≡ memory.old.wide }
     {
         match self.actions.carry_out(memory) {
             Ok(step) => Ok(step),
@@ -148,11 +149,12 @@ impl ScriptedGuest {
         requires old_sized { old_size < 2 ^ 32 }
         requires new_sized { new_size < 2 ^ 32 }
         ensures narrow { IfOk result (λ answer. answer < 2 ^ 32) }
-        ensures does { DoesRealloc self.old memory.old (call old old_size align new_size) self.new memory.new result }
+        ensures does { DoesRealloc self.old memory.old.bytes (call old old_size align new_size) self.new memory.new.bytes result }
         ensures counts { (self.new.traps ≡ self.old.traps) × (self.new.shortages ≡ self.old.shortages) }
-        ensures lawful { IfOk result (λ answer. IsTrue (is_free (next_order self.old.plan.reallocs)) → ReallocLaw self.old.plan.allocator.live self.new.plan.allocator.live memory.old memory.new (call old old_size align new_size) answer) }
-        ensures tidy { IfOk result (λ answer. IsTidy memory.old memory.new (new_block (call old old_size align new_size) answer)) }
-        ensures same_length { length memory.new ≡ length memory.old }
+        ensures lawful { IfOk result (λ answer. IsTrue (is_free (next_order self.old.plan.reallocs)) → ReallocLaw self.old.plan.allocator.live self.new.plan.allocator.live memory.old.bytes memory.new.bytes (call old old_size align new_size) answer) }
+        ensures tidy { IfOk result (λ answer. IsTidy memory.old.bytes memory.new.bytes (new_block (call old old_size align new_size) answer)) }
+        ensures same_length { length memory.new.bytes ≡ length memory.old.bytes }
+        ensures width { memory.new.wide ≡ memory.old.wide }
     {
         if self.answers.reserve(1).is_err() {
             return Err(GuestFault::OutOfMemory);
@@ -240,8 +242,8 @@ fn place(
     requires old_sized { old_size < 2 ^ 32 }
     requires new_sized { new_size < 2 ^ 32 }
     ensures narrow { IfOk result (λ answer. answer < 2 ^ 32) }
-    ensures does { DoesPlace (allocate (length memory.old) allocator.old (call old old_size align new_size)) allocator.old allocator.new result }
-    ensures copies { IfOk result (λ answer. memory.new ≡ copied memory.old (call old old_size align new_size) answer) }
+    ensures does { DoesPlace (allocate (length memory.old.bytes) allocator.old (call old old_size align new_size)) allocator.old allocator.new result }
+    ensures copies { IfOk result (λ answer. memory.new ≡ record memory.old { bytes = copied memory.old.bytes (call old old_size align new_size) answer }) }
     ensures stays { OnErr result (memory.new ≡ memory.old) }
     ensures row { InRow 0 allocator.old.live allocator.old.top }
 {

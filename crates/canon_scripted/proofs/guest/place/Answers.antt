@@ -1,4 +1,5 @@
-use Rattle.std.proofs.Common.{◌+◌, ◌≤◌, ℕ, List, arith, inl, inr, length, subst, sym, ⊎_elim}
+use Rattle.std.proofs.Common.{◌+◌, ◌≤◌, ℕ, List, ap, arith, inl, inr, length, subst, sym, ⊎_elim}
+use Rattle.canon_model.specs.Memory.{memory_of}
 use Rattle.canon_memory.specs.Realloc.{call}
 use Rattle.canon_scripted.proofs.Laws.{from_inside, stays_there}
 use Rattle.canon_scripted.proofs.guest.place.Goals as goal
@@ -13,5 +14,6 @@ copy_within-requires-clause-in_bounds c =
 pub returns-else-kept-gt0-clause-copies : goal.returns-else-kept-gt0-clause-copies
 returns-else-kept-gt0-clause-copies c =
     let a = c.args in
-    stays_there a.memory.now (call a.old a.old_size a.align a.new_size) c.in-Ok.answer
-    (⊎_elim (λ w. inr w.1) (λ w. inl (omega (arith, w, c.min-kept.ensures))) c.else-kept-gt0.either)
+    ap (λ (xs : List ℕ). memory_of xs a.memory.now.wide)
+    (stays_there a.memory.now.bytes (call a.old a.old_size a.align a.new_size) c.in-Ok.answer
+    (⊎_elim (λ w. inr w.1) (λ w. inl (omega (arith, w, c.min-kept.ensures))) c.else-kept-gt0.either))

@@ -16,17 +16,17 @@ returns-in-Ok-realloc-clause-exact g c =
     let marks : c.reserve-else-is_err.new.self.items ≡ c.args.self.now.marks = search rules in
     let live : c.reserve.new.self.items ≡ c.args.self.now.live = search rules in
     let lived : c.deref.result.now ≡ c.reserve.new.self.items = search rules in
-    let memory : c.as_slice.result.now ≡ c.args.memory.now = search rules in
+    let memory : c.as_slice.result.now ≡ c.args.memory.now.bytes = search rules in
     let before : c.shot-kept.result.now ≡ c.as_slice-in-Ok-realloc.result.now = search rules in
-    let after : c.as_slice-in-Ok-realloc-2.result.now ≡ c.realloc.new.memory = search rules in
-    let longer : length c.args.memory.now ≤ length c.as_slice-in-Ok-realloc-2.result.now = search rules in
-    let is : IsShot w c.reserve.new.self.items (c.args.old + c.args.old_size) c.args.memory.now c.as_slice-in-Ok-realloc.result.now =
-    shot_at w c.deref.result.now c.reserve.new.self.items (c.args.old + c.args.old_size) c.as_slice.result.now c.args.memory.now c.shot-kept.result.now c.as_slice-in-Ok-realloc.result.now lived memory before c.shot-kept.ensures in
-    let e : IsExact w c.args.self.now.live c.mark_answer.new.live.items c.args.memory.now c.realloc.new.memory asked c.in-Ok-realloc.answer m.0 =
-    exact_at w c.args.self.now.live c.reserve.new.self.items c.mark_answer.new.live.items c.args.memory.now c.realloc.new.memory c.as_slice-in-Ok-realloc-2.result.now asked c.in-Ok-realloc.answer m.0 live after (m.2 c.args.memory.now is longer) in (
+    let after : c.as_slice-in-Ok-realloc-2.result.now ≡ c.realloc.new.memory.bytes = search rules in
+    let longer : length c.args.memory.now.bytes ≤ length c.as_slice-in-Ok-realloc-2.result.now = search rules in
+    let is : IsShot w c.reserve.new.self.items (c.args.old + c.args.old_size) c.args.memory.now.bytes c.as_slice-in-Ok-realloc.result.now =
+    shot_at w c.deref.result.now c.reserve.new.self.items (c.args.old + c.args.old_size) c.as_slice.result.now c.args.memory.now.bytes c.shot-kept.result.now c.as_slice-in-Ok-realloc.result.now lived memory before c.shot-kept.ensures in
+    let e : IsExact w c.args.self.now.live c.mark_answer.new.live.items c.args.memory.now.bytes c.realloc.new.memory.bytes asked c.in-Ok-realloc.answer m.0 =
+    exact_at w c.args.self.now.live c.reserve.new.self.items c.mark_answer.new.live.items c.args.memory.now.bytes c.realloc.new.memory.bytes c.as_slice-in-Ok-realloc-2.result.now asked c.in-Ok-realloc.answer m.0 live after (m.2 c.args.memory.now.bytes is longer) in (
       m.0,
       m.1 ∙ ap (λ l. l ++ m.0 ∷ []) marks,
-      subst (λ v. IsExact v c.args.self.now.live c.mark_answer.new.live.items c.args.memory.now c.realloc.new.memory asked c.in-Ok-realloc.answer m.0) whole e,
+      subst (λ v. IsExact v c.args.self.now.live c.mark_answer.new.live.items c.args.memory.now.bytes c.realloc.new.memory.bytes asked c.in-Ok-realloc.answer m.0) whole e,
     )
 
 pub returns-in-Ok-realloc-clause-does : goal.returns-in-Ok-realloc-clause-does
@@ -35,8 +35,8 @@ returns-in-Ok-realloc-clause-does g c =
     let seen = g.G.Guest.seen in
     let told = c.in-Ok-realloc.ensures.does in
     let is : c.self.inside.guest ≡ c.args.self.now.guest = search rules in
-    let inner : Goes (moment (seen c.args.self.now.guest) c.args.memory.now) (moment (seen c.realloc.new.self) c.realloc.new.memory) (told.0 ∷ []) (answer_event asked c.in-Ok-realloc.answer ∷ []) =
-    subst (λ h. Goes (moment (seen h) c.args.memory.now) (moment (seen c.realloc.new.self) c.realloc.new.memory) (told.0 ∷ []) (answer_event asked c.in-Ok-realloc.answer ∷ [])) is told.1.goes in
+    let inner : Goes (moment (seen c.args.self.now.guest) c.args.memory.now.bytes) (moment (seen c.realloc.new.self) c.realloc.new.memory.bytes) (told.0 ∷ []) (answer_event asked c.in-Ok-realloc.answer ∷ []) =
+    subst (λ h. Goes (moment (seen h) c.args.memory.now.bytes) (moment (seen c.realloc.new.self) c.realloc.new.memory.bytes) (told.0 ∷ []) (answer_event asked c.in-Ok-realloc.answer ∷ [])) is told.1.goes in
     let m = returns-in-Ok-realloc-clause-exact g c in (
       m.0,
       record {

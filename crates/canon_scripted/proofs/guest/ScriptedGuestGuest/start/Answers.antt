@@ -3,7 +3,7 @@ use Rattle.canon_scripted.proofs.Guests.{counted_goes, start_moves}
 use Rattle.canon_scripted.proofs.guest.ScriptedGuestGuest.start.Goals as goal
 
 pub returns-clause-goes : goal.returns-clause-goes
-returns-clause-goes c = counted_goes (with_actions c.args.self.now c.act.new.self.plan.actions) c.act.new.self c.act.result c.args.memory.now c.act.new.memory _ c.act.ensures.counts c.act.ensures.later c.act.ensures.no_shorter
+returns-clause-goes c = counted_goes (with_actions c.args.self.now c.act.new.self.plan.actions) c.act.new.self c.act.result c.args.memory.now.bytes c.act.new.memory.bytes _ c.act.ensures.counts c.act.ensures.later c.act.ensures.no_shorter
 
 pub returns-clause-moves : goal.returns-clause-moves
-returns-clause-moves c = start_moves c.args.self.now c.act.new.self c.args.memory.now c.act.new.memory c.args._func c.args._words.now c.act.result c.act.ensures.counts c.act.ensures.turn
+returns-clause-moves c = start_moves c.args.self.now c.act.new.self c.args.memory.now.bytes c.act.new.memory.bytes _ _ c.args._func c.args._words.now c.act.result c.act.ensures.counts c.act.ensures.turn
