@@ -8,7 +8,7 @@ use Rattle.serde_json.specs.Data.{Data, Items}
 use Rattle.serde_json.specs.Find.{as_array, as_object, get}
 use Rattle.canon_json.specs.Json.{has_len, items_of, onward}
 use Rattle.canon_json.proofs.Found.{by_map, by_test, onward_keeps}
-use Rattle.canon_model.specs.Layout.{size}
+use Rattle.canon_abi.specs.Abi.{wider_size}
 use Rattle.canon_model.specs.Shape.{of_places, product}
 use Rattle.canon_types.specs.Depth.{depth, has_borrow}
 use Rattle.canon_types.specs.Refusal.{empty_type_table, first_error, func_parts_refusal, func_refusal, is_full_for, or_else, refusal, resource_refusal, type_entry_count, with_definition, with_func}
@@ -92,7 +92,7 @@ room t params results e =
     let ps = product of_places (members_of t params) in
     let rs = product of_places (members_of t results) in
     let free : is_full_for 3 t ≡ false =
-    last_test (func_parts_refusal t params results) (nat_lt 100 (max (depth ps) (depth rs))) (nat_lt 4294967295 (max (size false ps) (size false rs))) (has_borrow rs) (is_full_for 3 t)
+    last_test (func_parts_refusal t params results) (nat_lt 100 (max (depth ps) (depth rs))) (nat_lt 4294967295 (max (wider_size ps) (wider_size rs))) (has_borrow rs) (is_full_for 3 t)
     error.TooDeep error.SizeTooLarge error.BorrowInResult error.TooManyTypes e in
     omega (arith, ltb-false 1048576 (type_entry_count t + 3) free)
 

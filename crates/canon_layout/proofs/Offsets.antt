@@ -30,10 +30,10 @@ next_field known fields i x h is = ap (λ (fs : List RecordField). fields_in kno
 
 module _ (ms rest : Members) (name : Name) (s : Shape) (abi : CanonicalAbiInfo) (o : ℕ) (split : ms ≡ member name s rest) (layout : HasLayout abi s) where
   starts_so : align_to o abi.align32 ≡ begins false o s
-  starts_so = ap (align_to o) layout.align
+  starts_so = ap (align_to o) (layout.align false)
 
   ends_so : align_to o abi.align32 + abi.size32 ≡ ends false o s
-  ends_so = ap (λ n. n + abi.size32) starts_so ∙ ap (λ n. begins false o s + n) layout.size
+  ends_so = ap (λ n. n + abi.size32) starts_so ∙ ap (λ n. begins false o s + n) (layout.size false)
 
   ends_rest : members_end false o ms ≡ members_end false (ends false o s) rest
   unfolding size

@@ -76,8 +76,8 @@ fn print_numbers(
     ensures { OnOk result (string_bytes text.new ≡ string_bytes text.old ++ spec.numbers_text (shape_of table.now ty.now)) }
 {
     let abi = table.canonical_abi(ty);
-    let size = abi.size32;
-    let align = abi.align32;
+    let size = abi.size(false);
+    let align = abi.align(false);
     write!(text, " size {size} align {align} flat ")?;
     match abi.flat {
         Some(flat) => write!(text, "{flat}"),
@@ -165,7 +165,7 @@ fn print_cases(text: &mut String, info: &VariantInfo) -> Result<(), AllocError>
     ensures { (cases : Cases) → HasInfo info.now cases → OnOk result (string_bytes text.new ≡ string_bytes text.old ++ spec.cases_text cases) }
 {
     let tag = info.size.byte_size();
-    let payload = info.payload_offset32;
+    let payload = info.payload_offset(false);
     write!(text, " tag {tag} payload {payload}")
 }
 
@@ -213,8 +213,8 @@ fn print_passed(
     match abi.flat_count(most) {
         Some(flat) => write!(text, "flat {flat}"),
         None => {
-            let size = abi.size32;
-            let align = abi.align32;
+            let size = abi.size(false);
+            let align = abi.align(false);
             write!(text, "memory {size} {align}")
         }
     }

@@ -1,11 +1,13 @@
 -- How component types lie, by how their parts do.
-use Rattle.std.proofs.Common.{◌≡◌, Bool, List, None, Option, Some, [], ◌∷◌, arith, subst, sym}
+use Rattle.std.proofs.Common.{◌≡◌, Bool, List, None, Option, Some, [], ◌∷◌, arith, refl, subst, sym}
 use Rattle.std.specs.Bool.{⊤}
 use Rattle.canon_abi.specs.Abi.{AreOfCases, AreOfMembers, HasInfo, HasLayout, TellsLayout}
 use Rattle.canon_abi.specs.declared.abi.CanonicalAbiInfo.{CanonicalAbiInfo}
 use Rattle.canon_abi.specs.declared.abi.VariantInfo.{VariantInfo}
-use Rattle.canon_model.specs.Layout.{align, flat, scalar_size, size}
+use Rattle.canon_model.specs.Layout.{scalar_size}
 use Rattle.canon_model.specs.Shape.{Cases, Members, ProductKind, of_places, product, Scalar, Shape, VariantKind, bare, case_for, no_cases, of_option, of_result, payload, scalar, string, variant}
+use Rattle.canon_types.proofs.Laid.{told_below}
+use Rattle.canon_types.proofs.Plain.{borrow_layout, list_layout, own_layout, scalar_layout, text_layout}
 use Rattle.canon_types.specs.Depth.{variant_cases}
 use Rattle.canon_types.specs.Instance.{Instance}
 use Rattle.canon_types.specs.Table.{IsDefined, KnowsPayload, ResultType, TypeTable, all_shapes, members_of, payload_in, shape_of}
@@ -19,31 +21,26 @@ use Rattle.canon_typed.specs.Types.{AreOf, IsTupleOf, IsHandleOf, IsHandleType, 
 pub plain_abi : (known : InterfaceType) (abi : CanonicalAbiInfo) → ((t : TypeTable) → HasLayout abi (shape_of t known)) → (i : Instance) (type : InterfaceType) → type ≡ known → HasLayout abi (shape_of i.types type)
 plain_abi known abi has i type e = subst (λ (x : InterfaceType). HasLayout abi (shape_of i.types x)) (sym e) (has i.types)
 
-pub scalar_abi : (k : Scalar) (abi : CanonicalAbiInfo) → abi.size32 ≡ scalar_size k → abi.align32 ≡ scalar_size k → abi.flat ≡ Some 1 → HasLayout abi (scalar k)
-unfolding size align flat
-scalar_abi k abi size align flat = record { size = size; align = align; flat = flat }
+pub scalar_abi : (k : Scalar) (abi : CanonicalAbiInfo) → abi.size32 ≡ scalar_size k → abi.align32 ≡ scalar_size k → abi.size64 ≡ scalar_size k → abi.align64 ≡ scalar_size k → abi.flat ≡ Some 1 → HasLayout abi (scalar k)
+scalar_abi k abi size align size64 align64 flat = scalar_layout abi (scalar_size k) (record { size32 = size; align32 = align; size64 = size64; align64 = align64; words = flat }) k refl
 
 -- a pointer and a length
-pub text_abi : (abi : CanonicalAbiInfo) → abi.size32 ≡ 8 → abi.align32 ≡ 4 → abi.flat ≡ Some 2 → HasLayout abi string
-unfolding size align flat
-text_abi abi size align flat = record { size = size; align = align; flat = flat }
+pub text_abi : (abi : CanonicalAbiInfo) → abi.size32 ≡ 8 → abi.align32 ≡ 4 → abi.size64 ≡ 16 → abi.align64 ≡ 8 → abi.flat ≡ Some 2 → HasLayout abi string
+text_abi abi size align size64 align64 flat = text_layout abi (record { size32 = size; align32 = align; size64 = size64; align64 = align64; words = flat })
 
-pub list_abi : (Fit : Instance → InterfaceType → Type 0) (abi : CanonicalAbiInfo) → abi.size32 ≡ 8 → abi.align32 ≡ 4 → abi.flat ≡ Some 2 → (i : Instance) (type : InterfaceType) → IsListOf Fit i type → HasLayout abi (shape_of i.types type)
-unfolding size align flat
-list_abi Fit abi size align flat i (ty.List x) (element, d, f) = subst (λ (s : Shape). HasLayout abi s) (sym d.shape) (record { size = size; align = align; flat = flat })
-list_abi Fit abi size align flat i _ f = absurd f
+pub list_abi : (Fit : Instance → InterfaceType → Type 0) (abi : CanonicalAbiInfo) → HasLayout abi string → (i : Instance) (type : InterfaceType) → IsListOf Fit i type → HasLayout abi (shape_of i.types type)
+list_abi Fit abi pair i (ty.List x) (element, d, f) = list_layout abi pair _ _ _ d.shape
+list_abi Fit abi pair i _ f = absurd f
 
-pub map_abi : (Key Value : Instance → InterfaceType → Type 0) (abi : CanonicalAbiInfo) → abi.size32 ≡ 8 → abi.align32 ≡ 4 → abi.flat ≡ Some 2 → (i : Instance) (type : InterfaceType) → IsMapOf Key Value i type → HasLayout abi (shape_of i.types type)
-unfolding size align flat
-map_abi Key Value abi size align flat i (ty.Map x) (key, value, d, f, g) = subst (λ (s : Shape). HasLayout abi s) (sym d.shape) (record { size = size; align = align; flat = flat })
-map_abi Key Value abi size align flat i _ f = absurd f
+pub map_abi : (Key Value : Instance → InterfaceType → Type 0) (abi : CanonicalAbiInfo) → HasLayout abi string → (i : Instance) (type : InterfaceType) → IsMapOf Key Value i type → HasLayout abi (shape_of i.types type)
+map_abi Key Value abi pair i (ty.Map x) (key, value, d, f, g) = list_layout abi pair _ _ _ d.shape
+map_abi Key Value abi pair i _ f = absurd f
 
 -- a handle
-pub handle_abi : (abi : CanonicalAbiInfo) → abi.size32 ≡ 4 → abi.align32 ≡ 4 → abi.flat ≡ Some 1 → (i : Instance) (type : InterfaceType) → IsHandleType i type → HasLayout abi (shape_of i.types type)
-unfolding size align flat
-handle_abi abi size align flat i (ty.Own r) f = record { size = size; align = align; flat = flat }
-handle_abi abi size align flat i (ty.Borrow r) f = record { size = size; align = align; flat = flat }
-handle_abi abi size align flat i _ f = absurd f
+pub handle_abi : (abi : CanonicalAbiInfo) → abi.size32 ≡ 4 → abi.align32 ≡ 4 → abi.size64 ≡ 4 → abi.align64 ≡ 4 → abi.flat ≡ Some 1 → (i : Instance) (type : InterfaceType) → IsHandleType i type → HasLayout abi (shape_of i.types type)
+handle_abi abi size align size64 align64 flat i (ty.Own r) f = own_layout abi (record { size32 = size; align32 = align; size64 = size64; align64 = align64; words = flat }) r
+handle_abi abi size align size64 align64 flat i (ty.Borrow r) f = borrow_layout abi (record { size32 = size; align32 = align; size64 = size64; align64 = align64; words = flat }) r
+handle_abi abi size align size64 align64 flat i _ f = absurd f
 
 pub is_handle : {D : Type 0} (checked : ResourceType → Option D) (i : Instance) (type : InterfaceType) → IsHandleOf checked i type → IsHandleType i type
 is_handle checked i (ty.Own r) f = tt
@@ -59,9 +56,9 @@ LiesAsCases abi info s = HasLayout abi s × IsShapeOfCases s × HasInfo info (va
 cases_lie : (abi : CanonicalAbiInfo) (info : VariantInfo) (k : VariantKind) (cs : Cases) → HasLayout abi (variant k cs) × HasInfo info cs → LiesAsCases abi info (variant k cs)
 cases_lie abi info k cs h = (h.0, tt, h.1)
 
--- a discriminant is told of a type of cases whose size has 32 bits
+-- a discriminant is told of a type of cases whose sizes have 32 bits
 pub info_told : (abi : CanonicalAbiInfo) (info : VariantInfo) (s : Shape) → LiesAsCases abi info s → TellsInfo (Some info) s
-info_told abi info s h = (omega (arith, h.0.size, abi.in_range), h.1, h.2)
+info_told abi info s h = (told_below abi s h.0, h.1, h.2)
 
 pub option_abi : (Fit : Instance → InterfaceType → Type 0) (some abi : CanonicalAbiInfo) (info : VariantInfo) → ((i : Instance) (type : InterfaceType) → Fit i type → HasLayout some (shape_of i.types type))
     → ((k : VariantKind) (cs : Cases) → AreOfCases (None ∷ Some some ∷ []) cs → HasLayout abi (variant k cs) × HasInfo info cs)

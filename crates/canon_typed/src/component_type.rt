@@ -56,11 +56,11 @@ pub trait ComponentType: Drop {
     fn host_size() -> u64
         ensures { result ≡ cap host_bytes };
 
-    /// How the component type lies in memory and in words, or none where its size passes 2^32 - 1.
+    /// How the component type lies in memory and in words, or none where a size passes 2^32 - 1.
     fn abi() -> Option<CanonicalAbiInfo>
         ensures { (i : Instance) (type : InterfaceType) → fits i type → TellsLayout result (shape_of i.types type) };
 
-    /// The number of words, or none where there are more than 16 or the size passes 2^32 - 1.
+    /// The number of words, or none where there are more than 16 or a size passes 2^32 - 1.
     final fn flatten_count() -> Option<u8>
         ensures { (i : Instance) (type : InterfaceType) → fits i type → TellsFlat result (shape_of i.types type) }
     {
@@ -82,7 +82,7 @@ pub trait ComponentType: Drop {
 
 /// A Rust type that stands for a type of cases.
 pub trait ComponentVariant: ComponentType {
-    /// The discriminant, and where the payload begins, or none where the size passes 2^32 - 1.
+    /// The discriminant, and where the payload begins, or none where a size passes 2^32 - 1.
     fn info() -> Option<VariantInfo>
         ensures { (i : Instance) (type : InterfaceType) → Self.fits i type → TellsInfo result (shape_of i.types type) };
 }

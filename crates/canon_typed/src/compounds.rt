@@ -68,7 +68,7 @@ impl<T: ComponentType> ComponentVariant for Option<T> {
     }
 }
 
-/// The numbers of a case's payload, if it has one, or none where its size passes 2^32 - 1.
+/// The numbers of a case's payload, if it has one, or none where a size of it passes 2^32 - 1.
 fn payload_abi<T: ComponentType>() -> Option<Option<CanonicalAbiInfo>>
     ensures { (i : Instance) (type : Option InterfaceType) → IsPayloadOf T.is_unit T.fits i type → TellsPayload result (payload_in (all_shapes i.types) type) }
 {

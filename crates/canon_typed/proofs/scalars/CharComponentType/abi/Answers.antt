@@ -5,4 +5,4 @@ use Rattle.canon_typed.proofs.Layouts.{plain_abi, scalar_abi}
 use Rattle.canon_typed.proofs.scalars.CharComponentType.abi.Goals as goal
 
 pub returns : goal.returns
-returns c i type e = plain_abi ty.Char _ (λ t. scalar_abi shape.char _ refl refl refl) i type e
+returns c i type e = plain_abi ty.Char _ (λ t. scalar_abi shape.char _ refl refl refl refl refl) i type e

@@ -5,4 +5,4 @@ use Rattle.canon_typed.proofs.Layouts.{plain_abi, scalar_abi}
 use Rattle.canon_typed.proofs.scalars.I32ComponentType.abi.Goals as goal
 
 pub returns : goal.returns
-returns c i type e = plain_abi ty.S32 _ (λ t. scalar_abi shape.s32 _ refl refl refl) i type e
+returns c i type e = plain_abi ty.S32 _ (λ t. scalar_abi shape.s32 _ refl refl refl refl refl) i type e
