@@ -1,3 +1,4 @@
+pub mod Alike
 pub mod AskLaws
 pub mod AskStands
 pub mod AskedExactly

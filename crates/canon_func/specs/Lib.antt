@@ -1,3 +1,4 @@
+pub mod Alike
 pub mod AskExactly
 pub mod AskForms
 pub mod AskTypes

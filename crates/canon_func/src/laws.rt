@@ -1,8 +1,13 @@
 //! Laws of the definitions.
 
-ghost use Rattle.std.specs.Prelude.{IsTrue, ℕ};
+ghost use Rattle.std.specs.Prelude.{IsTrue, List, ℕ};
+ghost use Rattle.canon_func.specs.Alike.{AsksAlike, StartsAlike};
 ghost use Rattle.canon_func.specs.AskExactly.{IsExact};
 ghost use Rattle.canon_func.specs.Laws.{CallIsThrough, OnlyRepresented, ParamsAreGiven, RefusedAskStands, RefusedIsPartway, RepresentedIsEnough, TypedIsPartway, TypedIsThrough};
+ghost use Rattle.canon_func.specs.Call.{dynamic};
+ghost use Rattle.canon_func.specs.Stores.{Callee};
+ghost use Rattle.canon_func.specs.Typed.{params_shape, typed_args};
+ghost use Rattle.canon_val.specs.declared.val.Val.{Val};
 
 use canon_host::Imports;
 use canon_lift::Lift;
@@ -51,4 +56,16 @@ pub fn refused_asks_keep_memory<T, G: Guest, I: Imports<T, G>>(_imports: &I)
 pub fn typed_results_are_exact<R: ComponentNamedList + Lift>()
     ensures only { IsTrue R.is_told → OnlyRepresented R.fits R.reading R.cost R.lifts }
     ensures enough { RepresentedIsEnough R.fits R.reading R.cost }
+{}
+
+/// Values that mean the same trees cross as the same words and the same stored fields, where `realloc` gives the same answers and keeps its law:
+/// the words of a valid call's start are the only ones. And two that are answered the same make the same requests.
+pub fn starts_are_alike()
+    ensures dynamic { (callee : Callee) (params others : List Val) → StartsAlike callee (dynamic callee params) (dynamic callee others) }
+    ensures asked { AsksAlike }
+{}
+
+/// A typed value and a dynamic one of the same trees cross as the same words and the same stored fields too.
+pub fn typed_starts_are_alike<P: ComponentNamedList + Lower>()
+    ensures { (callee : Callee) (params : P) (values : List Val) → StartsAlike callee (typed_args (P.walks params) (P.gives callee.types (params_shape callee) params) callee) (dynamic callee values) }
 {}

@@ -1,0 +1,8 @@
+use Rattle.canon_func.proofs.Alike.{starts_alike}
+use Rattle.canon_func.specs.Call.{dynamic}
+use Rattle.canon_func.specs.Typed.{params_shape, typed_args}
+use Rattle.canon_func.proofs.laws.typed_starts_are_alike.Goals as goal
+
+pub returns : goal.returns
+returns g c callee params values =
+    starts_alike callee (typed_args (g.P.Lower.walks params) (g.P.Lower.gives callee.types (params_shape callee) params) callee) (dynamic callee values)
