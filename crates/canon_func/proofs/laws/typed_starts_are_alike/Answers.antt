@@ -5,4 +5,4 @@ use Rattle.canon_func.proofs.laws.typed_starts_are_alike.Goals as goal
 
 pub returns : goal.returns
 returns g c callee params values =
-    starts_alike callee (typed_args (g.P.Lower.walks params) (g.P.Lower.gives callee.types (params_shape callee) params) callee) (dynamic callee values)
+    starts_alike callee (typed_args (g.P.ComponentType.walks params) (g.P.Lower.gives callee.types (params_shape callee) params) callee) (dynamic callee values)
