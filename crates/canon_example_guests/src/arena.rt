@@ -101,12 +101,12 @@ impl Guest for Arena {
     ) -> Result<u64, GuestFault>
         requires aligned { 0 < align }
         ensures narrow { IfOk result (λ at. at < 2 ^ 32) }
-        ensures placed { old_size ≡ 0 → self.old.answers + 1 < 2 ^ 64 → DoesPlace (new_placed (length memory.old) self.old.blocks (call 0 0 align new_size)) self.old.blocks self.new.blocks result }
+        ensures placed { old_size ≡ 0 → self.old.answers + 1 < 2 ^ 64 → DoesPlace (new_placed (length memory.old.bytes) self.old.blocks (call 0 0 align new_size)) self.old.blocks self.new.blocks result }
         ensures grows_none { 0 < old_size → result ≡ Err GuestFault.Trap }
         ensures few { self.old.answers + 1 ≡ 2 ^ 64 → result ≡ Err GuestFault.Trap }
         ensures counts { CountsAnswer result self.old self.new }
         ensures memory { memory.new ≡ memory.old }
-        ensures lawful { IfOk result (λ at. ReallocLaw self.old.blocks.live self.new.blocks.live memory.old memory.new (call _old old_size align new_size) at) }
+        ensures lawful { IfOk result (λ at. ReallocLaw self.old.blocks.live self.new.blocks.live memory.old.bytes memory.new.bytes (call _old old_size align new_size) at) }
     {
         // It grows no block.
         if old_size > 0 || self.answers == u64::MAX {

@@ -54,10 +54,11 @@ impl Guest for Mirror {
         words: &[ValRaw],
     ) -> Result<Step, GuestFault>
         ensures returns { IfOk result (λ step. step ≡ Step.Return (0 ∷ [])) }
-        ensures trap { (result ≡ Err GuestFault.Trap) ↔ ((length words.now ≢ 2) ⊎ (length memory.old < 8)) }
+        ensures trap { (result ≡ Err GuestFault.Trap) ↔ ((length words.now ≢ 2) ⊎ (length memory.old.bytes < 8)) }
         ensures counts { Starts result self.old.arena self.new.arena }
-        ensures length { length memory.new ≡ length memory.old }
-        ensures memory { IfOk result (λ step. memory.new ≡ to_le_bytes w32 (slice_index words.now 0 % 2 ^ 32) ++ to_le_bytes w32 (slice_index words.now 1 % 2 ^ 32) ++ drop 8 memory.old) }
+        ensures length { length memory.new.bytes ≡ length memory.old.bytes }
+        ensures width { memory.new.wide ≡ memory.old.wide }
+        ensures memory { IfOk result (λ step. memory.new ≡ record memory.old { bytes = to_le_bytes w32 (slice_index words.now 0 % 2 ^ 32) ++ to_le_bytes w32 (slice_index words.now 1 % 2 ^ 32) ++ drop 8 memory.old.bytes }) }
     {
         let [pointer, len] = words else {
             return self.arena.start(memory, func, &[]);
@@ -87,12 +88,12 @@ impl Guest for Mirror {
     ) -> Result<u64, GuestFault>
         requires aligned { 0 < align }
         ensures narrow { IfOk result (λ at. at < 2 ^ 32) }
-        ensures placed { old_size ≡ 0 → self.old.arena.answers + 1 < 2 ^ 64 → DoesPlace (new_placed (length memory.old) self.old.arena.blocks (call 0 0 align new_size)) self.old.arena.blocks self.new.arena.blocks result }
+        ensures placed { old_size ≡ 0 → self.old.arena.answers + 1 < 2 ^ 64 → DoesPlace (new_placed (length memory.old.bytes) self.old.arena.blocks (call 0 0 align new_size)) self.old.arena.blocks self.new.arena.blocks result }
         ensures grows_none { 0 < old_size → result ≡ Err GuestFault.Trap }
         ensures few { self.old.arena.answers + 1 ≡ 2 ^ 64 → result ≡ Err GuestFault.Trap }
         ensures counts { CountsAnswer result self.old.arena self.new.arena }
         ensures memory { memory.new ≡ memory.old }
-        ensures lawful { IfOk result (λ at. ReallocLaw self.old.arena.blocks.live self.new.arena.blocks.live memory.old memory.new (call old old_size align new_size) at) }
+        ensures lawful { IfOk result (λ at. ReallocLaw self.old.arena.blocks.live self.new.arena.blocks.live memory.old.bytes memory.new.bytes (call old old_size align new_size) at) }
     {
         self.arena.realloc(memory, old, old_size, align, new_size)
     }

@@ -1,3 +1,5 @@
+use Rattle.std.proofs.Common.{ap}
+use Rattle.canon_model.specs.Memory.{Memory}
 use Rattle.canon_memory.specs.Realloc.{call}
 use Rattle.canon_example_guests.proofs.Meets.{caused, free, reallocates, started}
 use Rattle.canon_example_guests.proofs.mirror.MirrorGuest.TheImpl.Goals as goal
@@ -7,14 +9,16 @@ start-tells c =
     let a = c.args.self.now.arena in
     let b = c.new.self.now.arena in
     record {
-      goes = started a b c.args.memory.now c.new.memory.now c.ensures.length c.result c.ensures.counts _;
+      width = c.ensures.width;
+      goes = started a b c.args.memory.now.bytes c.new.memory.now.bytes c.ensures.length c.result c.ensures.counts _;
       moves = free c.result;
-      cause = caused a b c.args.memory.now c.new.memory.now c.ensures.length c.result c.ensures.counts;
+      cause = caused a b c.args.memory.now.bytes c.new.memory.now.bytes c.ensures.length c.result c.ensures.counts;
     }
 
 pub realloc-tells : goal.realloc-tells
 realloc-tells c = record {
-  narrow = c.ensures.narrow;
-  does = reallocates c.args.self.now.arena c.new.self.now.arena c.args.memory.now c.new.memory.now c.ensures.memory (call c.args.old c.args.old_size c.args.align c.args.new_size) c.result c.ensures.counts c.ensures.lawful;
+  narrow = λ _. c.ensures.narrow;
+  width = ap (λ (m : Memory). m.wide) c.ensures.memory;
+  does = reallocates c.args.self.now.arena c.new.self.now.arena c.args.memory.now.bytes c.new.memory.now.bytes (ap (λ (m : Memory). m.bytes) c.ensures.memory) (call c.args.old c.args.old_size c.args.align c.args.new_size) c.result c.ensures.counts c.ensures.lawful;
   moves = free c.result;
 }
