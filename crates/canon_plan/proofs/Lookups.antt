@@ -114,10 +114,10 @@ in_types t t2 j i n types e is count lt = omega (arith, lt, count, ap length (is
 
 -- where a member begins and ends, by its numbers
 pub begins_here : (t t2 : TypeTable) (type : InterfaceType) (abi : CanonicalAbiInfo) (o : ℕ) → t2 ≡ t → HasLayout abi (shape_of t2 type) → align_to o abi.align32 ≡ begins false o (shape_of t type)
-begins_here t t2 type abi o e h = ap (align_to o) (h.align ∙ ap (λ (x : TypeTable). align false (shape_of x type)) e)
+begins_here t t2 type abi o e h = ap (align_to o) (h.align false ∙ ap (λ (x : TypeTable). align false (shape_of x type)) e)
 
 pub ends_here : (t t2 : TypeTable) (type : InterfaceType) (abi : CanonicalAbiInfo) (o : ℕ) → t2 ≡ t → HasLayout abi (shape_of t2 type) → align_to o abi.align32 + abi.size32 ≡ ends false o (shape_of t type)
-ends_here t t2 type abi o e h = ap₂ (λ (x y : ℕ). x + y) (begins_here t t2 type abi o e h) (h.size ∙ ap (λ (x : TypeTable). size false (shape_of x type)) e)
+ends_here t t2 type abi o e h = ap₂ (λ (x y : ℕ). x + y) (begins_here t t2 type abi o e h) (h.size false ∙ ap (λ (x : TypeTable). size false (shape_of x type)) e)
 
 -- past the last
 pub members_from-all : (ms : Members) (i : ℕ) → i ≡ member_count ms → members_from i ms ≡ no_members
@@ -149,7 +149,7 @@ fixed_known t t2 j n element e h = subst (λ (x : TypeTable). Knows x element) e
 
 -- the bytes of an item, and of all of them
 pub item_size : (t t2 : TypeTable) (type : InterfaceType) (abi : CanonicalAbiInfo) → t2 ≡ t → HasLayout abi (shape_of t2 type) → abi.size32 ≡ size false (shape_of t type)
-item_size t t2 type abi e h = h.size ∙ ap (λ (x : TypeTable). size false (shape_of x type)) e
+item_size t t2 type abi e h = h.size false ∙ ap (λ (x : TypeTable). size false (shape_of x type)) e
 
 pub copies_from : (n k : ℕ) (s : Shape) → k < n → members_from k (copies n s) ≡ member [] s (members_from (suc k) (copies n s))
 copies_from zero k s h = absurd (omega arith)

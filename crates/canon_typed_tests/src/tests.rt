@@ -65,6 +65,14 @@ fn lies<T: ComponentType>(size: u32, align: u32, flat: Option<u8>) -> bool {
     }
 }
 
+/// Whether a type has these numbers where pointers have 64 bits.
+fn lies_wide<T: ComponentType>(size: u32, align: u32) -> bool {
+    match T::abi() {
+        Some(abi) => abi.size64 == size && abi.align64 == align,
+        None => false,
+    }
+}
+
 /// Whether a component type of the table is the Rust type's.
 fn passes<T: ComponentType>(ty: &InterfaceType, types: &InstanceType) -> bool {
     types.types().contains(ty) && T::typecheck(ty, types).is_ok()
@@ -160,6 +168,28 @@ fn types_with_parts_have_the_numbers_of_their_component_types(rt: HostRuntime) {
     assert!(rt; (cases, tuples, others) == ([true; 5], [true; 7], [true; 4]));
 }
 
+#[test]
+fn types_have_larger_numbers_where_pointers_have_64_bits(rt: HostRuntime) {
+    // A pointer and a length take 8 bytes each. What has no pointer has the same numbers.
+    let pointers = [
+        lies_wide::<String>(16, 8),
+        lies_wide::<Vec<u64>>(16, 8),
+        lies_wide::<HashMap<u8, u64>>(16, 8),
+    ];
+    let others = [
+        lies_wide::<bool>(1, 1),
+        lies_wide::<u64>(8, 8),
+        lies_wide::<ResourceAny>(4, 4),
+    ];
+    let parts = [
+        lies_wide::<Option<String>>(24, 8),
+        lies_wide::<Result<u8, String>>(24, 8),
+        lies_wide::<(String, u32)>(24, 8),
+        lies_wide::<FixedList<String, 3>>(48, 8),
+    ];
+    assert!(rt; (pointers, others, parts) == ([true; 3], [true; 3], [true; 4]));
+}
+
 /// A list of 2^32 items of 8 bytes.
 type TooLarge = FixedList<FixedList<u64, 65_536>, 65_536>;
 
@@ -173,6 +203,19 @@ fn a_type_that_is_too_large_has_no_numbers(rt: HostRuntime) {
         Result::<u8, TooLarge>::info().is_none(),
     ];
     assert!(rt; missing == [true; 5]);
+}
+
+/// A list of 2^28 texts, which take 2^31 bytes, or 2^32 where pointers have 64 bits.
+type ManyTexts = FixedList<FixedList<String, 65_536>, 4_096>;
+
+#[test]
+fn a_type_that_is_too_large_with_pointers_of_64_bits_has_no_numbers(rt: HostRuntime) {
+    let missing = [
+        ManyTexts::abi().is_none(),
+        ManyTexts::flatten_count().is_none(),
+        Option::<ManyTexts>::info().is_none(),
+    ];
+    assert!(rt; missing == [true; 3]);
 }
 
 #[test]

@@ -53,6 +53,38 @@ fn a_record_places_each_field_at_its_alignment(rt: HostRuntime) {
 }
 
 #[test]
+fn a_pointer_and_a_length_take_8_bytes_each_where_pointers_have_64_bits(rt: HostRuntime) {
+    let pair = CanonicalAbiInfo::POINTER_PAIR;
+    assert!(rt; (pair.size32, pair.align32, pair.flat) == (8, 4, Some(2)));
+    assert!(rt; (pair.size64, pair.align64) == (16, 8));
+    assert!(rt; (pair.size(true), pair.align(true)) == (16, 8));
+    let mut offset = 5;
+    assert!(rt; pair.next_field64(&mut offset) == 8);
+    assert!(rt; offset == 24);
+    let mut far = 25;
+    assert!(rt; pair.next_field64_size(&mut far) == 32);
+    assert!(rt; far == 48);
+}
+
+#[test]
+fn a_record_of_a_text_and_a_number_has_sizes_for_both_widths(rt: HostRuntime) {
+    // The number stands after a text of 8 or 16 bytes, and the end is rounded up to 4 or 8.
+    let fields = [CanonicalAbiInfo::POINTER_PAIR, CanonicalAbiInfo::SCALAR4];
+    let record = CanonicalAbiInfo::record(&fields).map(|abi| (
+        abi.size32,
+        abi.align32,
+        abi.size64,
+        abi.align64,
+    ));
+    assert!(rt; record == Some((12, 4, 24, 8)));
+    let [name, score] = fields;
+    let mut end = 0;
+    assert!(rt; (name.next_field32(&mut end), score.next_field32(&mut end)) == (0, 8));
+    let mut wide_end = 0;
+    assert!(rt; (name.next_field64(&mut wide_end), score.next_field64(&mut wide_end)) == (0, 16));
+}
+
+#[test]
 fn a_variant_places_its_payload_after_the_discriminant(rt: HostRuntime) {
     let cases = [None, Some(CanonicalAbiInfo::SCALAR8)];
     let told = CanonicalAbiInfo::variant(&cases).map(|(abi, info)| (
@@ -62,6 +94,15 @@ fn a_variant_places_its_payload_after_the_discriminant(rt: HostRuntime) {
         info.payload_offset32,
     ));
     assert!(rt; told == Some((16, 8, Some(2), 8)));
+    // A text is aligned to 4 bytes, or to 8 where pointers have 64 bits.
+    let texts = [None, Some(CanonicalAbiInfo::POINTER_PAIR)];
+    let told = CanonicalAbiInfo::variant(&texts).map(|(abi, info)| (
+        abi.size32,
+        info.payload_offset32,
+        abi.size64,
+        info.payload_offset64,
+    ));
+    assert!(rt; told == Some((12, 4, 24, 8)));
     let (abi, info) = CanonicalAbiInfo::enum_(257);
     assert!(rt; (abi.size32, info.size) == (2, DiscriminantSize::Size2));
 }
@@ -73,4 +114,10 @@ fn a_fixed_length_list_has_a_size_of_32_bits(rt: HostRuntime) {
     assert!(rt; most == Some(4_294_967_288));
     let more = CanonicalAbiInfo::fixed_length_list(&eight, 536_870_912).map(|abi| abi.size32);
     assert!(rt; more == None);
+    // 268,435,455 texts take 4,294,967,280 bytes where pointers have 64 bits, and half of that where they have 32.
+    let text = CanonicalAbiInfo::POINTER_PAIR;
+    let texts = CanonicalAbiInfo::fixed_length_list(&text, 268_435_455);
+    let sizes = texts.map(|abi| (abi.size32, abi.size64));
+    assert!(rt; sizes == Some((2_147_483_640, 4_294_967_280)));
+    assert!(rt; CanonicalAbiInfo::fixed_length_list(&text, 268_435_456) == None);
 }

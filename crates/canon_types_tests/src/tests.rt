@@ -33,6 +33,11 @@ fn lies(abi: &CanonicalAbiInfo, size: u32, align: u32, flat: Option<u8>) -> bool
     (abi.size32, abi.align32, abi.flat) == (size, align, flat)
 }
 
+/// Whether a type has these numbers where pointers have 64 bits.
+fn lies_wide(abi: &CanonicalAbiInfo, size: u32, align: u32) -> bool {
+    (abi.size64, abi.align64) == (size, align)
+}
+
 /// The size of a type. None where it isn't of the table.
 fn size_of(types: &ComponentTypes, ty: &InterfaceType) -> Option<u32> {
     if !types.contains(ty) {
@@ -162,6 +167,20 @@ fn a_fixed_length_list_past_32_bits_is_too_large(rt: HostRuntime) {
     assert!(rt; add_fixed_length_lists(rt.alloc()) == Some((size, Err(TypeError::SizeTooLarge))));
 }
 
+/// What a list of so many texts of fixed length answers.
+fn add_texts(alloc: Global, count: u32) -> Added {
+    TypeBuilder::new(alloc).add_fixed_length_list(InterfaceType::String, count)
+}
+
+#[test]
+fn a_fixed_length_list_is_too_large_by_its_size_with_pointers_of_64_bits(rt: HostRuntime) {
+    // A text takes 8 bytes, or 16 where pointers have 64 bits: 300,000,000 of them take 2,400,000,000 or 4,800,000,000.
+    let alloc = rt.alloc();
+    assert!(rt; add_texts(alloc, 300_000_000) == Err(TypeError::SizeTooLarge));
+    assert!(rt; add_texts(alloc, 268_435_456) == Err(TypeError::SizeTooLarge));
+    assert!(rt; add_texts(alloc, 268_435_455).is_ok());
+}
+
 fn resource(instance: u32) -> TypeResourceTable {
     TypeResourceTable {
         instance: RuntimeInstance::from_u32(instance),
@@ -257,11 +276,28 @@ const KINDS: [(u32, u32, Option<u8>); 8] = [
     (4, 4, Some(1)),
 ];
 
+/// Their sizes and alignments where pointers have 64 bits.
+const WIDE_KINDS: [(u32, u32); 8] = [
+    (24, 8),
+    (16, 8),
+    (16, 8),
+    (8, 4),
+    (2, 1),
+    (8, 4),
+    (48, 8),
+    (4, 4),
+];
+
 /// How many of these types, from the first on, have their numbers.
 fn count_told(types: &ComponentTypes, kinds: &[InterfaceType; 8]) -> usize {
     for (k, (size, align, flat)) in KINDS.iter().enumerate() {
         let ty = &kinds[k];
-        if !types.contains(ty) || !lies(types.canonical_abi(ty), *size, *align, *flat) {
+        if !types.contains(ty) {
+            return k;
+        }
+        let abi = types.canonical_abi(ty);
+        let (wide_size, wide_align) = WIDE_KINDS[k];
+        if !lies(abi, *size, *align, *flat) || !lies_wide(abi, wide_size, wide_align) {
             return k;
         }
     }

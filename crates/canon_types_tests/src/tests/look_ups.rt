@@ -76,6 +76,7 @@ fn is_map(types: &ComponentTypes) -> bool {
     let pairs = types.map(map);
     (pairs.key, pairs.value) == (InterfaceType::U8, InterfaceType::String)
         && (pairs.entry_abi.size32, pairs.value_offset32) == (12, 4)
+        && (pairs.entry_abi.size64, pairs.value_offset64) == (24, 8)
 }
 
 #[test]
@@ -196,6 +197,7 @@ fn is_result(types: &ComponentTypes) -> bool {
             outcome.abi.flat,
             outcome.info.payload_offset32,
         ) == (16, Some(3), 8)
+        && (outcome.abi.size64, outcome.info.payload_offset64) == (24, 8)
 }
 
 #[test]
