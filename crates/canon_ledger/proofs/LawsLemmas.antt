@@ -1,5 +1,5 @@
 -- What holds of a ledger in hand.
-use Rattle.std.proofs.Common.{◌≡◌, ℕ, zero, suc, ◌+◌, ◌<◌, ◌≤◌, Bool, true, false, ◌==◌, All, List, [], ◌∷◌, length, get_or, Option, Some, None, option_map, is_some, refl, sym, ap, ◌∙◌, arith, sum_by, inl, inr}
+use Rattle.std.proofs.Common.{◌≡◌, ℕ, suc, ◌<◌, ◌≤◌, true, false, ◌==◌, All, List, [], ◌∷◌, length, get_or, Option, Some, None, option_map, is_some, refl, sym, ap, ◌∙◌, arith, sum_by, inl, inr}
 use Rattle.std.proofs.lemmas.List.Sums.{sum_by-cons}
 use Rattle.std.proofs.lemmas.Bool.{eq-eqb, eqb-true}
 use Rattle.canon_handles.specs.declared.handle.Scope.TheVariants.{Id}
@@ -12,8 +12,7 @@ use Rattle.canon_handles.specs.Calls.{is_own, lends_of, raw_index}
 use Rattle.canon_handles.proofs.StepLemmas.{some_within, get_or_past_end, one_if-true}
 use Rattle.canon_ledger.specs.declared.host.TableSlot.{TableSlot}
 use Rattle.canon_ledger.specs.Handles.{Handles, Lender, OpenScope, IsConsistent, table_at, scope_at, no_scope, sum_over_tables, stands, borrows, lenders_of, is_lender_of}
-use Rattle.canon_ledger.specs.Index.{GivenIndex}
-use Rattle.canon_ledger.specs.Ledger.{LedgerState, IsHostSound, IsAccepted, slot_at, slot_is_stale, last_generation}
+use Rattle.canon_ledger.specs.Ledger.{LedgerState, slot_at, slot_is_stale, last_generation}
 use Rattle.canon_ledger.specs.Books.{Holds}
 use Rattle.canon_ledger.specs.Laws.{IsLent, LedgerLaws}
 use Rattle.canon_ledger.proofs.HandlesLemmas.{within_or_past, there_by_entry, total_after, standing, lenders-with_scope, open_by_count, lender_here}
