@@ -1,5 +1,5 @@
 -- What writing a cell does to the table that the cells and the stack stand for.
-use Rattle.std.proofs.Common.{◌≡◌, ◌≢◌, ℕ, suc, ◌+◌, ◌<◌, ◌≤◌, max, Bool, true, false, ◌==◌, ◌&&◌, ◌||◌, cond, nat_lt, List, [], ◌∷◌, ◌++◌, length, get_or, reverse, Option, Some, None, is_some, Ok, IsSome, rules, refl, sym, ap, subst, ◌∙◌, arith, length-append, inl, inr}
+use Rattle.std.proofs.Common.{◌≡◌, ◌≢◌, ℕ, suc, ◌+◌, ◌-◌, ◌<◌, ◌≤◌, max, Bool, true, false, ◌==◌, ◌&&◌, ◌||◌, cond, nat_lt, List, [], ◌∷◌, ◌++◌, length, get_or, reverse, Option, Some, None, is_some, Ok, IsSome, rules, refl, sym, ap, subst, ◌∙◌, arith, length-append, inl, inr}
 use Rattle.std.proofs.lemmas.List.{reverse-append, length-reverse}
 use Rattle.std.proofs.lemmas.Bool.{eq-eqb, ne_eqb}
 use Rattle.std.proofs.lemmas.Bool.Decides.{nat_tests}
@@ -10,10 +10,11 @@ use Rattle.canon_handles.specs.declared.error.HandleError.TheVariants.{IndexOver
 use Rattle.canon_handles.specs.Step.{put, refuse_if, one_if}
 use Rattle.canon_handles.specs.Table.{Table, TableState, Counter, entry_at, entry_count, fresh_index, with_new, with_entry, without, IsTable, IsFresh, first_or, others, is_full, is_at_limit, insert, one_more}
 use Rattle.canon_handles.specs.Cells.{cell_at, entry_in, values_from, table_of, cell_of, AreCells, spare_of, IsStored, WritesCell}
+use Rattle.canon_handles.specs.Laws.{TableLaws}
 use Rattle.canon_handles.specs.LendingTable.{stored_with}
 use Rattle.canon_handles.proofs.ValuesLemmas.{length-values, value_at, value_past, below_or_not, values_put, no_items}
 use Rattle.canon_handles.proofs.StepLemmas.{length-put, get_or-put_same, get_or-put_other, some_within}
-use Rattle.canon_handles.proofs.TableLemmas.{fresh, first_within, equal_or_not, entry-with_new, is_table-with_new, is_table-with_entry, is_table-without}
+use Rattle.canon_handles.proofs.TableLemmas.{fresh, first_within, entry_positive, equal_or_not, entry-with_new, is_table-with_new, is_table-with_entry, is_table-without}
 use Rattle.canon_handles.proofs.HeldLemmas.{entry_count-with_new, entry_count-with_entry, entry_count-without}
 
 -- Tables
@@ -30,6 +31,13 @@ insert_ok t t' c c' e n room below index table counter =
     ap (λ (b : Bool). refuse_if b IndexOverflow (refuse_if (is_at_limit c) HandleLimit (Ok (fresh_index t, with_new t e, one_more c)))) room
     ∙ ap (λ (b : Bool). refuse_if b HandleLimit (Ok (fresh_index t, with_new t e, one_more c))) below
     ∙ (λ i. Ok (sym index i, sym table i, sym counter i))
+
+-- of the greatest index allowed, the fresh index, the number of entries and the greatest index given
+full_at_end : (m f c g : ℕ) → g ≤ m → f ≡ g + 1 → c ≡ g → nat_lt m f ≡ (c == m)
+full_at_end m f c g h e d = grind (arith, nat_tests)
+
+not_full_within : (m f c g : ℕ) → g ≤ m → f ≤ g → c < g → nat_lt m f ≡ (c == m)
+not_full_within m f c g h e d = grind (arith, nat_tests)
 
 -- Cells
 
@@ -152,6 +160,37 @@ module _ {E : Type 0} {greatest most : ℕ} {vacant : Bool} {cells : List (ℕ �
 
   within : (index : ℕ) (e : E) → entry_at v.table index ≡ Some e → index < suc greatest
   within index e is = let h = some_within v.table.array index e is in let l = array_length in omega arith
+
+  -- Each table has its laws
+  free_count : entry_count v.table + length v.table.free ≡ greatest
+  free_count = let c = counted in let l : length v.table.free ≡ length stack = ap length free ∙ length-reverse stack in omega arith
+
+  full_by : (free : List ℕ) → v.table.free ≡ free → nat_lt v.table.max (first_or (length v.table.array) free) ≡ (entry_count v.table == v.table.max)
+  full_by [] e =
+      let c = free_count in let l : length v.table.free ≡ 0 = ap length e in let a = array_length in let m = greatest_allowed in let w = s.within in
+      full_at_end v.table.max (length v.table.array) (entry_count v.table) greatest (omega arith) (omega arith) (omega arith)
+  full_by (i ∷ is) e =
+      let c = free_count in let l : length v.table.free ≡ suc (length is) = ap length e in let a = array_length in let m = greatest_allowed in let w = s.within in
+      let i_within = first_within v.table i is e sound in
+      not_full_within v.table.max i (entry_count v.table) greatest (omega arith) (omega arith) (omega arith)
+
+  given : (i : ℕ) → is_some (entry_at v.table i) ≡ true → (0 < i) × (i ≤ length v.table.array - 1)
+  given i some =
+      let w = some_entry (entry_at v.table i) some in
+      let h = within i w.0 w.1 in
+      let a = array_length in
+      (entry_positive v.table i w.0 sound w.1, omega arith)
+
+  pub laws : TableLaws v.table
+  laws = record {
+    indexes = sound;
+    entries_were_given = given;
+    entries_and_free = (let c = free_count in let a = array_length in omega arith);
+    greatest_allowed = (let a = array_length in let m = greatest_allowed in let w = s.within in omega arith);
+    max_allowed = (let m = greatest_allowed in let w = s.small in omega arith);
+    next_is_fresh = is_fresh;
+    full = full_by v.table.free refl;
+  }
 
   -- the array after one entry is written, or none
   entries_put : (cells' : List (ℕ × Option E)) (index : ℕ) (o : Option E) → index ≤ suc greatest

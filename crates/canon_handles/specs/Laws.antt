@@ -1,9 +1,25 @@
--- Laws: which index a table gives, told by what happened to its indexes, and what a state counts for.
-use Rattle.std.specs.Prelude.{◌≡◌, ℕ, ◌+◌, max, ◌==◌, Bool, false, ◌||◌, if◌then◌else◌, List, [], ◌∷◌, is_some}
+-- Laws: what holds of a table in hand, which index a table gives, told by what happened to its indexes, and what a state counts for.
+use Rattle.std.specs.Prelude.{◌≡◌, ℕ, ◌+◌, ◌<◌, ◌≤◌, max, ◌==◌, Bool, true, false, ◌||◌, if◌then◌else◌, List, [], ◌∷◌, length, is_some}
 use Rattle.canon_handles.specs.declared.handle.Entry.{Entry}
 use Rattle.canon_handles.specs.declared.handle.TransmitLocalState.{TransmitLocalState}
 use Rattle.canon_handles.specs.Calls.{held_count, with_state}
-use Rattle.canon_handles.specs.Table.{Table, entry_at, fresh_index, is_full, with_new, without, empty_table, first_or}
+use Rattle.canon_handles.specs.Table.{Table, IsTable, IsFresh, max_handle, entry_at, entry_count, greatest, fresh_index, is_full, with_new, without, empty_table, first_or}
+
+-- What holds of each table that calls have made.
+pub record TableLaws {E : Type 0} (t : Table E) : Type 0 where
+  -- index 0 names nothing; a given index that names nothing is free, once, and no other index is free
+  pub indexes : IsTable t
+  -- what names an entry was given
+  pub entries_were_given : (i : ℕ) → is_some (entry_at t i) ≡ true → (0 < i) × (i ≤ greatest t)
+  -- each index given has an entry or is free
+  pub entries_and_free : entry_count t + length t.free ≡ greatest t
+  -- no index was given that may not be
+  pub greatest_allowed : greatest t ≤ t.max
+  pub max_allowed : t.max ≤ max_handle
+  -- the next index names nothing, and is at most one above the greatest given
+  pub next_is_fresh : IsFresh t (fresh_index t)
+  -- no index is left exactly where as many have an entry as may be given
+  pub full : is_full t ≡ (entry_count t == t.max)
 
 -- A call on a table of entries that gives or frees an index.
 pub data TableCall (E : Type 0) : Type 0 where

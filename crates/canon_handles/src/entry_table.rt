@@ -4,6 +4,7 @@ ghost use Rattle.std.specs.Prelude.{◌≡◌, ◌≢◌, ◌≤◌, ◌<◌, �
 ghost use Rattle.std.specs.Borrow.{sem};
 ghost use Rattle.std.specs.Vec.{vec_capacity};
 ghost use Rattle.canon_handles.specs.Cells.{cell_at, WritesCell};
+ghost use Rattle.canon_handles.specs.Laws.{TableLaws};
 ghost use Rattle.canon_handles.specs.LendingTable.{LendsEntry};
 ghost use Rattle.canon_handles.specs.Table.{max_handle, empty_table, entry_at, entry_count, fresh_index, insert, with_entry, without, IsFresh, DoesWithMemory, SparesOneLess};
 
@@ -54,6 +55,13 @@ impl<E: Copy> EntryTable<E> {
             cells: BTreeMap::new(alloc),
             free: Vec::new(alloc),
         }
+    }
+
+    /// What holds of every table.
+    pub(crate) fn laws(&self)
+        ensures { TableLaws self.now.table }
+    {
+        let _greatest = self.greatest; // reading a field gives the table's invariant
     }
 
     /// How many entries there are.

@@ -3,6 +3,7 @@
 ghost use Rattle.std.specs.Prelude.{◌≡◌, ◌≤◌, ◌<◌, ◌+◌, ◌-◌, ◌==◌, OnOk, OnErr, Some, false};
 ghost use Rattle.canon_handles.specs.Table.{max_handle, empty_table, entry_at, entry_count, insert, with_entry, without, one_less, one_more, is_at_limit, DoesWithMemory, SparesOneLess};
 ghost use Rattle.canon_handles.specs.Calls.{held_count, is_own, lends_of, IsUnlent, KeepsCount, most_lends};
+ghost use Rattle.canon_handles.specs.Laws.{TableLaws};
 ghost use Rattle.canon_handles.specs.declared.handle.Entry.TheVariants.{ResourceOwn};
 
 use crate::counter::HandleCounter;
@@ -58,6 +59,15 @@ impl HandleTable {
             held: 0,
             table: EntryTable::with_max_handle(alloc, max),
         }
+    }
+
+    /// What holds of this table, and of every other: index 0 names nothing, an index is free exactly
+    /// where it was given and names nothing, and once, and as many indexes were given as have a
+    /// handle or are free. For a proof that cites it; it does nothing.
+    pub fn laws(&self)
+        ensures { TableLaws self.now.table }
+    {
+        self.table.laws();
     }
 
     /// Whether the table has no handle.

@@ -3,6 +3,7 @@
 ghost use Rattle.std.specs.Prelude.{◌≡◌, ◌≤◌, ◌+◌};
 ghost use Rattle.canon_handles.specs.Table.{max_handle, empty_table, entry_at, entry_count, Does, DoesWithMemory, SparesOneLess};
 ghost use Rattle.canon_handles.specs.Calls.{guest_thread_insert, guest_thread_rep, guest_thread_remove};
+ghost use Rattle.canon_handles.specs.Laws.{TableLaws};
 
 use crate::counter::HandleCounter;
 use crate::entry_table::EntryTable;
@@ -37,6 +38,13 @@ impl ThreadHandleTable {
         ThreadHandleTable {
             table: EntryTable::with_max_handle(alloc, MAX_HANDLE),
         }
+    }
+
+    /// What holds of this table, as of a [`HandleTable`](crate::HandleTable). It does nothing.
+    pub fn laws(&self)
+        ensures { TableLaws self.now.table }
+    {
+        self.table.laws();
     }
 
     /// The number of the table's threads.

@@ -1,7 +1,8 @@
 //! Worked examples, and each public call once.
 
-ghost use Rattle.std.specs.Prelude.{◌≡◌};
+ghost use Rattle.std.specs.Prelude.{◌≡◌, None};
 ghost use Rattle.canon_handles.specs.Calls.{raw_index};
+ghost use Rattle.canon_handles.specs.Table.{entry_at, is_full, max_handle};
 
 use canon_handles::{
     HandleCounter, HandleError, HandleTable, RemovedResource, Scope, ThreadHandleTable,
@@ -291,4 +292,31 @@ fn a_removed_thread_is_unknown(rt: HostRuntime) {
     );
     let unknown = Err(HandleError::UnknownHandle);
     assert!(rt; told == (Ok(1), Ok(9), 1, Ok(9), unknown));
+}
+
+// Index 0 names nothing, by the laws of the table.
+fn zero_names_nothing(table: &HandleTable)
+    ensures { entry_at table.now.table 0 ≡ None }
+{
+    table.laws();
+}
+
+// Whether the next thread is refused an index: where each index that there may be has one.
+fn is_full(threads: &ThreadHandleTable) -> bool
+    requires { threads.now.table.max ≡ max_handle }
+    ensures { result ≡ is_full threads.now.table }
+{
+    threads.laws();
+    threads.held() == 268_435_455
+}
+
+#[test]
+fn the_laws_of_a_table_are_known_to_who_has_it(rt: HostRuntime) {
+    let mut counter = HandleCounter::new(100);
+    let mut table = HandleTable::new(rt.alloc());
+    let threads = ThreadHandleTable::new(rt.alloc());
+    let given = table.resource_own_insert(&mut counter, host(7));
+    zero_names_nothing(&table);
+    let told = (given, table.is_own(0), is_full(&threads));
+    assert!(rt; told == (Ok(1), false, false));
 }

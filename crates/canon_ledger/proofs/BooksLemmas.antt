@@ -13,10 +13,10 @@ use Rattle.canon_ledger.specs.Books.{Context, handles_of}
 use Rattle.canon_ledger.proofs.HandlesLemmas.{same_table}
 
 -- one term is at most the sum
-pub term_le : (f : TableState Entry → ℕ) (xs : List (TableState Entry)) (n : ℕ) (x : TableState Entry) → n < length xs → x ≡ get_or xs n x → f x ≤ sum_by f xs
-term_le f [] n x h e = absurd (omega arith)
-term_le f (y ∷ ys) zero x h e = (let a = sum_by-cons f y ys in let b : f x ≡ f y = ap f e in omega arith)
-term_le f (y ∷ ys) (suc n) x h e = (let a = sum_by-cons f y ys in let b = term_le f ys n x (omega arith) e in omega arith)
+pub term_le : {A : Type 0} (f : A → ℕ) (xs : List A) (n : ℕ) (x d : A) → n < length xs → x ≡ get_or xs n d → f x ≤ sum_by f xs
+term_le f [] n x d h e = absurd (omega arith)
+term_le f (y ∷ ys) zero x d h e = (let a = sum_by-cons f y ys in let b : f x ≡ f y = ap f e in omega arith)
+term_le f (y ∷ ys) (suc n) x d h e = (let a = sum_by-cons f y ys in let b = term_le f ys n x d (omega arith) e in omega arith)
 
 pub sum_by-tables : (f : Table Entry → ℕ) (xs : List (TableState Entry)) → sum_by f (map (λ s. s.table) xs) ≡ sum_by (λ s. f s.table) xs
 sum_by-tables f [] = refl
@@ -33,9 +33,9 @@ module _ (tables : List (TableState Entry)) (counter : Counter) (scopes : List C
 
   pub counted : sum_over_tables stands (handles_of tables counter scopes) + sum_over_tables lends_of (handles_of tables counter scopes) ≤ counter.live → held_count s.table ≤ counter.live
   counted c =
-      let a = term_le (λ (s : TableState Entry). sum_by stands s.table.array) tables n s within read in
+      let a = term_le (λ (s : TableState Entry). sum_by stands s.table.array) tables n s s within read in
       let b = sum_by-tables (λ (t : Table Entry). sum_by stands t.array) tables in
-      let d = term_le (λ (s : TableState Entry). sum_by lends_of s.table.array) tables n s within read in
+      let d = term_le (λ (s : TableState Entry). sum_by lends_of s.table.array) tables n s s within read in
       let e = sum_by-tables (λ (t : Table Entry). sum_by lends_of t.array) tables in
       omega arith
 

@@ -27,7 +27,7 @@ use Rattle.canon_handles.proofs.StepLemmas.{get_or-put_same, get_or-put_other, s
 use Rattle.canon_ledger.proofs.StepLemmas.{if_ok-refuse, if_ok-then, if_ok_always}
 use Rattle.canon_handles.proofs.TableLemmas.{fresh, equal_or_not, is_table-with_new, is_table-with_entry, is_table-without}
 
-within_or_past : (p n : ℕ) → (p < n) ⊎ (n ≤ p)
+pub within_or_past : (p n : ℕ) → (p < n) ⊎ (n ≤ p)
 within_or_past p n = grind arith
 
 nothing_in_empty : (i : ℕ) → entry_at {E = Entry} (empty_table 0) i ≡ None

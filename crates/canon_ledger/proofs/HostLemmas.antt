@@ -684,7 +684,7 @@ new_sound instances limit generation =
 
 -- Where an accepted index comes from
 
-not_false : (b : Bool) → not b ≡ false → b ≡ true
+pub not_false : (b : Bool) → not b ≡ false → b ≡ true
 not_false true e = refl
 not_false false e = absurd (cc)
 

@@ -5,6 +5,7 @@ pub mod DidLemmas
 pub mod HandlesLemmas
 pub mod HoldsLemmas
 pub mod HostLemmas
+pub mod LawsLemmas
 pub mod LedgerLemmas
 pub mod OwedLemmas
 pub mod ScopeLemmas

@@ -19,7 +19,7 @@ use Rattle.canon_ledger.proofs.HandlesLemmas.{standing, there_by_entry, total_af
 use Rattle.canon_ledger.proofs.BooksLemmas.{counted, table_read}
 
 -- the first lender's handle is an own handle that is lent
-own_by_lends : (o : Option Entry) → 1 ≤ lends_of o → (r : TypedResource) × (n : ℕ) × (o ≡ Some (ResourceOwn r n)) × (1 ≤ n)
+pub own_by_lends : (o : Option Entry) → 1 ≤ lends_of o → (r : TypedResource) × (n : ℕ) × (o ≡ Some (ResourceOwn r n)) × (1 ≤ n)
 own_by_lends None h = absurd (omega arith)
 own_by_lends (Some (ResourceOwn r n)) h = (r, n, refl, h)
 own_by_lends (Some (ResourceBorrow r scope)) h = absurd (omega arith)

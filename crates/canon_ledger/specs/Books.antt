@@ -1,5 +1,5 @@
 -- What the fields of a ledger stand for.
-use Rattle.std.specs.Prelude.{ℕ, zero, suc, Bool, false, nat_le, IfSome, List, [], ◌∷◌, map, ◌≤◌, ◌<◌, ◌≡◌, length, Option, Some, None, Result}
+use Rattle.std.specs.Prelude.{ℕ, zero, suc, Bool, false, nat_le, IfSome, List, [], ◌∷◌, map, ◌<◌, ◌≡◌, length, Option, Some, None, Result}
 use Rattle.canon_handles.specs.declared.handle.CurrentScope.{CurrentScope}
 use Rattle.canon_handles.specs.declared.handle.CurrentScope.TheVariants as current
 use Rattle.canon_handles.specs.declared.handle.Scope.TheVariants.{Id}

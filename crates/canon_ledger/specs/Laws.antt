@@ -1,5 +1,5 @@
--- Laws of the ledger, over every list of its steps.
-use Rattle.std.specs.Prelude.{◌≡◌, ℕ, ◌==◌, Bool, true, false, List, ◌++◌, ◌∷◌, ◌⊎◌, Option, Some, None, Ok, Err}
+-- Laws of the ledger: of one in hand, and over every list of its steps.
+use Rattle.std.specs.Prelude.{◌≡◌, ℕ, ◌<◌, ◌≤◌, ◌==◌, Bool, true, false, All, List, [], ◌++◌, ◌∷◌, length, ◌⊎◌, Option, Some, None, option_map, Ok, Err}
 use Rattle.canon_handles.specs.declared.handle.Scope.TheVariants.{Id}
 use Rattle.canon_handles.specs.declared.handle.TypedResource.{TypedResource}
 use Rattle.canon_handles.specs.declared.handle.TypedResource.TheVariants.{Host}
@@ -7,9 +7,36 @@ use Rattle.canon_handles.specs.declared.handle.Entry.{Entry}
 use Rattle.canon_handles.specs.declared.handle.Entry.TheVariants.{ResourceOwn, ResourceBorrow}
 use Rattle.canon_ledger.specs.declared.host.TableSlot.{TableSlot}
 use Rattle.canon_ledger.specs.declared.fault.ResourceFault.{ResourceFault}
-use Rattle.canon_ledger.specs.Handles.{IsConsistent}
+use Rattle.canon_handles.specs.Table.{entry_at}
+use Rattle.canon_handles.specs.Calls.{is_own, lends_of, raw_index}
+use Rattle.canon_ledger.specs.Handles.{Handles, Lender, IsConsistent, table_at, scope_at, sum_over_tables, stands}
 use Rattle.canon_ledger.specs.Index.{GivenIndex}
-use Rattle.canon_ledger.specs.Ledger.{LedgerState, LedgerStep, New, Drop, LiftOwn, LowerBorrow, HostLiftOwn, HostLiftBorrow, HostDrop, HostRemove, HostLowerOwn, HostLowerBorrow, do_step, run_steps, raised, slot_at, host_entry, Through, Partway, IsAccepted, IsHostSound, new_ledger}
+use Rattle.canon_ledger.specs.Ledger.{LedgerState, LedgerStep, New, Drop, LiftOwn, LowerBorrow, HostLiftOwn, HostLiftBorrow, HostDrop, HostRemove, HostLowerOwn, HostLowerBorrow, do_step, run_steps, raised, slot_at, host_entry, last_generation, Through, Partway, IsAccepted, IsHostSound, new_ledger}
+
+-- A ledger in hand
+
+-- at the lender's table and index stands an own handle, which is lent
+abbrev pub IsLent : Handles → Lender → Type 0
+IsLent h lender = let o = entry_at (table_at h lender.table) (raw_index lender.index) in (is_own o ≡ true) × (0 < lends_of o)
+
+-- What holds of each ledger that calls have made.
+pub record LedgerLaws (l : LedgerState) : Type 0 where
+  -- there are the host's table and those of 256 instances
+  pub tables : length l.handles.tables ≡ 257
+  -- what is counted: live handles are entries and lends, a lend count is the number of its handle's lenders in open scopes,
+  -- and a scope's borrow count the number of borrow handles that name it; and each table's indexes are sound
+  pub handles : IsConsistent l.handles
+  -- what stands among a scope's lenders is an own handle that is lent
+  pub lenders_are_lent : (k : ℕ) → All (IsLent l.handles) (scope_at l.handles k).lenders
+  -- a borrow handle names an open scope
+  pub borrows_are_open : (p i k : ℕ) (resource : TypedResource) → entry_at (table_at l.handles p) i ≡ Some (ResourceBorrow resource (Id k)) → k < length l.handles.scopes
+  -- while no scope is open, nothing is lent, and the live handles are the entries
+  pub none_lent_at_rest : l.handles.scopes ≡ [] → l.handles.counter.live ≡ sum_over_tables stands l.handles
+  -- the host's slots: none is newer than the current generation, each handle has one, and that of an index without a handle is older
+  pub host : IsHostSound l
+  pub last_generation_at_most : l.host.generation ≤ last_generation
+  -- an index that is accepted has the generation in which the entry there was inserted
+  pub accepted_are_current : (x : GivenIndex) → IsAccepted x l → option_map (λ (s : TableSlot). s.generation) (slot_at l.host x.index) ≡ Some x.generation
 
 -- Refusals
 

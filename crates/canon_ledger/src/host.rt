@@ -28,13 +28,16 @@ pub struct HostResourceData {
 }
 
 impl Model for HostResourceData {
-    ghost use Rattle.std.specs.Prelude.{◌∷◌, ◌-◌, None, Some, map, length};
+    ghost use Rattle.std.specs.Prelude.{◌∷◌, ◌-◌, ◌≤◌, None, Some, map, length};
     ghost use Rattle.std.specs.Vec.{vec_capacity};
     ghost use Rattle.canon_ledger.specs.Books.{KeptIndexes, indexes_of};
+    ghost use Rattle.canon_ledger.specs.Ledger.{last_generation};
 
     ghost Value = { KeptIndexes };
 
     ghost view = { λ a. record { indexes = indexes_of (None ∷ map Some a.slots.items) a.generation; room = vec_capacity a.slots - length a.slots.items } };
+
+    ghost invariant = { λ a. a.generation ≤ last_generation };
 }
 
 impl HostResourceData {
@@ -64,7 +67,8 @@ impl HostResourceData {
 
     /// The current generation.
     pub(crate) fn generation(&self) -> u32
-        ensures { result ≡ self.now.indexes.generation }
+        ensures generation { result ≡ self.now.indexes.generation }
+        ensures last { result ≤ last_generation }
     {
         self.generation
     }

@@ -7,6 +7,7 @@ ghost use Rattle.canon_ledger.specs.Places.{HasType, SamePlaces, type_table};
 ghost use Rattle.canon_ledger.specs.Ledger as ledger;
 ghost use Rattle.canon_ledger.specs.Ledger.{Did, drop_return, given, with_its_slot};
 ghost use Rattle.canon_ledger.specs.Books.{DidSurely, IsOpen, scope_number};
+ghost use Rattle.canon_ledger.specs.Laws.{LedgerLaws};
 
 use crate::fault::ResourceFault;
 use crate::host::TableSlot;
@@ -78,6 +79,14 @@ impl<'a> HostResourceTables<'a> {
         ensures same_scope { scope_in result ≡ tables.entry.current_scope }
     {
         HostResourceTables { tables }
+    }
+
+    /// What holds of the ledger, as of every other: so of the host's indexes too, that one which is
+    /// accepted has the generation in which its entry was inserted. It does nothing.
+    pub fn laws(&self)
+        ensures { LedgerLaws (ledger_in self.now) }
+    {
+        self.tables.laws();
     }
 
     /// Whether a resource type is known here, and its instance is one of the ledger's: the condition

@@ -3,8 +3,10 @@
 ghost use Rattle.std.specs.Prelude.{◌≡◌, ◌≤◌, ◌<◌, ◌+◌, ◌-◌, ◌∷◌, [], Some, None, IfOk, OnErr, length, true, false, MatchOption, slice_get, if◌then◌else◌, nat_lt, map, replicate, suc};
 ghost use Rattle.canon_handles.specs.declared.handle.Scope.TheVariants.{Id};
 ghost use Rattle.canon_ledger.specs.Handles as handles;
-ghost use Rattle.canon_ledger.specs.Handles.{can_leave, host_table, number_of, scope_at, top_scope};
+ghost use Rattle.canon_ledger.specs.Handles.{can_leave, host_table, number_of, scope_at, table_at, top_scope};
 ghost use Rattle.canon_handles.specs.Table.{empty_table, max_handle};
+ghost use Rattle.canon_handles.specs.Laws.{TableLaws};
+ghost use Rattle.canon_ledger.specs.Laws.{LedgerLaws};
 ghost use Rattle.canon_ledger.specs.Ledger.{Did, enter, host_resource_lower_own, is_stale, slot_at, leave, new_ledger, resource_drop, resource_lift_borrow, resource_lift_own, resource_lower_borrow, resource_new, resource_rep, set_limit, validate_scope_exit};
 ghost use Rattle.canon_ledger.specs.Books.{scope_number, DidSurely, IsOpen};
 
@@ -82,6 +84,25 @@ impl Ledger {
             handles,
             host,
         })
+    }
+
+    /// What holds of this ledger, and of every other. The live handles are the entries of all tables
+    /// and the lends; an own handle's lend count is the number of its lenders in open scopes; a
+    /// scope's borrow count is the number of the borrow handles that name it; an index that the host
+    /// may use has the generation in which its entry was inserted. For a proof that cites it; it does
+    /// nothing.
+    pub fn laws(&self)
+        ensures { LedgerLaws self.now }
+    {
+        let _generation = self.host.generation(); // at most the last one
+    }
+
+    /// What holds of one of its tables, the host's (0) or that of an instance. It does nothing.
+    pub fn table_laws(&self, table: u32)
+        requires { table < length self.now.handles.tables }
+        ensures { TableLaws (table_at self.now.handles table) }
+    {
+        self.handles.tables[table as usize].laws();
     }
 
     /// The number of the instances, which is 256.

@@ -5,6 +5,7 @@ ghost use Rattle.canon_ledger.specs.Handles.{host_table};
 ghost use Rattle.canon_ledger.specs.Places.{first_type, HasType, IsIndexPlaced, IsPlaced, SamePlaces, table_of_resource, table_of_index, type_table};
 ghost use Rattle.canon_ledger.specs.Ledger.{Did, host_resource_lower_own, is_stale, resource_drop, resource_lift_borrow, resource_lift_own, resource_lower_borrow, resource_new, resource_rep, slot_at, validate_scope_exit};
 ghost use Rattle.canon_ledger.specs.Books.{DidSurely, IsOpen, scope_number};
+ghost use Rattle.canon_ledger.specs.Laws.{LedgerLaws};
 
 use crate::fault::ResourceFault;
 use crate::handles::number_of;
@@ -74,6 +75,13 @@ impl<'a> ResourceTables<'a> {
             TypedResourceIndex::Host(_) => self.ledger.host_table(),
             TypedResourceIndex::Component { ty, .. } => self.type_table(*ty),
         }
+    }
+
+    /// What holds of the ledger, as of every other. It does nothing.
+    pub fn laws(&self)
+        ensures { LedgerLaws self.now.ledger.now }
+    {
+        self.ledger.laws();
     }
 
     /// Whether a resource type is known here, and its instance is one of the ledger's: the condition

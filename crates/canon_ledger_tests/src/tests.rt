@@ -4,6 +4,7 @@
 ghost use Rattle.std.specs.Prelude.{◌≤◌};
 ghost use Rattle.canon_ledger.specs.Ledger.{last_generation};
 
+mod laws;
 mod scopes;
 
 use canon_handles::{TypedResource, TypedResourceIndex};
