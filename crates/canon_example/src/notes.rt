@@ -161,7 +161,8 @@ impl Notes {
         draft: &Draft,
         words: &[ValRaw],
     ) -> Result<Step, GuestFault>
-        ensures length { length memory.new ≡ length memory.old }
+        ensures length { length memory.new.bytes ≡ length memory.old.bytes }
+        ensures width { memory.new.wide ≡ memory.old.wide }
         ensures counts { self.new.counts ≡ self.old.counts }
     {
         let [time] = words else {
@@ -180,7 +181,8 @@ impl Notes {
 
     /// Goes on with what the host answered.
     fn go_on(&mut self, memory: &mut Memory, words: &[ValRaw]) -> Result<Step, GuestFault>
-        ensures length { length memory.new ≡ length memory.old }
+        ensures length { length memory.new.bytes ≡ length memory.old.bytes }
+        ensures width { memory.new.wide ≡ memory.old.wide }
         ensures counts { self.new.counts ≡ self.old.counts }
     {
         match self.asked.take() {
@@ -277,9 +279,10 @@ fn count_words(text: &[u8]) -> u32 {
 
 /// Writes a number at an address.
 fn put_u32(memory: &mut Memory, at: u64, number: u32)
-    requires { at + 4 ≤ length memory.old }
-    ensures length { length memory.new ≡ length memory.old }
-    ensures bytes { memory.new ≡ take at memory.old ++ to_le_bytes w32 number ++ drop (at + 4) memory.old }
+    requires { at + 4 ≤ length memory.old.bytes }
+    ensures length { length memory.new.bytes ≡ length memory.old.bytes }
+    ensures width { memory.new.wide ≡ memory.old.wide }
+    ensures bytes { memory.new.bytes ≡ take at memory.old.bytes ++ to_le_bytes w32 number ++ drop (at + 4) memory.old.bytes }
 {
     let at = at as usize;
     memory.as_slice_mut()[at..at + 4].copy_from_slice(&number.to_le_bytes());
