@@ -1,5 +1,6 @@
 pub mod Steps
 pub mod Lowerings
+pub mod Marks
 pub mod Kept
 pub mod Bytes
 pub mod TextSteps

@@ -1,10 +1,13 @@
 -- The law of `realloc`, and its test.
-use Rattle.std.proofs.Common.{◌≡◌, ℕ, zero, suc, ◌+◌, ◌-◌, ◌%◌, ◌<◌, ◌≤◌, min, max, Bool, true, false, not, List, [], ◌∷◌, ◌++◌, length, take, refl, sym, ap, ap₂, subst, ◌∙◌, arith, ◌⊎◌, inl, inr, ⊎_elim, ◌↔◌, IsTrue, eqb-true, eq-eqb, slice_index, slice_index_or}
+use Rattle.std.proofs.Common.{◌≡◌, ℕ, zero, suc, ◌+◌, ◌-◌, ◌<◌, ◌≤◌, min, max, Bool, true, false, not, List, [], ◌∷◌, ◌++◌, drop, length, take, refl, sym, ap, ap₂, subst, ◌∙◌, arith, ◌⊎◌, inl, inr, ⊎_elim, ◌↔◌, IsTrue, eqb-true, eq-eqb, slice_index, slice_index_or}
 use Rattle.std.proofs.lemmas.Bool.{and_parts, and_from, both_ways, cond-true, cond-false, ne_eqb, cases_Bool, cases_lt, leb-true, le-leb}
-use Rattle.std.proofs.lemmas.List.{get_or-take, get_or_past, length-take, take_all}
+use Rattle.std.proofs.lemmas.List.{get_or-drop, get_or-take, get_or_past, length-drop, length-take, take_all}
 use Rattle.std.proofs.lemmas.List.Elements.{Contains-append_cases, Contains-append_left, Contains-append_right, Contains-get_or}
+use Rattle.std.proofs.lemmas.Grind.{same_number_lists}
 use lib.Dec.{leb}
-use Rattle.std.specs.List.{All, AllWithin, Contains}
+use Rattle.std.specs.Prelude.{nat_eq}
+use Rattle.std.specs.Cmp.Lexicographic.{other_text, pointwise, same_text}
+use Rattle.std.specs.List.{All, AllWithin, Contains, slice_range}
 use Rattle.canon_model.specs.Memory.{Block, InBlocks}
 use Rattle.canon_model.specs.Requests.{Call}
 use Rattle.canon_memory.specs.declared.guest.Step.{Step}
@@ -21,6 +24,39 @@ same_yes b c e = let p = and_parts _ _ e in ap₂ block (eqb-true _ _ p.0) (eqb-
 
 pub same_from : (b c : Block) → b ≡ c → same_block b c ≡ true
 same_from b c e = and_from _ _ (eq-eqb _ _ (ap (λ (x : Block). x.start) e)) (eq-eqb _ _ (ap (λ (x : Block). x.size) e))
+
+-- ---- bytes
+
+at_part : (xs ys : List ℕ) (at count k : ℕ) → ys ≡ slice_range xs at (at + count) → k < count → slice_index ys k ≡ slice_index xs (at + k)
+at_part xs ys at count k is lt =
+    ap (λ (zs : List ℕ). slice_index zs k) is
+    ∙ get_or-take (at + count - at) (drop at xs) k 0 (omega (arith, lt))
+    ∙ get_or-drop at xs k 0
+
+part_length : (xs ys : List ℕ) (at count : ℕ) → ys ≡ slice_range xs at (at + count) → at + count ≤ length xs → length ys ≡ count
+part_length xs ys at count is inside = ap length is ∙ length-take (at + count - at) (drop at xs) ∙ omega (arith, inside, length-drop at xs)
+
+-- parts that lie inside are compared as lists
+pub parts_tested : (before after old new : List ℕ) (at to count : ℕ) (r : Bool) → at + count ≤ length before → to + count ≤ length after → old ≡ slice_range before at (at + count) → new ≡ slice_range after to (to + count)
+    → r ≡ pointwise nat_eq new old → (IsTrue r ↔ SameBytes before at after to count)
+parts_tested before after old new at to count r inside inside2 eo en told = (
+  λ t k lt.
+      let same : new ≡ old = same_text new old (sym t ∙ told) in
+      sym (at_part after new to count k en lt) ∙ ap (λ (zs : List ℕ). slice_index zs k) same ∙ at_part before old at count k eo lt,
+  λ h. ⊎_elim
+      (λ yes. yes)
+      (λ no. absurd (other_text new old (sym no ∙ told) (same_number_lists new old
+      (part_length after new to count en inside2 ∙ sym (part_length before old at count eo inside))
+      (λ k lt. let lt2 : k < count = omega (arith, lt, part_length after new to count en inside2) in at_part after new to count k en lt2 ∙ h k lt2 ∙ sym (at_part before old at count k eo lt2)))))
+      (cases_Bool r),
+)
+
+-- past both ends there are zeros
+pub same_past : (before after : List ℕ) (at to seen count : ℕ) → seen ≡ min (max (length before - at) (length after - to)) count → SameBytes before at after to seen → SameBytes before at after to count
+same_past before after at to seen count is h k lt = ⊎_elim
+    (λ (low : k < seen). h k low)
+    (λ past. get_or_past after (to + k) 0 (omega (arith, is, past, lt)) ∙ sym (get_or_past before (at + k) 0 (omega (arith, is, past, lt))))
+    (cases_lt k seen)
 
 -- ---- apart
 

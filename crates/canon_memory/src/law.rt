@@ -1,6 +1,6 @@
 //! The law of `realloc`, tested on one answer.
 
-ghost use Rattle.std.specs.Prelude.{◌≡◌, ◌+◌, ◌<◌, ◌≤◌, ◌^◌, ◌++◌, ◌∷◌, ◌↔◌, [], List, ℕ, IsTrue, length, min, slice_index};
+ghost use Rattle.std.specs.Prelude.{◌≡◌, ◌+◌, ◌-◌, ◌<◌, ◌≤◌, ◌^◌, ◌++◌, ◌∷◌, ◌↔◌, [], List, ℕ, IsTrue, length, min, slice_index};
 ghost use Rattle.std.specs.List.{All};
 ghost use Rattle.std.specs.Vec.{vec_capacity, vec_len};
 ghost use Rattle.canon_memory.specs.Realloc.{IsTidy, block, call};
@@ -83,11 +83,38 @@ fn byte_at(bytes: &[u8], at: u64, k: u64) -> u8
     }
 }
 
+/// How many bytes there are from an address on.
+fn left(bytes: &[u8], at: u64) -> u64
+    ensures { result ≡ length bytes.now - at }
+{
+    (bytes.len() as u64).saturating_sub(at)
+}
+
+/// Whether `count` bytes from an address on are inside.
+fn are_inside(bytes: &[u8], at: u64, count: u64) -> bool
+    ensures { IsTrue result ↔ (at + count ≤ length bytes.now) }
+{
+    u128::from(at) + u128::from(count) <= bytes.len() as u128
+}
+
 /// Whether `count` bytes from `at` on stand in `after` from `to` on. Past an end there are zeros.
 fn are_same(before: &[u8], at: u64, after: &[u8], to: u64, count: u64) -> bool
     ensures { IsTrue result ↔ SameBytes before.now at after.now to count }
 {
-    for k in 0..count {
+    if are_inside(before, at, count) && are_inside(after, to, count) {
+        let old = &before[at as usize..(at + count) as usize];
+        let new = &after[to as usize..(to + count) as usize];
+        return new == old;
+    }
+    are_same_past(before, at, after, to, count)
+}
+
+/// The same byte by byte, where an end may be passed. What lies past both ends takes no time.
+fn are_same_past(before: &[u8], at: u64, after: &[u8], to: u64, count: u64) -> bool
+    ensures { IsTrue result ↔ SameBytes before.now at after.now to count }
+{
+    let seen = left(before, at).max(left(after, to)).min(count);
+    for k in 0..seen {
         if byte_at(after, to, k) != byte_at(before, at, k) {
             return false;
         }

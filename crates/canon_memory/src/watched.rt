@@ -5,19 +5,20 @@ ghost use Rattle.std.proofs.Common.{refl, ◌∙◌};
 ghost use Rattle.canon_memory.specs.Watch.{WatchedMoves, Watching, along_both, watched_guest};
 
 use crate::law::{AnswerMark, LiveBlock, mark_answer, shot};
-use crate::{Bytes, Guest, GuestFault, Memory, Step, ValRaw};
+use crate::{Guest, GuestFault, Memory, Step, ValRaw};
 use std::alloc::Global;
 use std::marker::Model;
 
 /// A guest, and what was seen of its answers of `realloc`: each is tested, over the blocks that it gave since it last ran.
 #[derive(Drop)]
 pub struct Watched<G> {
-    alloc: Global,
     guest: G,
     whole: bool,
     live: Vec<LiveBlock>,
     marks: Vec<AnswerMark>,
     shortages: u64,
+    // a copy of memory as it was before the last answer, kept for its room
+    before: Vec<u8>,
 }
 
 impl<G> Model for Watched<G> {
@@ -37,12 +38,12 @@ impl<G> Watched<G> {
         ensures { result ≡ record { guest = guest; whole = true; live = []; marks = []; shortages = 0 } }
     {
         Watched {
-            alloc,
             guest,
             whole: true,
             live: Vec::new(alloc),
             marks: Vec::new(alloc),
             shortages: 0,
+            before: Vec::new(alloc),
         }
     }
 
@@ -52,12 +53,12 @@ impl<G> Watched<G> {
         ensures { result ≡ record { guest = guest; whole = false; live = []; marks = []; shortages = 0 } }
     {
         Watched {
-            alloc,
             guest,
             whole: false,
             live: Vec::new(alloc),
             marks: Vec::new(alloc),
             shortages: 0,
+            before: Vec::new(alloc),
         }
     }
 
@@ -161,11 +162,10 @@ impl<G: Guest> Guest for Watched<G> {
         ensures exact { IfOk result (λ answer. Marks self.old self.new memory.old.bytes memory.new.bytes (call old old_size align new_size) answer) }
         ensures kept { OnErr result ((self.new.marks ≡ self.old.marks) × (self.new.live ≡ self.old.live)) }
     {
-        let kept = shot(&self.live, old + old_size, self.whole, memory.as_slice());
-        let Ok(before) = Bytes::from_slice(self.alloc, kept) else {
-            return Err(self.count(GuestFault::OutOfMemory));
-        };
-        if self.live.reserve(1).is_err() || self.marks.reserve(1).is_err() {
+        let seen = shot(&self.live, old + old_size, self.whole, memory.as_slice());
+        self.before.clear();
+        let is_copied = self.before.extend_from_slice(seen).is_ok();
+        if !is_copied || self.live.reserve(1).is_err() || self.marks.reserve(1).is_err() {
             return Err(self.count(GuestFault::OutOfMemory));
         }
         match self.guest.realloc(memory, old, old_size, align, new_size) {
@@ -179,7 +179,7 @@ impl<G: Guest> Guest for Watched<G> {
                     new_size,
                     answer,
                     self.whole,
-                    before.as_slice(),
+                    &self.before,
                     memory.as_slice(),
                 );
                 Ok(answer)

@@ -169,6 +169,28 @@ fn a_memory_is_zeros_until_it_is_written(rt: HostRuntime) {
     assert!(rt; (told, past) == (Some([true; 3]), Some(MemoryError::TooLarge)));
 }
 
+/// Whether a wide memory of 3 bytes has zeros, grows by one byte, and is wide then.
+fn zeros_and_wide(alloc: Global) -> Option<[bool; 3]> {
+    let mut memory = Memory::new_wide(alloc, 3).ok()?;
+    let is_zeros = memory.as_slice() == [0, 0, 0].as_slice();
+    let is_grown = memory.grow(1) == Ok(()) && memory.len() == 4;
+    Some([is_zeros, is_grown, memory.is_wide()])
+}
+
+/// Whether a memory that wasn't made wide is so.
+fn is_made_wide(alloc: Global) -> Option<bool> {
+    let memory = Memory::new(alloc, 3).ok()?;
+    Some(memory.is_wide())
+}
+
+#[test]
+fn a_memory_is_wide_if_it_was_made_so(rt: HostRuntime) {
+    let alloc = rt.alloc();
+    let past = Memory::new_wide(alloc, 4_294_967_297).err();
+    let told = (zeros_and_wide(alloc), is_made_wide(alloc), past);
+    assert!(rt; told == (Some([true; 3]), Some(false), Some(MemoryError::TooLarge)));
+}
+
 /// What a memory answers where it grows by one byte, and then by too many.
 #[derive(Clone, Copy)]
 struct Grown {

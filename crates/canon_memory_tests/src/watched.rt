@@ -5,13 +5,13 @@ ghost use Rattle.std.specs.Prelude.{◌≡◌, [], None, false, length, replicat
 use canon_memory::{Guest, GuestFault, Memory, Step, ValRaw, Watched, Words};
 use std::alloc::Global;
 
-/// A guest that answers the first `realloc` with one address and the others with another, whatever they ask for. It may add 1 to byte 0
-/// each time. It marks nothing.
+/// A guest that answers the first `realloc` with one address and the others with another, whatever they ask for. Where memory isn't wide
+/// it answers their low halves. It may add 1 to byte 0 each time. It marks nothing.
 #[derive(Drop)]
 struct Giver {
     alloc: Global,
-    first: u32,
-    later: u32,
+    first: u64,
+    later: u64,
     scribbles: bool,
     answers: u64,
     traps: u64,
@@ -62,7 +62,11 @@ impl Guest for Giver {
             self.later
         };
         self.answers += 1;
-        Ok(u64::from(at))
+        if memory.is_wide() {
+            Ok(at)
+        } else {
+            Ok(at % (1 << 32))
+        }
     }
 
     fn post_return(
@@ -81,7 +85,8 @@ impl Guest for Giver {
 
 /// Adds 1 to byte 0.
 fn scribble(memory: &mut Memory)
-    ensures { length memory.new ≡ length memory.old }
+    ensures length { length memory.new.bytes ≡ length memory.old.bytes }
+    ensures width { memory.new.wide ≡ memory.old.wide }
 {
     if let Some(byte) = memory.as_slice_mut().first_mut() {
         *byte = byte.wrapping_add(1);
@@ -98,7 +103,7 @@ fn marks_of(guest: &Watched<Giver>) -> Marks {
     }
 }
 
-fn watched_giver(alloc: Global, first: u32, later: u32, scribbles: bool) -> Watched<Giver> {
+fn watched_giver(alloc: Global, first: u64, later: u64, scribbles: bool) -> Watched<Giver> {
     let giver = Giver {
         alloc,
         first,
@@ -111,7 +116,7 @@ fn watched_giver(alloc: Global, first: u32, later: u32, scribbles: bool) -> Watc
 }
 
 /// The same of a guest of whose bytes only those in the blocks are watched.
-fn asked_lawful_only(alloc: Global, first: u32, later: u32) -> Marks {
+fn asked_lawful_only(alloc: Global, first: u64, later: u64) -> Marks {
     let mut memory = Memory::new(alloc, 64).ok()?;
     let giver = Giver {
         alloc,
@@ -142,7 +147,7 @@ fn no_answer_is_tidy_where_only_blocks_are_watched(rt: HostRuntime) {
 }
 
 /// What is seen of a guest that is asked for two blocks of 8 bytes, aligned to 4, in a memory of 64 bytes.
-fn asked_twice(alloc: Global, first: u32, later: u32, scribbles: bool) -> Marks {
+fn asked_twice(alloc: Global, first: u64, later: u64, scribbles: bool) -> Marks {
     let mut memory = Memory::new(alloc, 64).ok()?;
     let mut guest = watched_giver(alloc, first, later, scribbles);
     let _first = guest.realloc(&mut memory, 0, 0, 4, 8);
@@ -178,6 +183,30 @@ fn a_byte_written_outside_all_blocks_is_untidy(rt: HostRuntime) {
 #[test]
 fn a_byte_written_in_another_block_is_unlawful(rt: HostRuntime) {
     assert!(rt; asked_twice(rt.alloc(), 0, 24, true) == Some(([true, false], [true, false])));
+}
+
+/// The same in a wide memory.
+fn asked_wide(alloc: Global, first: u64, later: u64) -> Marks {
+    let mut memory = Memory::new_wide(alloc, 64).ok()?;
+    let mut guest = watched_giver(alloc, first, later, false);
+    let _first = guest.realloc(&mut memory, 0, 0, 4, 8);
+    let _later = guest.realloc(&mut memory, 0, 0, 4, 8);
+    marks_of(&guest)
+}
+
+#[test]
+fn a_block_past_4_gigabytes_is_unlawful(rt: HostRuntime) {
+    // 2^32 + 16, and the last multiple of 4 below 2^64
+    let told = [
+        asked_wide(rt.alloc(), 4_294_967_312, 24),
+        asked_wide(rt.alloc(), 16, 18_446_744_073_709_551_612),
+    ];
+    assert!(rt;
+        told == [
+            Some(([false, true], [true, true])),
+            Some(([true, false], [true, true]))
+        ]
+    );
 }
 
 /// The same of a block of 8 bytes that is given, written, and given again at another place.

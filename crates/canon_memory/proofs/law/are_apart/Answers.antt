@@ -1,4 +1,4 @@
-use Rattle.std.proofs.Common.{rules, arith}
+use Rattle.std.proofs.Common.{rules}
 use Rattle.canon_memory.proofs.Watch.{apart_tested}
 use Rattle.canon_memory.proofs.law.are_apart.Goals as goal
 

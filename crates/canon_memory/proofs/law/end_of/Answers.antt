@@ -1,4 +1,4 @@
-use Rattle.std.proofs.Common.{rules, arith, ◌≤◌, ◌∙◌, subst}
+use Rattle.std.proofs.Common.{rules, ◌≤◌, ◌∙◌, subst}
 use Rattle.std.proofs.lemmas.List.{get_or_default}
 use Rattle.std.proofs.lemmas.List.Elements.{AllWithin-more}
 use Rattle.canon_memory.specs.Watch.{EndsBy}

@@ -1,4 +1,4 @@
-use Rattle.std.proofs.Common.{rules, ◌≡◌, ◌∙◌, ap, ◌++◌, ◌∷◌, [], ◌<◌, not, arith, sym, append-nil}
+use Rattle.std.proofs.Common.{rules, ◌≡◌, ◌∙◌, ap, ◌++◌, ◌∷◌, [], not, sym, append-nil}
 use Rattle.std.proofs.lemmas.Fn.{filter_same}
 use Rattle.canon_memory.specs.Watch.{listed, others, same_block}
 use Rattle.canon_memory.proofs.Watch.{listed_none, listed_some}

@@ -2,14 +2,14 @@ use Rattle.std.proofs.Common.{rules, ◌≡◌, ◌∙◌, ◌+◌, ◌++◌, �
 use Rattle.canon_memory.specs.Guest.{Goes, moment}
 use Rattle.canon_memory.specs.Journal.{answer_event}
 use Rattle.canon_memory.specs.Realloc.{call}
-use Rattle.canon_memory.specs.Watch.{IsExact, IsShot, Marks}
+use Rattle.canon_memory.specs.Watch.{IsExact, IsShot}
 use Rattle.canon_memory.proofs.Watch.{exact_at, shot_at}
 use Rattle.canon_memory.proofs.watched.WatchedGuest.realloc.Goals as goal
 
-pub returns-in-Ok-realloc-clause-exact : goal.returns-in-Ok-realloc-clause-exact
-returns-in-Ok-realloc-clause-exact g c =
+pub returns-in-Ok-clause-exact : goal.returns-in-Ok-clause-exact
+returns-in-Ok-clause-exact g c =
     let asked = call c.args.old c.args.old_size c.args.align c.args.new_size in
-    let told = c.in-Ok-realloc.ensures.does in
+    let told = c.in-Ok.ensures.does in
     let m = c.mark_answer.ensures.marked in
     let w = c.self.inside.whole in
     let whole : w ≡ c.args.self.now.whole = search rules in
@@ -17,27 +17,27 @@ returns-in-Ok-realloc-clause-exact g c =
     let live : c.reserve.new.self.items ≡ c.args.self.now.live = search rules in
     let lived : c.deref.result.now ≡ c.reserve.new.self.items = search rules in
     let memory : c.as_slice.result.now ≡ c.args.memory.now.bytes = search rules in
-    let before : c.shot-kept.result.now ≡ c.as_slice-in-Ok-realloc.result.now = search rules in
-    let after : c.as_slice-in-Ok-realloc-2.result.now ≡ c.realloc.new.memory.bytes = search rules in
-    let longer : length c.args.memory.now.bytes ≤ length c.as_slice-in-Ok-realloc-2.result.now = search rules in
-    let is : IsShot w c.reserve.new.self.items (c.args.old + c.args.old_size) c.args.memory.now.bytes c.as_slice-in-Ok-realloc.result.now =
-    shot_at w c.deref.result.now c.reserve.new.self.items (c.args.old + c.args.old_size) c.as_slice.result.now c.args.memory.now.bytes c.shot-kept.result.now c.as_slice-in-Ok-realloc.result.now lived memory before c.shot-kept.ensures in
-    let e : IsExact w c.args.self.now.live c.mark_answer.new.live.items c.args.memory.now.bytes c.realloc.new.memory.bytes asked c.in-Ok-realloc.answer m.0 =
-    exact_at w c.args.self.now.live c.reserve.new.self.items c.mark_answer.new.live.items c.args.memory.now.bytes c.realloc.new.memory.bytes c.as_slice-in-Ok-realloc-2.result.now asked c.in-Ok-realloc.answer m.0 live after (m.2 c.args.memory.now.bytes is longer) in (
+    let before : c.shot-seen.result.now ≡ c.deref-in-Ok.result.now = search rules in
+    let after : c.as_slice-in-Ok.result.now ≡ c.realloc.new.memory.bytes = search rules in
+    let longer : length c.args.memory.now.bytes ≤ length c.as_slice-in-Ok.result.now = search rules in
+    let is : IsShot w c.reserve.new.self.items (c.args.old + c.args.old_size) c.args.memory.now.bytes c.deref-in-Ok.result.now =
+    shot_at w c.deref.result.now c.reserve.new.self.items (c.args.old + c.args.old_size) c.as_slice.result.now c.args.memory.now.bytes c.shot-seen.result.now c.deref-in-Ok.result.now lived memory before c.shot-seen.ensures in
+    let e : IsExact w c.args.self.now.live c.mark_answer.new.live.items c.args.memory.now.bytes c.realloc.new.memory.bytes asked c.in-Ok.answer m.0 =
+    exact_at w c.args.self.now.live c.reserve.new.self.items c.mark_answer.new.live.items c.args.memory.now.bytes c.realloc.new.memory.bytes c.as_slice-in-Ok.result.now asked c.in-Ok.answer m.0 live after (m.2 c.args.memory.now.bytes is longer) in (
       m.0,
       m.1 ∙ ap (λ l. l ++ m.0 ∷ []) marks,
-      subst (λ v. IsExact v c.args.self.now.live c.mark_answer.new.live.items c.args.memory.now.bytes c.realloc.new.memory.bytes asked c.in-Ok-realloc.answer m.0) whole e,
+      subst (λ v. IsExact v c.args.self.now.live c.mark_answer.new.live.items c.args.memory.now.bytes c.realloc.new.memory.bytes asked c.in-Ok.answer m.0) whole e,
     )
 
-pub returns-in-Ok-realloc-clause-does : goal.returns-in-Ok-realloc-clause-does
-returns-in-Ok-realloc-clause-does g c =
+pub returns-in-Ok-clause-does : goal.returns-in-Ok-clause-does
+returns-in-Ok-clause-does g c =
     let asked = call c.args.old c.args.old_size c.args.align c.args.new_size in
     let seen = g.G.Guest.seen in
-    let told = c.in-Ok-realloc.ensures.does in
+    let told = c.in-Ok.ensures.does in
     let is : c.self.inside.guest ≡ c.args.self.now.guest = search rules in
-    let inner : Goes (moment (seen c.args.self.now.guest) c.args.memory.now.bytes) (moment (seen c.realloc.new.self) c.realloc.new.memory.bytes) (told.0 ∷ []) (answer_event asked c.in-Ok-realloc.answer ∷ []) =
-    subst (λ h. Goes (moment (seen h) c.args.memory.now.bytes) (moment (seen c.realloc.new.self) c.realloc.new.memory.bytes) (told.0 ∷ []) (answer_event asked c.in-Ok-realloc.answer ∷ [])) is told.1.goes in
-    let m = returns-in-Ok-realloc-clause-exact g c in (
+    let inner : Goes (moment (seen c.args.self.now.guest) c.args.memory.now.bytes) (moment (seen c.realloc.new.self) c.realloc.new.memory.bytes) (told.0 ∷ []) (answer_event asked c.in-Ok.answer ∷ []) =
+    subst (λ h. Goes (moment (seen h) c.args.memory.now.bytes) (moment (seen c.realloc.new.self) c.realloc.new.memory.bytes) (told.0 ∷ []) (answer_event asked c.in-Ok.answer ∷ [])) is told.1.goes in
+    let m = returns-in-Ok-clause-exact g c in (
       m.0,
       record {
         goes = record { no_shorter = inner.no_shorter; traps_later = inner.traps_later; shortages_later = search rules; marks = m.1; events = inner.events };
