@@ -1,5 +1,5 @@
 -- A type with a part that is too large for a size of 32 bits is too large itself. A type is too large where one of its sizes for the two widths is.
-use Rattle.std.proofs.Common.{◌≡◌, ◌≤◌, ◌<◌, ◌+◌, ◌*◌, ◌^◌, ◌⊎◌, ◌++◌, Bool, List, None, Option, Some, [], ◌∷◌, ap, arith, false, inl, inr, refl, subst, sym, suc, ℕ}
+use Rattle.std.proofs.Common.{◌≡◌, ◌≤◌, ◌<◌, ◌*◌, ◌^◌, ◌⊎◌, ◌++◌, Bool, List, None, Option, Some, [], ◌∷◌, ap, arith, false, inl, inr, refl, subst, sym, suc, true, ℕ}
 use Rattle.canon_abi.specs.Abi.{AreOfCases, TellsLayout, wider_size}
 use Rattle.canon_abi.specs.declared.abi.CanonicalAbiInfo.{CanonicalAbiInfo}
 use Rattle.canon_abi.specs.declared.abi.VariantInfo.{VariantInfo}
