@@ -43,16 +43,16 @@ ArgsCarried wide before after texts ms Have ws hs ending = Attempt wide before a
 
 module _ (enc : Encoding) (m : Memory) where
   -- the tree that stands at an address, with other handles
-  abbrev pub IsTold : Shape → ℕ → Tree → Type 0
-  IsTold s a t = (u : Tree) × RepMem false enc m a s u × Handed u t
+  abbrev pub StandsWith : Shape → ℕ → Tree → Type 0
+  StandsWith s a t = (u : Tree) × RepMem false enc m a s u × Handed u t
 
   -- the trees of members, from where the one before them ends
-  abbrev pub AreTold : Members → ℕ → ℕ → Trees → Type 0
-  AreTold ms o a ts = (us : Trees) × MembersStored (Inside m) false enc m ms o a us × AllHanded us ts
+  abbrev pub StandWith : Members → ℕ → ℕ → Trees → Type 0
+  StandWith ms o a ts = (us : Trees) × MembersStored (Inside m) false enc m ms o a us × AllHanded us ts
 
   -- the same in words
-  abbrev pub IsToldIn : List ℕ → Shape → ℕ → Tree → Type 0
-  IsToldIn ws s i t = (u : Tree) × RepFlatAt false enc m ws i s u × Handed u t
+  abbrev pub StandsWithIn : List ℕ → Shape → ℕ → Tree → Type 0
+  StandsWithIn ws s i t = (u : Tree) × RepFlatAt false enc m ws i s u × Handed u t
 
-  abbrev pub AreToldIn : List ℕ → Members → ℕ → Trees → Type 0
-  AreToldIn ws ms i ts = (us : Trees) × MembersFlat (Inside m) false enc m ws ms i us × AllHanded us ts
+  abbrev pub StandWithIn : List ℕ → Members → ℕ → Trees → Type 0
+  StandWithIn ws ms i ts = (us : Trees) × MembersFlat (Inside m) false enc m ws ms i us × AllHanded us ts

@@ -15,14 +15,14 @@ use Rattle.canon_memory.specs.declared.guest.Step.TheVariants as step
 use Rattle.canon_memory.specs.Guest.{Mark}
 use Rattle.canon_memory.specs.Journal.{step_event}
 use Rattle.canon_memory.specs.Realloc.{IsTidy, ReallocLaw, block, call, new_block, old_block}
-use Rattle.canon_memory.specs.Watch.{AreApart, EndsBy, IsExact, IsShot, IsSpared, LawHolds, SameBytes, listed, live_after, others, relisted, same_block}
+use Rattle.canon_memory.specs.Watch.{BlocksApart, BlockEndsBy, IsExactMark, IsShot, IsSpared, LawHolds, BytesMoved, unless_empty, live_after, other_blocks, relisted, is_block}
 
 -- ---- tests of a block
 
-pub same_yes : (b c : Block) → same_block b c ≡ true → b ≡ c
+pub same_yes : (b c : Block) → is_block b c ≡ true → b ≡ c
 same_yes b c e = let p = and_parts _ _ e in ap₂ block (eqb-true _ _ p.0) (eqb-true _ _ p.1)
 
-pub same_from : (b c : Block) → b ≡ c → same_block b c ≡ true
+pub same_from : (b c : Block) → b ≡ c → is_block b c ≡ true
 same_from b c e = and_from _ _ (eq-eqb _ _ (ap (λ (x : Block). x.start) e)) (eq-eqb _ _ (ap (λ (x : Block). x.size) e))
 
 -- ---- bytes
@@ -38,7 +38,7 @@ part_length xs ys at count is inside = ap length is ∙ length-take (at + count 
 
 -- parts that lie inside are compared as lists
 pub parts_tested : (before after old new : List ℕ) (at to count : ℕ) (r : Bool) → at + count ≤ length before → to + count ≤ length after → old ≡ slice_range before at (at + count) → new ≡ slice_range after to (to + count)
-    → r ≡ pointwise nat_eq new old → (IsTrue r ↔ SameBytes before at after to count)
+    → r ≡ pointwise nat_eq new old → (IsTrue r ↔ BytesMoved before at after to count)
 parts_tested before after old new at to count r inside inside2 eo en told = (
   λ t k lt.
       let same : new ≡ old = same_text new old (sym t ∙ told) in
@@ -52,7 +52,7 @@ parts_tested before after old new at to count r inside inside2 eo en told = (
 )
 
 -- past both ends there are zeros
-pub same_past : (before after : List ℕ) (at to seen count : ℕ) → seen ≡ min (max (length before - at) (length after - to)) count → SameBytes before at after to seen → SameBytes before at after to count
+pub same_past : (before after : List ℕ) (at to seen count : ℕ) → seen ≡ min (max (length before - at) (length after - to)) count → BytesMoved before at after to seen → BytesMoved before at after to count
 same_past before after at to seen count is h k lt = ⊎_elim
     (λ (low : k < seen). h k low)
     (λ past. get_or_past after (to + k) 0 (omega (arith, is, past, lt)) ∙ sym (get_or_past before (at + k) 0 (omega (arith, is, past, lt))))
@@ -63,7 +63,7 @@ same_past before after at to seen count is h k lt = ⊎_elim
 within : (b : Block) (i : ℕ) → InBlocks (b ∷ []) i → (b.start ≤ i) × (i < b.start + b.size)
 within b i h = ⊎_elim (λ p. p) (λ k. absurd k) h
 
-pub apart_tested : (b c : Block) (x y : ℕ) → x ≡ min (b.start + b.size) (c.start + c.size) → y ≡ max b.start c.start → (IsTrue (leb x y) ↔ AreApart b c)
+pub apart_tested : (b c : Block) (x y : ℕ) → x ≡ min (b.start + b.size) (c.start + c.size) → y ≡ max b.start c.start → (IsTrue (leb x y) ↔ BlocksApart b c)
 apart_tested b c x y ex ey = (
   λ t i p q.
       let le = leb-true x y t in
@@ -78,17 +78,17 @@ apart_tested b c x y ex ey = (
 
 -- ---- spared
 
-module _ (before after : List ℕ) (old new b : Block) (r : Bool) (other : same_block b old ≡ false) where
-  pub spared_then : AreApart b new → (IsTrue r ↔ SameBytes before b.start after b.start b.size) → (IsTrue r ↔ IsSpared before after old new b)
+module _ (before after : List ℕ) (old new b : Block) (r : Bool) (other : is_block b old ≡ false) where
+  pub spared_then : BlocksApart b new → (IsTrue r ↔ BytesMoved before b.start after b.start b.size) → (IsTrue r ↔ IsSpared before after old new b)
   spared_then apart h = (λ t. inr (apart, h.0 t), λ s. ⊎_elim (λ e. absurd (both_ways _ other (same_from b old e))) (λ p. h.1 p.1) s)
 
-  pub spared_else : (IsTrue r ↔ AreApart b new) → r ≡ false → (IsTrue r ↔ IsSpared before after old new b)
+  pub spared_else : (IsTrue r ↔ BlocksApart b new) → r ≡ false → (IsTrue r ↔ IsSpared before after old new b)
   spared_else h differs = (λ t. absurd (both_ways _ differs t), λ s. ⊎_elim (λ e. absurd (both_ways _ other (same_from b old e))) (λ p. h.1 p.0) s)
 
 -- ---- tidy
 
 pub tidy_tested : (before after : List ℕ) (b : Block) (s e n : ℕ) (r : Bool) → s ≡ min b.start (length before) → e ≡ min (b.start + b.size) (length before) → n ≡ length before - e
-    → SameBytes before 0 after 0 s → (IsTrue r ↔ SameBytes before e after e n) → (IsTrue r ↔ IsTidy before after b)
+    → BytesMoved before 0 after 0 s → (IsTrue r ↔ BytesMoved before e after e n) → (IsTrue r ↔ IsTidy before after b)
 tidy_tested before after b s e n r es ee en first h = (
   λ t i lt out. ⊎_elim
       (λ low. let is : 0 + i ≡ i = omega arith in subst (λ (j : ℕ). slice_index after j ≡ slice_index before j) is (first i low))
@@ -119,13 +119,13 @@ among_to [] b h = absurd h
 among_to (x ∷ xs) b (inl e) = (0, omega arith, e)
 among_to (x ∷ xs) b (inr h) = let c = among_to xs b h in (suc c.0, omega (arith, c.1), c.2)
 
-left_out : (x : Block) (xs : List Block) (o : Block) → same_block x o ≡ true → others (x ∷ xs) o ≡ others xs o
+left_out : (x : Block) (xs : List Block) (o : Block) → is_block x o ≡ true → other_blocks (x ∷ xs) o ≡ other_blocks xs o
 left_out x xs o e = cond-false _ _ _ (ap not e)
 
-left_in : (x : Block) (xs : List Block) (o : Block) → same_block x o ≡ false → others (x ∷ xs) o ≡ x ∷ others xs o
+left_in : (x : Block) (xs : List Block) (o : Block) → is_block x o ≡ false → other_blocks (x ∷ xs) o ≡ x ∷ other_blocks xs o
 left_in x xs o e = cond-true _ _ _ (ap not e)
 
-others_are : (xs : List Block) (o b : Block) → Among (others xs o) b → Among xs b × (b ≡ o → ⊥)
+others_are : (xs : List Block) (o b : Block) → Among (other_blocks xs o) b → Among xs b × (b ≡ o → ⊥)
 others_are [] o b h = absurd h
 others_are (x ∷ xs) o b h = ⊎_elim
     (λ same. let r = others_are xs o b (subst (λ l. Among l b) (left_out x xs o same) h) in (inr r.0, r.1))
@@ -133,46 +133,46 @@ others_are (x ∷ xs) o b h = ⊎_elim
     (λ e. (inl e, λ is. both_ways _ other (same_from x o (e ∙ is))))
     (λ g. let r = others_are xs o b g in (inr r.0, r.1))
     (subst (λ l. Among l b) (left_in x xs o other) h))
-    (cases_Bool (same_block x o))
+    (cases_Bool (is_block x o))
 
-others_have : (xs : List Block) (o b : Block) → Among xs b → (b ≡ o → ⊥) → Among (others xs o) b
+others_have : (xs : List Block) (o b : Block) → Among xs b → (b ≡ o → ⊥) → Among (other_blocks xs o) b
 others_have [] o b h differs = h
 others_have (x ∷ xs) o b h differs = ⊎_elim
     (λ same. subst (λ l. Among l b) (sym (left_out x xs o same)) (⊎_elim (λ e. absurd (differs (sym e ∙ same_yes x o same))) (λ g. others_have xs o b g differs) h))
     (λ other. subst (λ l. Among l b) (sym (left_in x xs o other)) (⊎_elim (λ e. inl e) (λ g. inr (others_have xs o b g differs)) h))
-    (cases_Bool (same_block x o))
+    (cases_Bool (is_block x o))
 
-pub listed_none : (b : Block) → b.size ≡ 0 → listed b ≡ []
+pub listed_none : (b : Block) → b.size ≡ 0 → unless_empty b ≡ []
 listed_none b e = cond-true _ _ _ (eq-eqb b.size 0 e)
 
-pub listed_some : (b : Block) → 0 < b.size → listed b ≡ b ∷ []
+pub listed_some : (b : Block) → 0 < b.size → unless_empty b ≡ b ∷ []
 listed_some b h = cond-false _ _ _ (ne_eqb b.size 0 (λ e. omega (arith, h, e)))
 
-listed_are : (n b : Block) → Among (listed n) b → (b ≡ n) × (0 < n.size)
+listed_are : (n b : Block) → Among (unless_empty n) b → (b ≡ n) × (0 < n.size)
 listed_are n b h = ⊎_elim
     (λ (some : 0 < n.size). ⊎_elim (λ e. (sym e, some)) (λ k. absurd k) (subst (λ l. Among l b) (listed_some n some) h))
     (λ none. absurd (subst (λ l. Among l b) (listed_none n (omega (arith, none))) h))
     (cases_lt 0 n.size)
 
-lives_after : (live : List Block) (o n b : Block) → Contains (others live o ++ listed n) b ↔ ((Contains live b × (b ≡ o → ⊥)) ⊎ ((b ≡ n) × (0 < n.size)))
+lives_after : (live : List Block) (o n b : Block) → Contains (other_blocks live o ++ unless_empty n) b ↔ ((Contains live b × (b ≡ o → ⊥)) ⊎ ((b ≡ n) × (0 < n.size)))
 lives_after live o n b = (
   λ h. ⊎_elim
-      (λ g. let r = others_are live o b (among_from (others live o) b g) in inl (among_to live b r.0, r.1))
-      (λ g. inr (listed_are n b (among_from (listed n) b g)))
-      (Contains-append_cases (others live o) (listed n) b h),
+      (λ g. let r = others_are live o b (among_from (other_blocks live o) b g) in inl (among_to live b r.0, r.1))
+      (λ g. inr (listed_are n b (among_from (unless_empty n) b g)))
+      (Contains-append_cases (other_blocks live o) (unless_empty n) b h),
   λ h. ⊎_elim
-      (λ p. Contains-append_left (others live o) (listed n) b (among_to (others live o) b (others_have live o b (among_from live b p.0) p.1)))
-      (λ p. Contains-append_right (others live o) (listed n) b (among_to (listed n) b (subst (λ l. Among l b) (sym (listed_some n p.1)) (inl (sym p.0)))))
+      (λ p. Contains-append_left (other_blocks live o) (unless_empty n) b (among_to (other_blocks live o) b (others_have live o b (among_from live b p.0) p.1)))
+      (λ p. Contains-append_right (other_blocks live o) (unless_empty n) b (among_to (unless_empty n) b (subst (λ l. Among l b) (sym (listed_some n p.1)) (inl (sym p.0)))))
       h,
 )
 
 -- ---- the law
 
 module _ (live : List Block) (before after : List ℕ) (c : Call) (answer : ℕ) where
-  spared : All (IsSpared before after (old_block c) (new_block c answer)) live → (b : Block) → Contains live b → (b ≡ old_block c → ⊥) → AreApart b (new_block c answer) × SameBytes before b.start after b.start b.size
+  spared : All (IsSpared before after (old_block c) (new_block c answer)) live → (b : Block) → Contains live b → (b ≡ old_block c → ⊥) → BlocksApart b (new_block c answer) × BytesMoved before b.start after b.start b.size
   spared all b has differs = ⊎_elim (λ e. absurd (differs e)) (λ p. p) (subst (IsSpared before after (old_block c) (new_block c answer)) has.2 (all has.0 b has.1))
 
-  keeps : (b : Block) → SameBytes before b.start after b.start b.size → (i : ℕ) → InBlocks (b ∷ []) i → slice_index after i ≡ slice_index before i
+  keeps : (b : Block) → BytesMoved before b.start after b.start b.size → (i : ℕ) → InBlocks (b ∷ []) i → slice_index after i ≡ slice_index before i
   keeps b same i h =
       let u = within b i h in
       let is : b.start + (i - b.start) ≡ i = omega (arith, u.0) in
@@ -195,7 +195,7 @@ module _ (live : List Block) (before after : List ℕ) (c : Call) (answer : ℕ)
       (λ other.
       let differs : b ≡ old_block c → ⊥ = λ e. both_ways _ other (same_from b (old_block c) e) in
       inr (λ i p q. law.apart i (b, has, differs, p) q, λ k lt. law.kept (b.start + k) (b, has, differs, inl (omega arith, omega (arith, lt)))))
-      (cases_Bool (same_block b (old_block c)))
+      (cases_Bool (is_block b (old_block c)))
 
   pub law_to : ReallocLaw live (relisted live c answer) before after c answer → LawHolds live before after c answer
   law_to law = (law.aligned, law.inside, λ k lt. law.copied k (omega (arith, lt)) (omega (arith, lt)), λ k d lt. is_spared law (slice_index_or live k d) (Contains-get_or live k d lt))
@@ -218,13 +218,13 @@ module _ (live : List Block) (m b after : List ℕ) (end : ℕ) (is : b ≡ take
   at : (i : ℕ) → i < end → slice_index b i ≡ slice_index m i
   at i lt = ap (λ (xs : List ℕ). slice_index xs i) is ∙ reads m end i lt
 
-  bytes_from : (x to n : ℕ) → x + n ≤ end → SameBytes b x after to n → SameBytes m x after to n
+  bytes_from : (x to n : ℕ) → x + n ≤ end → BytesMoved b x after to n → BytesMoved m x after to n
   bytes_from x to n le h k lt = h k lt ∙ at (x + k) (omega (arith, le, lt))
 
-  bytes_to : (x to n : ℕ) → x + n ≤ end → SameBytes m x after to n → SameBytes b x after to n
+  bytes_to : (x to n : ℕ) → x + n ≤ end → BytesMoved m x after to n → BytesMoved b x after to n
   bytes_to x to n le h k lt = h k lt ∙ sym (at (x + k) (omega (arith, le, lt)))
 
-  shot_law : (c : Call) (answer : ℕ) → c.old + c.old_size ≤ end → All (EndsBy end) live → (LawHolds live b after c answer ↔ LawHolds live m after c answer)
+  shot_law : (c : Call) (answer : ℕ) → c.old + c.old_size ≤ end → All (BlockEndsBy end) live → (LawHolds live b after c answer ↔ LawHolds live m after c answer)
   shot_law c answer le ends = (
     λ h. (
       h.0,
@@ -249,27 +249,27 @@ shot_at w live live2 old_end m m2 b b2 el em eb h =
     let h2 : IsShot w live2 old_end m2 b = subst (λ (xs : List ℕ). IsShot w live2 old_end xs b) em h1 in
     subst (λ (xs : List ℕ). IsShot w live2 old_end m2 xs) eb h2
 
-pub all_end_by : (x y : ℕ) (live : List Block) → x ≤ y → All (EndsBy x) live → All (EndsBy y) live
+pub all_end_by : (x y : ℕ) (live : List Block) → x ≤ y → All (BlockEndsBy x) live → All (BlockEndsBy y) live
 all_end_by x y live le h k d lt = let e = h k d lt in omega (arith, le, e)
 
-pub ended_by : (x y : ℕ) (live : List Block) (i : ℕ) → x ≤ y → AllWithin (EndsBy x) live 0 i → AllWithin (EndsBy y) live 0 i
+pub ended_by : (x y : ℕ) (live : List Block) (i : ℕ) → x ≤ y → AllWithin (BlockEndsBy x) live 0 i → AllWithin (BlockEndsBy y) live 0 i
 ended_by x y live i le h k d low lt = let e = h k d low lt in omega (arith, le, e)
 
 -- ---- marks
 
 module _ (w : Bool) (live : List Block) (before after : List ℕ) (o os al ns answer : ℕ) (l t : Bool) where
   exact : length before ≤ length after → (IsTrue l ↔ LawHolds live before after (call o os al ns) answer) → (IsTrue t → IsTidy before after (block answer ns)) → (IsTrue w → IsTidy before after (block answer ns) → IsTrue t)
-      → IsExact w live (relisted live (call o os al ns) answer) before after (call o os al ns) answer (record { lawful = l; tidy = t })
+      → IsExactMark w live (relisted live (call o os al ns) answer) before after (call o os al ns) answer (record { lawful = l; tidy = t })
   exact longer h g k = record {
     lawful = (λ e. law_from live before after (call o os al ns) answer longer (h.0 e), λ law. h.1 (law_to live before after (call o os al ns) answer law));
     tidy = g;
     tells_tidy = k;
   }
 
-  pub marked : (xs live2 : List Block) (shot : List ℕ) (old new : Block) → old ≡ block o os → new ≡ block answer ns → xs ≡ live → live2 ≡ others live old ++ listed new
+  pub marked : (xs live2 : List Block) (shot : List ℕ) (old new : Block) → old ≡ block o os → new ≡ block answer ns → xs ≡ live → live2 ≡ other_blocks live old ++ unless_empty new
       → (IsTrue l ↔ LawHolds xs shot after (call old.start old.size al new.size) new.start) → (IsTrue t → IsTrue w × IsTidy shot after new) → (IsTrue w → IsTidy shot after new → IsTrue t)
       → IsShot w live (o + os) before shot → length before ≤ length after
-      → IsExact w live live2 before after (call o os al ns) answer (record { lawful = l; tidy = t })
+      → IsExactMark w live live2 before after (call o os al ns) answer (record { lawful = l; tidy = t })
   marked xs live2 shot old new eo en ex el h g k is longer =
       let h1 : IsTrue l ↔ LawHolds live shot after (call old.start old.size al new.size) new.start = subst (λ (ys : List Block). IsTrue l ↔ LawHolds ys shot after (call old.start old.size al new.size) new.start) ex h in
       let h2 : IsTrue l ↔ LawHolds live shot after (call o os al new.size) new.start = subst (λ (b : Block). IsTrue l ↔ LawHolds live shot after (call b.start b.size al new.size) new.start) eo h1 in
@@ -278,10 +278,10 @@ module _ (w : Bool) (live : List Block) (before after : List ℕ) (o os al ns an
       let h4 : IsTrue l ↔ LawHolds live before after (call o os al ns) answer = (λ e. both.0 (h3.0 e), λ e. h3.1 (both.1 e)) in
       let g1 : IsTrue t → IsTidy before after (block answer ns) = λ e. subst (λ (xs : List ℕ). IsTidy xs after (block answer ns)) (whole_shot before shot is.0 is.1 (is.4 (g e).0)) (subst (λ (b : Block). IsTidy shot after b) en (g e).1) in
       let k1 : IsTrue w → IsTidy before after (block answer ns) → IsTrue t = λ e tidy. k e (subst (λ (b : Block). IsTidy shot after b) (sym en) (subst (λ (xs : List ℕ). IsTidy xs after (block answer ns)) (sym (whole_shot before shot is.0 is.1 (is.4 e))) tidy)) in
-      let l1 : live2 ≡ relisted live (call o os al ns) answer = el ∙ ap₂ (λ (x y : Block). others live x ++ listed y) eo en in
-      subst (λ (ys : List Block). IsExact w live ys before after (call o os al ns) answer (record { lawful = l; tidy = t })) (sym l1) (exact longer h4 g1 k1)
+      let l1 : live2 ≡ relisted live (call o os al ns) answer = el ∙ ap₂ (λ (x y : Block). other_blocks live x ++ unless_empty y) eo en in
+      subst (λ (ys : List Block). IsExactMark w live ys before after (call o os al ns) answer (record { lawful = l; tidy = t })) (sym l1) (exact longer h4 g1 k1)
 
-pub exact_at : (w : Bool) (live xs live2 : List Block) (m m2 bs2 : List ℕ) (c : Call) (answer : ℕ) (mark : Mark) → xs ≡ live → bs2 ≡ m2 → IsExact w xs live2 m bs2 c answer mark → IsExact w live live2 m m2 c answer mark
+pub exact_at : (w : Bool) (live xs live2 : List Block) (m m2 bs2 : List ℕ) (c : Call) (answer : ℕ) (mark : Mark) → xs ≡ live → bs2 ≡ m2 → IsExactMark w xs live2 m bs2 c answer mark → IsExactMark w live live2 m m2 c answer mark
 exact_at w live xs live2 m m2 bs2 c answer mark ex ea h =
-    let h1 : IsExact w live live2 m bs2 c answer mark = subst (λ (ys : List Block). IsExact w ys live2 m bs2 c answer mark) ex h in
-    subst (λ (b : List ℕ). IsExact w live live2 m b c answer mark) ea h1
+    let h1 : IsExactMark w live live2 m bs2 c answer mark = subst (λ (ys : List Block). IsExactMark w ys live2 m bs2 c answer mark) ex h in
+    subst (λ (b : List ℕ). IsExactMark w live live2 m b c answer mark) ea h1

@@ -12,19 +12,19 @@ use Rattle.canon_memory.specs.Realloc.{IsTidy, ReallocLaw, call, new_block, old_
 
 -- ---- the blocks that live
 
-abbrev pub same_block : Block → Block → Bool
-same_block b c = nat_eq b.start c.start && nat_eq b.size c.size
+abbrev pub is_block : Block → Block → Bool
+is_block b c = nat_eq b.start c.start && nat_eq b.size c.size
 
 -- a block, unless it is empty
-abbrev pub listed : Block → List Block
-listed b = if nat_eq b.size 0 then [] else b ∷ []
+abbrev pub unless_empty : Block → List Block
+unless_empty b = if nat_eq b.size 0 then [] else b ∷ []
 
-abbrev pub others : List Block → Block → List Block
-others live old = filter (λ b. not (same_block b old)) live
+abbrev pub other_blocks : List Block → Block → List Block
+other_blocks live old = filter (λ b. not (is_block b old)) live
 
 -- after an answer: the block given up lives no more, and the new one lives unless it is empty
 abbrev pub relisted : List Block → Call → ℕ → List Block
-relisted live c answer = others live (old_block c) ++ listed (new_block c answer)
+relisted live c answer = other_blocks live (old_block c) ++ unless_empty (new_block c answer)
 
 -- Whatever the guest was given is its own once it runs: it may write it, free it and give it again. So no block lives
 -- once it is let go, and from then on those live that it gives.
@@ -45,34 +45,34 @@ live_along live (e ∷ es) = live_along (live_after live e) es
 -- ---- the law, as it is tested
 
 -- `count` bytes from one address on stand in another memory from another address on
-abbrev pub SameBytes : List ℕ → ℕ → List ℕ → ℕ → ℕ → Type 0
-SameBytes before at after to count = (k : ℕ) → k < count → slice_index after (to + k) ≡ slice_index before (at + k)
+abbrev pub BytesMoved : List ℕ → ℕ → List ℕ → ℕ → ℕ → Type 0
+BytesMoved before at after to count = (k : ℕ) → k < count → slice_index after (to + k) ≡ slice_index before (at + k)
 
 -- no address is in both blocks
-abbrev pub AreApart : Block → Block → Type 0
-AreApart b c = (i : ℕ) → InBlocks (b ∷ []) i → InBlocks (c ∷ []) i → ⊥
+abbrev pub BlocksApart : Block → Block → Type 0
+BlocksApart b c = (i : ℕ) → InBlocks (b ∷ []) i → InBlocks (c ∷ []) i → ⊥
 
 -- a block is the one that is given up, or is apart from the new one and keeps its bytes
 abbrev pub IsSpared : List ℕ → List ℕ → Block → Block → Block → Type 0
-IsSpared before after old new b = (b ≡ old) ⊎ (AreApart b new × SameBytes before b.start after b.start b.size)
+IsSpared before after old new b = (b ≡ old) ⊎ (BlocksApart b new × BytesMoved before b.start after b.start b.size)
 
 abbrev pub LawHolds : List Block → List ℕ → List ℕ → Call → ℕ → Type 0
 LawHolds live before after c answer =
     (answer % c.align ≡ 0) × (answer + c.new_size ≤ length after)
-    × SameBytes before c.old after answer (min c.old_size c.new_size)
+    × BytesMoved before c.old after answer (min c.old_size c.new_size)
     × All (IsSpared before after (old_block c) (new_block c answer)) live
 
-abbrev pub EndsBy : ℕ → Block → Type 0
-EndsBy end b = b.start + b.size ≤ end
+abbrev pub BlockEndsBy : ℕ → Block → Type 0
+BlockEndsBy end b = b.start + b.size ≤ end
 
 -- What is kept of memory before a call: the bytes up to an address, where the blocks that live and the one that is given up end or
 -- before it. It is all of memory where every byte is watched.
 abbrev pub IsShot : Bool → List Block → ℕ → List ℕ → List ℕ → Type 0
-IsShot whole live old_end memory shot = (end : ℕ) × (shot ≡ take (min end (length memory)) memory) × (old_end ≤ end) × All (EndsBy end) live × (IsTrue whole → length memory ≤ end)
+IsShot whole live old_end memory shot = (end : ℕ) × (shot ≡ take (min end (length memory)) memory) × (old_end ≤ end) × All (BlockEndsBy end) live × (IsTrue whole → length memory ≤ end)
 
 -- A mark says exactly whether the law held. It says that no byte outside the block changed only if it is so, and where every byte
 -- is watched exactly if.
-pub record IsExact (whole : Bool) (live live_after : List Block) (before after : List ℕ) (c : Call) (answer : ℕ) (mark : Mark) : Type 0 where
+pub record IsExactMark (whole : Bool) (live live_after : List Block) (before after : List ℕ) (c : Call) (answer : ℕ) (mark : Mark) : Type 0 where
   pub lawful : IsTrue mark.lawful ↔ ReallocLaw live live_after before after c answer
   pub tidy : IsTrue mark.tidy → IsTidy before after (new_block c answer)
   pub tells_tidy : IsTrue whole → IsTidy before after (new_block c answer) → IsTrue mark.tidy
@@ -112,4 +112,4 @@ watched_seen seen w = record (seen w.guest) { marks = w.marks; live = w.live; sh
 
 -- an answer was marked, exactly
 abbrev pub Marks : {G : Type 0} → Watching G → Watching G → List ℕ → List ℕ → Call → ℕ → Type 0
-Marks w x before after c answer = (mark : Mark) × (x.marks ≡ w.marks ++ mark ∷ []) × IsExact w.whole w.live x.live before after c answer mark
+Marks w x before after c answer = (mark : Mark) × (x.marks ≡ w.marks ++ mark ∷ []) × IsExactMark w.whole w.live x.live before after c answer mark

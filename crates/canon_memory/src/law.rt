@@ -5,7 +5,7 @@ ghost use Rattle.std.specs.List.{All};
 ghost use Rattle.std.specs.Vec.{vec_capacity, vec_len};
 ghost use Rattle.canon_memory.specs.Realloc.{IsTidy, block, call};
 ghost use Rattle.canon_memory.specs.Guest.{Mark};
-ghost use Rattle.canon_memory.specs.Watch.{AreApart, EndsBy, IsExact, IsShot, IsSpared, LawHolds, SameBytes, listed, others, relisted, same_block};
+ghost use Rattle.canon_memory.specs.Watch.{BlocksApart, BlockEndsBy, IsExactMark, IsShot, IsSpared, LawHolds, BytesMoved, unless_empty, other_blocks, relisted, is_block};
 
 use std::marker::Model;
 
@@ -65,7 +65,7 @@ impl LiveBlock {
 }
 
 fn is_same(b: LiveBlock, c: LiveBlock) -> bool
-    ensures { result ≡ same_block b c }
+    ensures { result ≡ is_block b c }
 {
     b.start == c.start && b.size == c.size
 }
@@ -99,7 +99,7 @@ fn are_inside(bytes: &[u8], at: u64, count: u64) -> bool
 
 /// Whether `count` bytes from `at` on stand in `after` from `to` on. Past an end there are zeros.
 fn are_same(before: &[u8], at: u64, after: &[u8], to: u64, count: u64) -> bool
-    ensures { IsTrue result ↔ SameBytes before.now at after.now to count }
+    ensures { IsTrue result ↔ BytesMoved before.now at after.now to count }
 {
     if are_inside(before, at, count) && are_inside(after, to, count) {
         let old = &before[at as usize..(at + count) as usize];
@@ -111,7 +111,7 @@ fn are_same(before: &[u8], at: u64, after: &[u8], to: u64, count: u64) -> bool
 
 /// The same byte by byte, where an end may be passed. What lies past both ends takes no time.
 fn are_same_past(before: &[u8], at: u64, after: &[u8], to: u64, count: u64) -> bool
-    ensures { IsTrue result ↔ SameBytes before.now at after.now to count }
+    ensures { IsTrue result ↔ BytesMoved before.now at after.now to count }
 {
     let seen = left(before, at).max(left(after, to)).min(count);
     for k in 0..seen {
@@ -124,14 +124,14 @@ fn are_same_past(before: &[u8], at: u64, after: &[u8], to: u64, count: u64) -> b
 
 /// Whether two blocks have no address in common.
 fn are_apart(b: LiveBlock, c: LiveBlock) -> bool
-    ensures { IsTrue result ↔ AreApart b c }
+    ensures { IsTrue result ↔ BlocksApart b c }
 {
     b.end().min(c.end()) <= u128::from(b.start.max(c.start))
 }
 
 /// Whether a block keeps its bytes.
 fn is_kept(b: LiveBlock, before: &[u8], after: &[u8]) -> bool
-    ensures { IsTrue result ↔ SameBytes before.now b.start after.now b.start b.size }
+    ensures { IsTrue result ↔ BytesMoved before.now b.start after.now b.start b.size }
 {
     are_same(before, b.start, after, b.start, u64::from(b.size))
 }
@@ -163,7 +163,7 @@ fn are_spared(
 
 /// Whether the bytes of the old block stand in the new one, up to the smaller size.
 fn is_copied(old: LiveBlock, new: LiveBlock, before: &[u8], after: &[u8]) -> bool
-    ensures { IsTrue result ↔ SameBytes before.now old.start after.now new.start (min old.size new.size) }
+    ensures { IsTrue result ↔ BytesMoved before.now old.start after.now new.start (min old.size new.size) }
 {
     let count = u64::from(old.size.min(new.size));
     are_same(before, old.start, after, new.start, count)
@@ -208,7 +208,7 @@ fn is_seen_tidy(whole: bool, before: &[u8], after: &[u8], new: LiveBlock) -> boo
 /// Where the last of some blocks ends, or `least` if they all end before it.
 fn end_of(live: &[LiveBlock], least: u64) -> u128
     ensures least { least ≤ result }
-    ensures ends { All (EndsBy result) live.now }
+    ensures ends { All (BlockEndsBy result) live.now }
 {
     let mut end = u128::from(least);
     for b in live {
@@ -236,7 +236,7 @@ pub(crate) fn shot<'a>(live: &[LiveBlock], old_end: u64, whole: bool, memory: &'
 /// Lists the new block, for which there is room, unless it is empty, in the place of the old one.
 fn relist(live: &mut Vec<LiveBlock>, old: LiveBlock, new: LiveBlock)
     requires { vec_len live.old < vec_capacity live.old }
-    ensures { live.new.items ≡ others live.old.items old ++ listed new }
+    ensures { live.new.items ≡ other_blocks live.old.items old ++ unless_empty new }
 {
     live.retain(|b| !is_same(*b, old));
     if new.size > 0 {
@@ -262,8 +262,8 @@ pub(crate) fn mark_answer(
     requires narrow { (old < 2 ^ 32) × (old_size < 2 ^ 32) × (new_size < 2 ^ 32) }
     requires block_room { vec_len live.old < vec_capacity live.old }
     requires mark_room { vec_len marks.old < vec_capacity marks.old }
-    ensures listed { live.new.items ≡ relisted live.old.items (call old old_size align new_size) answer }
-    ensures marked { (mark : Mark) × (marks.new.items ≡ marks.old.items ++ mark ∷ []) × ((memory : List ℕ) → IsShot whole live.old.items (old + old_size) memory before.now → length memory ≤ length after.now → IsExact whole live.old.items live.new.items memory after.now (call old old_size align new_size) answer mark) }
+    ensures unless_empty { live.new.items ≡ relisted live.old.items (call old old_size align new_size) answer }
+    ensures marked { (mark : Mark) × (marks.new.items ≡ marks.old.items ++ mark ∷ []) × ((memory : List ℕ) → IsShot whole live.old.items (old + old_size) memory before.now → length memory ≤ length after.now → IsExactMark whole live.old.items live.new.items memory after.now (call old old_size align new_size) answer mark) }
 {
     let old = LiveBlock::new(old, old_size);
     let new = LiveBlock::new(answer, new_size);

@@ -5,7 +5,8 @@ use Rattle.std.proofs.lemmas.Bool.{and_parts, and_from, cases_Bool, cond-true, c
 use Rattle.std.proofs.lemmas.Option.{same_Some, none-some}
 use Rattle.canon_model.specs.Memory.{Block}
 use Rattle.canon_memory.specs.Realloc.{block}
-use Rattle.canon_scripted.specs.Allocator.{InRow, is_live, listed, with_block_resized, same_block}
+use Rattle.canon_memory.specs.Watch.{is_block}
+use Rattle.canon_scripted.specs.Allocator.{InRow, is_live, listed, with_block_resized}
 
 -- ---- a block is one of a list
 
@@ -44,13 +45,13 @@ among_got (x ∷ xs) (suc i) b e = inr (among_got xs i b e)
 
 -- ---- tests of a block
 
-same_yes : (b c : Block) → same_block b c ≡ true → b ≡ c
+same_yes : (b c : Block) → is_block b c ≡ true → b ≡ c
 same_yes b c e = let p = and_parts _ _ e in ap₂ block (eqb-true _ _ p.0) (eqb-true _ _ p.1)
 
-same_from : (b c : Block) → b ≡ c → same_block b c ≡ true
+same_from : (b c : Block) → b ≡ c → is_block b c ≡ true
 same_from b c e = and_from _ _ (eq-eqb _ _ (ap (λ (x : Block). x.start) e)) (eq-eqb _ _ (ap (λ (x : Block). x.size) e))
 
-same_no : (b c : Block) → same_block b c ≡ false → b ≡ c → ⊥
+same_no : (b c : Block) → is_block b c ≡ false → b ≡ c → ⊥
 same_no b c f e = both_ways _ f (same_from b c e)
 
 pub live_from : (xs : List Block) (b : Block) → Among xs b → is_live xs b ≡ true
@@ -141,10 +142,10 @@ row_none f (x ∷ xs) t h le = absurd (omega (arith, h.0, h.1, row_order (x.star
 
 -- ---- a block of a row in another size
 
-resized_first : (x b : Block) (xs : List Block) (n : ℕ) → same_block x b ≡ true → with_block_resized (x ∷ xs) b n ≡ listed b.start n ++ xs
+resized_first : (x b : Block) (xs : List Block) (n : ℕ) → is_block x b ≡ true → with_block_resized (x ∷ xs) b n ≡ listed b.start n ++ xs
 resized_first x b xs n e = cond-true _ _ _ e
 
-resized_later : (x b : Block) (xs : List Block) (n : ℕ) → same_block x b ≡ false → with_block_resized (x ∷ xs) b n ≡ x ∷ with_block_resized xs b n
+resized_later : (x b : Block) (xs : List Block) (n : ℕ) → is_block x b ≡ false → with_block_resized (x ∷ xs) b n ≡ x ∷ with_block_resized xs b n
 resized_later x b xs n e = cond-false _ _ _ e
 
 resized_from : (f : ℕ) (xs : List Block) (t i : ℕ) (b : Block) (n : ℕ) → InRow f xs t → slice_get xs i ≡ Some b → with_block_resized xs b n ≡ take i xs ++ listed b.start n ++ drop (suc i) xs
@@ -153,7 +154,7 @@ resized_from f (x ∷ xs) t zero b n h e = resized_first x b xs n (same_from x b
 resized_from f (x ∷ xs) t (suc i) b n h e = ⊎_elim
     (λ s. absurd (row_first f x xs t b h (among_got xs i b e) (same_yes x b s)))
     (λ s. resized_later x b xs n s ∙ ap (λ ys. x ∷ ys) (resized_from (x.start + x.size) xs t i b n h.2 e))
-    (cases_Bool (same_block x b))
+    (cases_Bool (is_block x b))
 
 -- as the code does it, at the block's place
 pub resized_at : (f : ℕ) (xs : List Block) (t i : ℕ) (b : Block) (n : ℕ) → InRow f xs t → slice_get xs i ≡ Some b → with_block_resized xs b n ≡ take i xs ++ listed b.start n ++ drop (i + 1) xs
@@ -168,7 +169,7 @@ row_smaller f (x ∷ xs) t b n le h = ⊎_elim
     let q : x.size ≡ b.size = ap (λ (y : Block). y.size) e in
     subst (λ ys. InRow f ys t) (sym (resized_first x b xs n s)) (row_listed f b.start n (x.start + x.size) xs t (omega (arith, h.0, p)) (omega (arith, le, p, q)) h.2))
     (λ s. subst (λ ys. InRow f ys t) (sym (resized_later x b xs n s)) (h.0, h.1, row_smaller (x.start + x.size) xs t b n le h.2))
-    (cases_Bool (same_block x b))
+    (cases_Bool (is_block x b))
 
 -- where the block ends at the top, the top is then its end
 pub row_last : (f : ℕ) (xs : List Block) (t : ℕ) (b : Block) (n : ℕ) → Among xs b → b.start + b.size ≡ t → InRow f xs t → InRow f (with_block_resized xs b n) (b.start + n)
@@ -182,7 +183,7 @@ row_last f (x ∷ xs) t b n g last h = ⊎_elim
     subst (λ ys. InRow f ys (b.start + n)) (sym (resized_first x b xs n s)) (subst (λ ys. InRow f (listed b.start n ++ ys) (b.start + n)) (sym none) only))
     (λ s. let later : Among xs b = ⊎_elim (λ e. absurd (same_no x b s e)) (λ k. k) g in
     subst (λ ys. InRow f ys (b.start + n)) (sym (resized_later x b xs n s)) (h.0, h.1, row_last (x.start + x.size) xs t b n later last h.2))
-    (cases_Bool (same_block x b))
+    (cases_Bool (is_block x b))
 
 -- what lives after that
 abbrev pub Lives : List Block → Block → ℕ → ℕ → Block → Type 0
@@ -199,7 +200,7 @@ resized_lives f (x ∷ xs) t b n c h g = ⊎_elim
     (λ e. inl (inl e, λ d. same_no x b s (e ∙ d)))
     (λ k. ⊎_elim (λ w. inl (inr w.0, w.1)) (λ w. inr w) (resized_lives (x.start + x.size) xs t b n c h.2 k))
     (subst (λ ys. Among ys c) (resized_later x b xs n s) g))
-    (cases_Bool (same_block x b))
+    (cases_Bool (is_block x b))
 
 pub resized_keeps : (xs : List Block) (b : Block) (n : ℕ) (c : Block) → Among xs c → (c ≡ b → ⊥) → Among (with_block_resized xs b n) c
 resized_keeps [] b n c g other = absurd g
@@ -208,7 +209,7 @@ resized_keeps (x ∷ xs) b n c g other = ⊎_elim
     (among_append_right (listed b.start n) xs c (⊎_elim (λ e. absurd (other (sym e ∙ same_yes x b s))) (λ k. k) g)))
     (λ s. subst (λ ys. Among ys c) (sym (resized_later x b xs n s))
     (⊎_elim (λ e. inl e) (λ k. inr (resized_keeps xs b n c k other)) g))
-    (cases_Bool (same_block x b))
+    (cases_Bool (is_block x b))
 
 pub resized_new : (xs : List Block) (b : Block) (n : ℕ) → Among xs b → 0 < n → Among (with_block_resized xs b n) (block b.start n)
 resized_new [] b n g some = absurd g
@@ -216,7 +217,7 @@ resized_new (x ∷ xs) b n g some = ⊎_elim
     (λ s. subst (λ ys. Among ys (block b.start n)) (sym (resized_first x b xs n s)) (among_append_left (listed b.start n) xs _ (listed_has b.start n some)))
     (λ s. subst (λ ys. Among ys (block b.start n)) (sym (resized_later x b xs n s))
     (inr (resized_new xs b n (⊎_elim (λ e. absurd (same_no x b s e)) (λ k. k) g) some)))
-    (cases_Bool (same_block x b))
+    (cases_Bool (is_block x b))
 
 -- a block more
 pub added_lives : (xs : List Block) (s n : ℕ) (c : Block) → Among (xs ++ listed s n) c → Among xs c ⊎ ((c ≡ block s n) × (0 < n))

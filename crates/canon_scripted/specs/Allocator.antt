@@ -5,6 +5,7 @@ use Rattle.canon_model.specs.Layout.{align_to}
 use Rattle.canon_model.specs.Memory.{Block}
 use Rattle.canon_model.specs.Requests.{Call}
 use Rattle.canon_memory.specs.Realloc.{block, old_block}
+use Rattle.canon_memory.specs.Watch.{is_block}
 use Rattle.canon_memory.specs.declared.error.GuestFault.{GuestFault}
 use Rattle.canon_memory.specs.declared.error.GuestFault.TheVariants as fault
 
@@ -15,12 +16,9 @@ pub record Allocator : Type 0 where
 
 -- ---- lists of live blocks
 
-abbrev pub same_block : Block → Block → Bool
-same_block b c = nat_eq b.start c.start && nat_eq b.size c.size
-
 abbrev pub is_live : List Block → Block → Bool
 is_live [] old = false
-is_live (b ∷ bs) old = same_block b old || is_live bs old
+is_live (b ∷ bs) old = is_block b old || is_live bs old
 
 -- a block, unless it is empty
 abbrev pub listed : ℕ → ℕ → List Block
@@ -29,7 +27,7 @@ listed start size = if nat_eq size 0 then [] else block start size ∷ []
 -- the block in another size; it lives no more where that is 0
 abbrev pub with_block_resized : List Block → Block → ℕ → List Block
 with_block_resized [] old size = []
-with_block_resized (b ∷ bs) old size = if same_block b old then listed old.start size ++ bs else b ∷ with_block_resized bs old size
+with_block_resized (b ∷ bs) old size = if is_block b old then listed old.start size ++ bs else b ∷ with_block_resized bs old size
 
 -- ---- the five rules, in a memory of so many bytes
 

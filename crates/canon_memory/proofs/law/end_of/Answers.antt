@@ -1,13 +1,13 @@
 use Rattle.std.proofs.Common.{rules, ◌≤◌, ◌∙◌, subst}
 use Rattle.std.proofs.lemmas.List.{get_or_default}
 use Rattle.std.proofs.lemmas.List.Elements.{AllWithin-more}
-use Rattle.canon_memory.specs.Watch.{EndsBy}
+use Rattle.canon_memory.specs.Watch.{BlockEndsBy}
 use Rattle.canon_memory.proofs.Watch.{ended_by}
 use Rattle.canon_memory.proofs.law.end_of.Goals as goal
 
 pub loop-b-preserved : goal.loop-b-preserved
 loop-b-preserved c =
-    let P = EndsBy c.max-end.result in
+    let P = BlockEndsBy c.max-end.result in
     let more : c.loop-b.end ≤ c.max-end.result = search rules in
     let held : P c.b-item.result = search rules in (
       search rules,

@@ -2,7 +2,7 @@ use Rattle.std.proofs.Common.{rules, ◌≡◌, ◌∙◌, ◌+◌, ◌++◌, �
 use Rattle.canon_memory.specs.Guest.{Goes, moment}
 use Rattle.canon_memory.specs.Journal.{answer_event}
 use Rattle.canon_memory.specs.Realloc.{call}
-use Rattle.canon_memory.specs.Watch.{IsExact, IsShot}
+use Rattle.canon_memory.specs.Watch.{IsExactMark, IsShot}
 use Rattle.canon_memory.proofs.Watch.{exact_at, shot_at}
 use Rattle.canon_memory.proofs.watched.WatchedGuest.realloc.Goals as goal
 
@@ -22,11 +22,11 @@ returns-in-Ok-clause-exact g c =
     let longer : length c.args.memory.now.bytes ≤ length c.as_slice-in-Ok.result.now = search rules in
     let is : IsShot w c.reserve.new.self.items (c.args.old + c.args.old_size) c.args.memory.now.bytes c.deref-in-Ok.result.now =
     shot_at w c.deref.result.now c.reserve.new.self.items (c.args.old + c.args.old_size) c.as_slice.result.now c.args.memory.now.bytes c.shot-seen.result.now c.deref-in-Ok.result.now lived memory before c.shot-seen.ensures in
-    let e : IsExact w c.args.self.now.live c.mark_answer.new.live.items c.args.memory.now.bytes c.realloc.new.memory.bytes asked c.in-Ok.answer m.0 =
+    let e : IsExactMark w c.args.self.now.live c.mark_answer.new.live.items c.args.memory.now.bytes c.realloc.new.memory.bytes asked c.in-Ok.answer m.0 =
     exact_at w c.args.self.now.live c.reserve.new.self.items c.mark_answer.new.live.items c.args.memory.now.bytes c.realloc.new.memory.bytes c.as_slice-in-Ok.result.now asked c.in-Ok.answer m.0 live after (m.2 c.args.memory.now.bytes is longer) in (
       m.0,
       m.1 ∙ ap (λ l. l ++ m.0 ∷ []) marks,
-      subst (λ v. IsExact v c.args.self.now.live c.mark_answer.new.live.items c.args.memory.now.bytes c.realloc.new.memory.bytes asked c.in-Ok.answer m.0) whole e,
+      subst (λ v. IsExactMark v c.args.self.now.live c.mark_answer.new.live.items c.args.memory.now.bytes c.realloc.new.memory.bytes asked c.in-Ok.answer m.0) whole e,
     )
 
 pub returns-in-Ok-clause-does : goal.returns-in-Ok-clause-does
