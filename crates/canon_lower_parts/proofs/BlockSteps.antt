@@ -117,7 +117,7 @@ module _ {D G : Type 0} (L : GuestLaws G) (options : ℕ) where
         handles = [];
         ending = fault_ending e;
         ends = inl refl;
-        attempt = pairs.list_ungiven false (moment_of L.seen a) (moment_of L.seen b) (encoding_by a options) k s n 0 [] 0 Has (fault_ending e) (not_done e) h.small counts h.does;
+        attempt = pairs.list_ungiven false (moment_of L.seen a) (moment_of L.seen b) (host_texts (encoding_by a options)) k s n 0 [] 0 Has (fault_ending e) (not_done e) h.small counts h.does;
         passed = cross_stopped a.ledger b.ledger gs e (same_ledger a b h.same) (ungiven_elsewhere (moment_of L.seen a) (moment_of L.seen b) (items_call false s n) e 0 h.does);
         moved = h.moved;
         same = same_handles a b h.same;
@@ -133,7 +133,7 @@ module _ {D G : Type 0} (L : GuestLaws G) (options : ℕ) where
         (to : (ts : Trees) → Have ts → Has (items (group ts)) × (tree_count ts ≡ all)) (from : (t : Tree) → Has t → Have (back t) × (trees_of t ≡ group (back t)))
         (items_large : (enc : Encoding) → AsItems enc s ms Has back) (a b c : Parts D G) (p : ℕ) (g : IsGivenBlock L.seen L.moves a b s n p) where
       words : (r : Result (Unit {0}) Fault) (h : TypedMembersStore L.seen L.moves options b c ms 0 p Have gs r) → LowersValue false (moment_of L.seen a) (moment_of L.seen c) (host_texts (encoding_by a options)) (list k s) (p ∷ n ∷ []) 0 Has h.handles h.ending
-      words r h = pairs.rows_words false (moment_of L.seen a) (moment_of L.seen b) (moment_of L.seen c) (encoding_by a options) k s n p all ms group back (row (encoding_by a options)) Have Has h.ending g.asked.small g.asked.does (λ _. g.few) to from
+      words r h = pairs.rows_words false (moment_of L.seen a) (moment_of L.seen b) (moment_of L.seen c) (host_texts (encoding_by a options)) k s n p all ms group back (row (encoding_by a options)) Have Has h.ending g.asked.small g.asked.does (λ _. g.few) to from
           (subst (λ (x : Encoding). StoresMembers false (moment_of L.seen b) (moment_of L.seen c) (host_texts x) ms 0 p Have h.handles h.ending) (same_encoding a b options g.asked.same) h.attempt)
 
       passed : (r : Result (Unit {0}) Fault) (h : TypedMembersStore L.seen L.moves options b c ms 0 p Have gs r) → HandlesCross a.ledger c.ledger gs h.handles r
@@ -228,8 +228,8 @@ module _ {D G : Type 0} (L : GuestLaws G) (options : ℕ) where
     pub list_put : (z s : Shape) (k : ListKind) → z ≡ list k s → TypedPlaces L.seen L.moves options a b z Has gs (Ok x) → Stored z
     list_put z s k shape h = subst Stored (sym shape) (
         let here : TypedPlaces L.seen L.moves options a b (list k s) Has gs (Ok x) = subst (λ (y : Shape). TypedPlaces L.seen L.moves options a b y Has gs (Ok x)) shape h in
-        block_put (list k s) refl here (λ lowered written. pairs.list_stored false (encoding_by a options) at x.pointer x.length Has (λ _. here.narrow.0) (λ _. here.narrow.1) (moment_of L.seen a) (L.seen b.guest) b.memory c.memory written k s lowered)
+        block_put (list k s) refl here (λ lowered written. pairs.list_stored false (host_texts (encoding_by a options)) at x.pointer x.length Has (λ _. here.narrow.0) (λ _. here.narrow.1) (moment_of L.seen a) (L.seen b.guest) b.memory c.memory written k s lowered)
         )
 
     pub text_put : TypedPlaces L.seen L.moves options a b string Has gs (Ok x) → Stored string
-    text_put h = block_put string refl h (λ lowered written. pairs.string_stored false (encoding_by a options) at x.pointer x.length Has (λ _. h.narrow.0) (λ _. h.narrow.1) (moment_of L.seen a) (L.seen b.guest) b.memory c.memory written lowered)
+    text_put h = block_put string refl h (λ lowered written. pairs.string_stored false (host_texts (encoding_by a options)) at x.pointer x.length Has (λ _. h.narrow.0) (λ _. h.narrow.1) (moment_of L.seen a) (L.seen b.guest) b.memory c.memory written lowered)

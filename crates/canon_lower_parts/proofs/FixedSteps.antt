@@ -1,6 +1,7 @@
 -- Lists of fixed length.
 use Rattle.std.proofs.Common.{◌≡◌, ◌≤◌, ◌+◌, ◌*◌, ◌∙◌, List, Result, Some, ap, arith, false, length, refl, subst, sym, ℕ}
 use Rattle.std.specs.Prelude.{flat_map}
+use Rattle.canon_model.specs.Homes.{host_texts}
 use Rattle.canon_context.proofs.Moves.{GuestLaws}
 use Rattle.canon_context.specs.Core.{Parts, encoding_by, moment_of, component_types}
 use Rattle.canon_context.specs.declared.fault.Fault.{Fault}
@@ -67,8 +68,8 @@ module _ {D G : Type 0} (L : GuestLaws G) (options : ℕ) {A : Type 0} (Walks : 
         handles = h.handles;
         ending = h.ending;
         ends = h.ends;
-        attempt = aimed.fixed_stored false (moment_of L.seen a) (moment_of L.seen c) (encoding_by a options) n s at (EachMeans Walks xs) (RowMeans Walks xs) h.ending (omega (arith, room, ap (size false) of.shape, h.attempt.lowering.goes.no_shorter))
-            (λ ts each. ((ts, refl, each), each_count Walks xs ts each ∙ is)) (row_trees Walks xs) h.attempt;
+        attempt = aimed.fixed_stored false (moment_of L.seen a) (moment_of L.seen c) (host_texts (encoding_by a options)) n s at (EachMeans Walks xs) (RowMeans Walks xs) (omega (arith, room, ap (size false) of.shape, h.attempt.lowering.goes.no_shorter))
+            (λ ts each. ((ts, refl, each), each_count Walks xs ts each ∙ is)) (row_trees Walks xs) h.ending h.attempt;
         passed = h.passed;
         moved = h.moved;
         same = h.same;

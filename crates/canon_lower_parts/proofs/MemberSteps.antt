@@ -68,7 +68,7 @@ module _ {D G : Type 0} (L : GuestLaws G) (options : ℕ) where
         handles = h.handles ++ k.handles;
         ending = k.ending;
         ends = ends_more ks (gs ++ ks) r k.ending (none_later gs ks) k.ends;
-        attempt = aimed.members_cons false enc [] s ms o at Has Have (moment_of L.seen a) (moment_of L.seen b) (moment_of L.seen c) k.ending stored rest;
+        attempt = aimed.members_cons false (host_texts enc) [] s ms o at Has Have (moment_of L.seen a) (moment_of L.seen b) (moment_of L.seen c) k.ending stored rest;
         passed = cross_then a.ledger b.ledger c.ledger gs ks h.handles k.handles r h.passed k.passed;
         moved = moves_then L (guest_of a) (guest_of b) (guest_of c) k.ending _ _ h.attempt.lowering.goes.events k.attempt.lowering.goes.events moved k.moved;
         same = handles_then a b c h.same k.same;
@@ -86,7 +86,7 @@ module _ {D G : Type 0} (L : GuestLaws G) (options : ℕ) where
         handles = h.handles;
         ending = h.ending;
         ends = ends_more gs (gs ++ ks) (Err e) h.ending (none_first gs ks) h.ends;
-        attempt = aimed.members_stop false enc [] s ms o at Has Have (moment_of L.seen a) (moment_of L.seen b) h.ending (ends_early gs e h.ending h.ends) h.attempt;
+        attempt = aimed.members_stop false (host_texts enc) [] s ms o at Has Have (moment_of L.seen a) (moment_of L.seen b) h.ending (ends_early gs e h.ending h.ends) h.attempt;
         passed = cross_stop a.ledger b.ledger gs ks h.handles h.handles e h.passed;
         moved = h.moved;
         same = h.same;
@@ -116,7 +116,7 @@ module _ {D G : Type 0} (L : GuestLaws G) (options : ℕ) where
     handles = h.handles;
     ending = h.ending;
     ends = h.ends;
-    attempt = aimed.product_stored false (moment_of L.seen a) (moment_of L.seen c) (encoding_by a options) k ms at Have (ProductMeans Have) h.ending (omega (arith, room, ap (size false) shape, h.attempt.lowering.goes.no_shorter))
+    attempt = aimed.product_stored false (moment_of L.seen a) (moment_of L.seen c) (host_texts (encoding_by a options)) k ms at Have (ProductMeans Have) h.ending (omega (arith, room, ap (size false) shape, h.attempt.lowering.goes.no_shorter))
         (λ ts have. (ts, refl, have)) (λ t (ts, is, have). subst Have (sym (ap trees_of is)) have) h.attempt;
     passed = h.passed;
     moved = h.moved;

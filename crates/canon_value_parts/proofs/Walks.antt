@@ -311,8 +311,8 @@ module _ {T G : Type 0} (L : GuestLaws G) (options : ℕ) where
       let named : names ≡ member_names (copies n s) = en ∙ copies_names n s vs enough in
       record {
         handles = h.handles;
-        storing = fixed_stored false (moment_of L.seen a) (moment_of L.seen c) (host_texts (encoding_by a options)) n s at (Named (copies n s) names vs) (HasTree (fixed n s) v) (ending_of r) (omega (arith, room, h.storing.lowering.goes.no_shorter))
-            (fixed_is n s names vs v enough (xs, ev, same)) (fixed_back n s names vs v en enough (xs, ev, same))
+        storing = fixed_stored false (moment_of L.seen a) (moment_of L.seen c) (host_texts (encoding_by a options)) n s at (Named (copies n s) names vs) (HasTree (fixed n s) v) (omega (arith, room, h.storing.lowering.goes.no_shorter))
+            (fixed_is n s names vs v enough (xs, ev, same)) (fixed_back n s names vs v en enough (xs, ev, same)) (ending_of r)
             (subst (λ (ys : Members). StoresMembers false (moment_of L.seen a) (moment_of L.seen c) (host_texts (encoding_by a options)) ys 0 at (Named ys names vs) h.handles (ending_of r)) e h.storing);
         handed = passes_as a.component.types a.ledger c.ledger (all_passes ms vs) (passes v (fixed n s)) h.handles r given h.handed;
         counted = fixed_counted (encoding_by a options) n s names vs v place r enough (xs, ev, same)

@@ -72,7 +72,7 @@ mutual
   has_fits (flags names) v t h = tt
 
   case_fits : (cs : Cases) (i d : ℕ) (vs : List Val) (ts : Trees) → CaseHas false cs i vs ts → CaseFits cs i (payload_of (case_tree d ts))
-  case_fits no_cases i d vs ts h = tt
+  case_fits no_cases i d vs ts h = absurd h
   case_fits (bare name cs) zero d vs ts h = tt
   case_fits (bare name cs) (suc i) d vs ts h = case_fits cs i d vs ts h
   case_fits (payload name s cs) zero d vs ts (v, t, ev, et, has) = subst (λ us. Fits s (payload_of (case_tree d us))) (sym et) (has_fits s v t has)
