@@ -1,7 +1,7 @@
 //! Each guest once.
 
 use crate::{Arena, Echo, Mirror};
-use canon_memory::{Event, Guest, GuestFault, Journaled, Memory, Step, ValRaw};
+use canon_memory::{Event, Guest, GuestFault, Journaled, Memory, Step, ValRaw, Watched};
 use std::test::Fail;
 
 #[test]
@@ -49,6 +49,20 @@ fn an_arena_gives_each_block_behind_the_others(rt: HostRuntime) -> Result<(), Fa
         return Err(Fail::from("no return"));
     };
     assert!(rt; words.as_slice() == [ValRaw::u32(5)].as_slice());
+    Ok(())
+}
+
+#[test]
+fn the_answers_of_a_guest_are_tested(rt: HostRuntime) -> Result<(), Fail> {
+    let alloc = rt.alloc();
+    let mut memory = Memory::new(alloc, 65_536)?;
+    let mut guest = Journaled::new(alloc, Watched::new(alloc, Arena::new(alloc, 8)));
+    assert!(rt; guest.realloc(&mut memory, 0, 0, 4, 8)? == 8);
+    let [mark] = guest.guest().marks() else {
+        return Err(Fail::from("not one mark"));
+    };
+    assert!(rt; mark.lawful && mark.tidy);
+    guest.guest_mut().clear_marks();
     Ok(())
 }
 

@@ -26,7 +26,7 @@ impl Model for AnswerMark {
     ghost inverse = { λ m. record { lawful = m.lawful; tidy = m.tidy } };
 }
 
-/// A block that lives.
+/// A block that lives. It stands wherever the guest said, which may be past all of memory.
 #[derive(Clone, Copy, Debug)]
 pub(crate) struct LiveBlock {
     start: u64,

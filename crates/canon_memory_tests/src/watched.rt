@@ -1,6 +1,6 @@
 //! What is seen of guests that keep the law of `realloc`, and of some that break it.
 
-ghost use Rattle.std.specs.Prelude.{◌≡◌, [], None, false, length, replicate};
+ghost use Rattle.std.specs.Prelude.{◌≡◌, ◌<◌, ◌^◌, [], IsFalse, None, false, length, replicate};
 
 use canon_memory::{Guest, GuestFault, Memory, Step, ValRaw, Watched, Words};
 use std::alloc::Global;
@@ -62,11 +62,7 @@ impl Guest for Giver {
             self.later
         };
         self.answers += 1;
-        if memory.is_wide() {
-            Ok(at)
-        } else {
-            Ok(at % (1 << 32))
-        }
+        Ok(address(at, memory.is_wide()))
     }
 
     fn post_return(
@@ -81,6 +77,13 @@ impl Guest for Giver {
     fn dtor(&mut self, _memory: &mut Memory, _func: u32, _rep: u32) -> Result<(), GuestFault> {
         Ok(())
     }
+}
+
+/// The number, or its low half where memory isn't wide.
+fn address(at: u64, wide: bool) -> u64
+    ensures { IsFalse wide → result < 2 ^ 32 }
+{
+    if wide { at } else { at % (1 << 32) }
 }
 
 /// Adds 1 to byte 0.
