@@ -1,1 +1,2 @@
 mod Unlogged
+mod Watched

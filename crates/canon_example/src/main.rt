@@ -2,9 +2,14 @@
 //! calls, and what comes of a guest that lies and of a host that errs.
 #![tactic(auto)]
 
-ghost use Rattle.std.specs.Prelude.{[], ◌≡◌, ◌+◌, ◌%◌, ◌^◌, ◌<◌, IfOk, IsOk, Some, false, length, replicate, slice_get};
+ghost use Rattle.std.specs.Prelude.{[], ◌≡◌, ◌+◌, ◌%◌, ◌^◌, ◌<◌, IfOk, IsNone, IsOk, Some, false, length, replicate, slice_get};
 ghost use Rattle.canon_example.specs.Component.{IsNotes};
 ghost use Rattle.canon_ledger.specs.Ledger.{new_ledger};
+ghost use Rattle.std.specs.List.{All};
+ghost use Rattle.canon_lowering.specs.Lowering.{SaysLawful};
+ghost use Rattle.canon_func.specs.Call.{refused_by};
+ghost use Rattle.canon_func.specs.Stores.{IsOwned, callee_of};
+ghost use Rattle.canon_example.specs.Watched.{StartsRight, added_events, added_marks};
 ghost use Rattle.canon_val.specs.declared.val.Val.TheVariants as val;
 
 mod component;
@@ -12,9 +17,9 @@ mod failure;
 mod imported;
 mod notes;
 
-use canon_func::{Error, Store, resource_drop};
+use canon_func::{Error, Func, Store, resource_drop};
 use canon_host::{HostFunc, HostStop, HostView, Imports, NoImports};
-use canon_memory::{Journaled, Memory};
+use canon_memory::{Journaled, Memory, Watched};
 use canon_resources::Resource;
 use canon_types::{ExportIndex, StoreId, TypeFunc};
 use canon_value::{Core, Fault, Val};
@@ -83,18 +88,18 @@ fn keep_notes(rt: &impl Print, alloc: Global) -> Result<(), Failure> {
     take_notes(rt, alloc, &mut store)
 }
 
-/// A store: the component, its guest with its memory and its journal, the data of the host, and what serves the imports.
-fn store_of<I: Imports<Clock, Journaled<Notes>> + Drop>(
+/// A store: the component, its guest with its memory, its journal and the marks of its answers, the data of the host, and what serves the imports.
+fn store_of<I: Imports<Clock, Journaled<Watched<Notes>>> + Drop>(
     alloc: Global,
     id: StoreId,
     imports: I,
-) -> Result<Store<Clock, Journaled<Notes>, I>, Failure>
+) -> Result<Store<Clock, Journaled<Watched<Notes>>, I>, Failure>
     ensures imports { IfOk result (λ store. store.imports ≡ imports) }
     ensures component { IfOk result (λ store. IsNotes id store.core.component) }
     ensures limits { IfOk result (λ store. (store.core.fuel ≡ 1_000_000) × (store.turns ≡ 100)) }
     ensures handles { IfOk result (λ store. store.core.ledger ≡ new_ledger 256 8 0) }
     ensures fresh { IfOk result (λ store. (store.core.id ≡ id) × (store.core.state ≡ record { now = 0 }) × (store.trapped ≡ false)) }
-    ensures guest { IfOk result (λ store. store.core.guest.guest.notes ≡ 0) }
+    ensures guest { IfOk result (λ store. store.core.guest.guest.guest.notes ≡ 0) }
     ensures journal { IfOk result (λ store. store.core.guest.events ≡ []) }
     ensures memory { IfOk result (λ store. store.core.memory ≡ replicate 4_096 0) }
 {
@@ -103,16 +108,18 @@ fn store_of<I: Imports<Clock, Journaled<Notes>> + Drop>(
     if !component.check() {
         return Err(Failure::BadComponent);
     }
-    let (clock, guest) = (Clock { now: 0 }, Journaled::new(alloc, Notes::new(alloc)));
+    // The guest doesn't know its own allocator's laws: each of its answers is tested.
+    let watched = Watched::new(alloc, Notes::new(alloc));
+    let (clock, guest) = (Clock { now: 0 }, Journaled::new(alloc, watched));
     let core = Core::new(alloc, id, clock, guest, memory, component, HANDLES, FUEL)?;
     Ok(Store::new(core, imports, TURNS))
 }
 
 /// Calls what the component exports. The last call is refused, since a guest that lied is called no more.
-fn take_notes<I: Imports<Clock, Journaled<Notes>>>(
+fn take_notes<I: Imports<Clock, Journaled<Watched<Notes>>>>(
     rt: &impl Print,
     alloc: Global,
-    store: &mut Store<Clock, Journaled<Notes>, I>,
+    store: &mut Store<Clock, Journaled<Watched<Notes>>, I>,
 ) -> Result<(), Failure>
     requires { I.ready store.old.imports }
 {
@@ -125,10 +132,10 @@ fn take_notes<I: Imports<Clock, Journaled<Notes>>>(
 }
 
 /// Calls an export with a text.
-fn add_note<I: Imports<Clock, Journaled<Notes>>>(
+fn add_note<I: Imports<Clock, Journaled<Watched<Notes>>>>(
     rt: &impl Print,
     alloc: Global,
-    store: &mut Store<Clock, Journaled<Notes>, I>,
+    store: &mut Store<Clock, Journaled<Watched<Notes>>, I>,
     export: u32,
     text: &str,
 ) -> Result<(), Failure>
@@ -140,10 +147,10 @@ fn add_note<I: Imports<Clock, Journaled<Notes>>>(
 }
 
 /// Makes a resource of the host, lends it to the guest for one call, and drops it.
-fn lend_notebook<I: Imports<Clock, Journaled<Notes>>>(
+fn lend_notebook<I: Imports<Clock, Journaled<Watched<Notes>>>>(
     rt: &impl Print,
     alloc: Global,
-    store: &mut Store<Clock, Journaled<Notes>, I>,
+    store: &mut Store<Clock, Journaled<Watched<Notes>>, I>,
 ) -> Result<(), Failure>
     requires { I.ready store.old.imports }
     ensures { I.ready store.new.imports }
@@ -157,10 +164,10 @@ fn lend_notebook<I: Imports<Clock, Journaled<Notes>>>(
 }
 
 /// Calls the function that takes a text with a number. The guest isn't started, but the call had begun, so the store is trapped.
-fn make_a_mistake<I: Imports<Clock, Journaled<Notes>>>(
+fn make_a_mistake<I: Imports<Clock, Journaled<Watched<Notes>>>>(
     rt: &impl Print,
     alloc: Global,
-    store: &mut Store<Clock, Journaled<Notes>, I>,
+    store: &mut Store<Clock, Journaled<Watched<Notes>>, I>,
 ) -> Result<(), Failure>
     requires { I.ready store.old.imports }
 {
@@ -170,10 +177,10 @@ fn make_a_mistake<I: Imports<Clock, Journaled<Notes>>>(
 }
 
 /// Calls an export, and prints what it answers, or why there is no answer.
-fn call<I: Imports<Clock, Journaled<Notes>>>(
+fn call<I: Imports<Clock, Journaled<Watched<Notes>>>>(
     rt: &impl Print,
     alloc: Global,
-    store: &mut Store<Clock, Journaled<Notes>, I>,
+    store: &mut Store<Clock, Journaled<Watched<Notes>>, I>,
     export: u32,
     params: &[Val],
 ) -> Result<(), Failure>
@@ -184,10 +191,28 @@ fn call<I: Imports<Clock, Journaled<Notes>>>(
         return Err(Failure::NoExport);
     };
     let mut results = [Val::Bool(false)];
-    let answer = func.call(alloc, store, params, &mut results);
+    let answer = call_watched(alloc, store, &func, params, &mut results);
     // What the guest was asked and did in this call, of which the contract of `call` speaks. Here it is let go.
     let _events = store.core_mut().guest_mut().take_journal();
     print_outcome(rt, answer, &results)
+}
+
+/// Calls a function. Where each answer of `realloc` that it added is marked lawful, the words that the guest was started with and its memory
+/// represent the parameters: nothing is assumed of the guest.
+fn call_watched<I: Imports<Clock, Journaled<Watched<Notes>>>>(
+    alloc: Global,
+    store: &mut Store<Clock, Journaled<Watched<Notes>>, I>,
+    func: &Func,
+    params: &[Val],
+    results: &mut [Val],
+) -> Result<(), Error>
+    requires owned { IsOwned store.old func.now }
+    requires ready { I.ready store.old.imports }
+    ensures started { IsNone (refused_by result) → All SaysLawful (added_marks store.old.core.guest.guest.marks store.new.core.guest.guest.marks)
+        → StartsRight (callee_of store.old func.now) params.now (added_events store.old.core.guest.events store.new.core.guest.events) }
+    ensures still_ready { I.ready store.new.imports }
+{
+    func.call(alloc, store, params, results)
 }
 
 /// Prints what a call answers, or why there is no answer.

@@ -1,16 +1,10 @@
 -- The marks that a guest added for its answers tell whether these are lawful, and whether they are tidy. Of a guest that is watched
 -- the marks are a list that its embedder can read.
-use Rattle.std.proofs.Common.{IsTrue, List, [], ap, arith, drop, length, subst, suc, ◌++◌, ◌∙◌, ◌∷◌, ◌≡◌}
+use Rattle.std.proofs.Common.{List, [], ap, arith, drop, length, subst, suc, ◌++◌, ◌∙◌, ◌∷◌, ◌≡◌}
 use Rattle.std.specs.List.{All}
 use Rattle.std.proofs.Math.Seq.{drop-append_seam}
 use Rattle.canon_memory.specs.Guest.{Mark}
-use Rattle.canon_lowering.specs.Lowering.{AllLawful, AllTidy, Answer, marks_of}
-
-abbrev pub SaysLawful : Mark → Type 0
-SaysLawful m = IsTrue m.lawful
-
-abbrev pub SaysTidy : Mark → Type 0
-SaysTidy m = IsTrue m.tidy
+use Rattle.canon_lowering.specs.Lowering.{AllLawful, AllTidy, Answer, SaysLawful, SaysTidy, marks_of}
 
 pub all_lawful : (xs : List Answer) → All SaysLawful (marks_of xs) → AllLawful xs
 all_lawful [] h = tt
