@@ -45,7 +45,7 @@ pair_found Key Value i t2 type j m e is fits defined pair =
       value_known = here.known 1 m.value (omega arith);
       key_fits = subst (Key i) (same_key key value m.key m.value (sym d.definition ∙ here.definition)) f;
       value_fits = subst (Value i) (same_value key value m.key m.value (sym d.definition ∙ here.definition)) f2;
-      second = there.value ∙ second_place (shape_of i.types m.key) (shape_of i.types m.value);
+      second = there.value false ∙ second_place (shape_of i.types m.key) (shape_of i.types m.value);
       layout = there.abi;
     }
 
