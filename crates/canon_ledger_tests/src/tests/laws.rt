@@ -7,7 +7,7 @@ ghost use Rattle.canon_ledger.specs.Ledger.{last_generation};
 ghost use Rattle.canon_ledger.specs.Reached.{ledger_in};
 
 use super::with_ledger;
-use canon_ledger::{HostResourceData, HostResourceTables, Ledger};
+use canon_ledger::{HostResourceData, HostResourceTables, KnownTypes, Ledger, ResourceTables};
 
 /// How many handles stand while no call runs: as many as are live.
 fn handles_at_rest(ledger: &Ledger) -> u64
@@ -43,12 +43,28 @@ fn generations_end(tables: &HostResourceTables)
     tables.laws();
 }
 
-fn known_by_laws(ledger: &mut Ledger) -> Option<u64> {
-    zero_names_nothing(ledger);
+// Asks for the laws through the host's tables.
+fn through_host_tables(ledger: &mut Ledger) {
     let tables = HostResourceTables::new_host(ledger);
     generations_end(&tables);
-    tables.tables.laws();
-    Some(tables.tables.ledger.live())
+}
+
+// And through the tables of a call.
+fn through_tables(ledger: &mut Ledger) {
+    let current_scope = ledger.current();
+    let tables = ResourceTables {
+        ledger,
+        types: KnownTypes::none(),
+        current_scope,
+    };
+    tables.laws();
+}
+
+fn known_by_laws(ledger: &mut Ledger) -> Option<u64> {
+    zero_names_nothing(ledger);
+    through_host_tables(ledger);
+    through_tables(ledger);
+    Some(ledger.live())
 }
 
 #[test]
