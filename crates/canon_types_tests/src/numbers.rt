@@ -81,7 +81,12 @@ fn a_record_of_a_text_and_a_number_has_sizes_for_both_widths(rt: HostRuntime) {
     let mut end = 0;
     assert!(rt; (name.next_field32(&mut end), score.next_field32(&mut end)) == (0, 8));
     let mut wide_end = 0;
-    assert!(rt; (name.next_field64(&mut wide_end), score.next_field64(&mut wide_end)) == (0, 16));
+    assert!(rt;
+        (
+            name.next_field64(&mut wide_end),
+            score.next_field64(&mut wide_end)
+        ) == (0, 16)
+    );
 }
 
 #[test]
