@@ -77,11 +77,13 @@ fn a_record_of_a_text_and_a_number_has_sizes_for_both_widths(rt: HostRuntime) {
         abi.align64,
     ));
     assert!(rt; record == Some((12, 4, 24, 8)));
-    let [name, score] = fields;
+    let (name, score) = (CanonicalAbiInfo::POINTER_PAIR, CanonicalAbiInfo::SCALAR4);
     let mut end = 0;
-    assert!(rt; (name.next_field32(&mut end), score.next_field32(&mut end)) == (0, 8));
-    let mut wide_end = 0;
-    assert!(rt; (name.next_field64(&mut wide_end), score.next_field64(&mut wide_end)) == (0, 16));
+    assert!(rt; name.next_field64(&mut end) == 0);
+    assert!(rt; end == 16);
+    let mut last = 16;
+    assert!(rt; score.next_field64(&mut last) == 16);
+    assert!(rt; last == 20);
 }
 
 #[test]
