@@ -1,11 +1,10 @@
 -- What is read from words that are in a row, or one that points to a tuple.
-use Rattle.std.specs.Prelude.{Bool, [], false, if◌then◌else◌, nat_le, true, ℕ, ◌%◌, ◌≡◌, ◌⊎◌}
+use Rattle.std.specs.Prelude.{Bool, [], false, if◌then◌else◌, nat_le, true, ℕ, ◌⊎◌}
 use Rattle.canon_reading.specs.Reading.{Reading, Setting}
 use Rattle.canon_reading.specs.Spots.{Spot, at_of, pointer_in, stored}
 use Rattle.canon_model.specs.Flat.{max_results}
 use Rattle.canon_model.specs.Layout.{align, flat, members_flat, size}
-use Rattle.canon_model.specs.Memory.{Inside}
-use Rattle.canon_model.specs.Reach.{At, IsFault, IsGood, Kind, is_good, misaligned, out_of_bounds}
+use Rattle.canon_model.specs.Reach.{AlignedFault, At, IsGood, Kind, is_good}
 use Rattle.canon_model.specs.Shape.{Members, Shape}
 
 -- whether what a pointer points to is aligned and inside memory
@@ -21,8 +20,7 @@ area_in w at = stored (pointer_in w.memory at)
 
 -- it isn't: misaligned, or aligned and not inside memory
 abbrev pub AreaFault : Setting → Spot → Shape → Kind → At → Type 0
-AreaFault w at s k x = (IsFault misaligned (at_of at) k x × ¬ (pointer_in w.memory at % align w.memory.wide s ≡ 0))
-    ⊎ (IsFault out_of_bounds (at_of at) k x × (pointer_in w.memory at % align w.memory.wide s ≡ 0) × ¬ Inside w.memory (pointer_in w.memory at) (size w.memory.wide s))
+AreaFault w at s = AlignedFault w.memory (at_of at) (pointer_in w.memory at) (size w.memory.wide s) (align w.memory.wide s)
 
 -- what the pointer at a spot points to, where it is aligned and inside memory
 abbrev pub area_reading : {A : Type 0} → Reading A → Reading A

@@ -42,12 +42,12 @@ returns-then-at-from-clause-err g c =
     let h = read g (goal.at.returns-then-at-from-clause-err g c).After-from in
     let bytes = c.args.core.now.memory in
     let aligned = subst (λ (p : ℕ). p % members_align false (tuple_members (component_types c.args.core.now) c.args.ty) ≡ 0) h.is (subst (λ (n : ℕ). c.from-at.result % n ≡ 0) h.by_align c.if-at-from-ne0.false) in
-    let count : length c.memory.result.now ≡ length bytes = ap length c.memory.ensures.memory in
+    let count : length c.memory.result.now.bytes ≡ length bytes = ap length c.memory.ensures.memory in
     inr (refl, aligned, omega (arith, c.if-at-from.true, h.is, h.by_size, c.from-2.ensures, c.len.ensures.count, count))
 
 pub returns-clause-ok : goal.returns-clause-ok
 returns-clause-ok g c =
     let h = read g (goal.at.returns-clause-ok g c).After-from in
     let bytes = c.args.core.now.memory in
-    let count : length c.memory.result.now ≡ length bytes = ap length c.memory.ensures.memory in
+    let count : length c.memory.result.now.bytes ≡ length bytes = ap length c.memory.ensures.memory in
     (h.is, subst (λ (n : ℕ). c.from-at.result % n ≡ 0) h.by_align c.if-at-from-ne0.false, omega (arith, c.if-at-from.false, h.by_size, c.from-2.ensures, c.len.ensures.count, count))

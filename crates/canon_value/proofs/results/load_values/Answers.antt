@@ -1,4 +1,4 @@
-use Rattle.std.proofs.Common.{List, Vec, ap, arith, false, length, refl, subst, ◌%◌, ◌+◌, ◌∙◌, ◌≡◌, ◌≤◌, ℕ}
+use Rattle.std.proofs.Common.{List, Vec, ap, arith, false, inl, inr, length, refl, subst, ◌%◌, ◌+◌, ◌∙◌, ◌≡◌, ◌≤◌, ℕ}
 use Rattle.std.proofs.lemmas.List.{get_or_default}
 use Rattle.std.specs.Prelude.{slice_index}
 use Rattle.canon_model.specs.Layout.{members_align, size}
@@ -32,6 +32,18 @@ returns-then-at-from-ne0-clause-err c = λ most far.
     let by_align : c.from.result ≡ members_align false ms = c.from.ensures ∙ tuple_align _ _ _ c.tuple-tuple.ensures.abi (shape (goal.at.returns-then-at-from-ne0-clause-err c).After-tuple-tuple) in
     misaligned_blamed (encoding_of c.args.source.now.encoding) c.args.source.now.memory.now c.args.src.now most ms c.from-at.result c.args.fuel.now is far
     (subst (λ (n : ℕ). c.from-at.result % n ≡ 0 → ⊥) by_align c.if-at-from-ne0.true)
+
+pub returns-then-at-from-clause-err : goal.returns-then-at-from-clause-err
+returns-then-at-from-clause-err c = λ most far.
+    let ms = tuple_members c.args.source.now.types.now c.args.ty in
+    let form = shape (goal.at.returns-then-at-from-clause-err c).After-tuple-tuple in
+    let found : c.index-src-0.result ≡ slice_index c.args.src.now 0 = c.index-src-0.is ∙ get_or_default c.args.src.now 0 _ 0 (omega (arith, c.requires.word)) in
+    let is : c.from-at.result ≡ low (slice_index c.args.src.now 0) = c.from-at.ensures ∙ (c.get_u32.ensures ∙ ap low found) in
+    let by_align : c.from.result ≡ members_align false ms = c.from.ensures ∙ tuple_align _ _ _ c.tuple-tuple.ensures.abi form in
+    let by_size : c.from-2.result ≡ size false (product of_places ms) = c.from-2.ensures ∙ tuple_size _ _ _ c.tuple-tuple.ensures.abi form in
+    let aligned : low (slice_index c.args.src.now 0) % members_align false ms ≡ 0 =
+    subst (λ (p : ℕ). p % members_align false ms ≡ 0) is (subst (λ (n : ℕ). c.from-at.result % n ≡ 0) by_align c.if-at-from-ne0.false) in
+    inr (far, inl (inr (record { kind_is = refl; at_is = refl }, aligned, λ inside. omega (arith, inside, is, by_size, c.if-at-from.true))))
 
 pub load_members-requires-clause-aligned : goal.load_members-requires-clause-aligned
 load_members-requires-clause-aligned c =
