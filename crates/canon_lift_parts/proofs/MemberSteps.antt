@@ -102,10 +102,10 @@ module _ (t : TypeTable) (types more : List InterfaceType) (type : InterfaceType
       here = subst (λ (x : TypeTable). HasLayout abi (shape_of x type)) same layout
 
       starts_so : align_to end abi.align32 ≡ begins false end s
-      starts_so = ap (align_to end) here.align
+      starts_so = ap (align_to end) (here.align false)
 
       ends_so : align_to end abi.align32 + abi.size32 ≡ ends false end s
-      ends_so = ap (λ n. n + abi.size32) starts_so ∙ ap (λ n. begins false end s + n) here.size
+      ends_so = ap (λ n. n + abi.size32) starts_so ∙ ap (λ n. begins false end s + n) (here.size false)
 
       pub next_fits : length memory ≤ 2 ^ 32 → align_to end abi.align32 + abi.size32 < 2 ^ 64
       next_fits few = omega (arith, few, ends_so, ends_inside)
