@@ -16,6 +16,10 @@ lower_payload-requires-clause-room g c =
     let shape = result_shape t c.types.result.now c.in-Result.i c.result-result.result.now.ok c.result-result.result.now.err c.args.ty c.types.ensures c.in-Result.is c.result-result.ensures.entry in
     omega (arith, c.requires.words, case_room s 0 ok (result_ok s ok err shape))
 
+pub lower_payload-requires-clause-known : goal.lower_payload-requires-clause-known
+lower_payload-requires-clause-known g c =
+    (result_knows (component_types c.args.cx.now.core.now) c.types.result.now c.in-Result.i c.result-result.result.now.ok c.result-result.result.now.err c.types.ensures c.result-result.ensures.entry).0
+
 pub lower_payload-requires-in-Err-clause-known : goal.lower_payload-requires-in-Err-clause-known
 lower_payload-requires-in-Err-clause-known g c =
     (result_knows (component_types c.args.cx.now.core.now) c.types.result.now c.in-Result.i c.result-result.result.now.ok c.result-result.result.now.err c.types.ensures c.result-result.ensures.entry).1
