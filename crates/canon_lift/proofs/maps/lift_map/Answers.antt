@@ -1,6 +1,7 @@
-use Rattle.std.proofs.Common.{◌≡◌, ◌+◌, ◌∷◌, [], ap, subst, sym}
+use Rattle.std.proofs.Common.{◌≡◌, ◌+◌, ◌∙◌, ◌∷◌, [], ap, false, subst, sym}
 use Rattle.canon_abi.specs.Abi.{HasLayout}
 use Rattle.canon_context.specs.Core.{component_types}
+use Rattle.canon_model.specs.Layout.{begins, ends}
 use Rattle.canon_model.specs.Shape.{tuple}
 use Rattle.canon_types.specs.Depth.{element_shape}
 use Rattle.canon_types.specs.Table.{Knows, shape_of}
@@ -8,7 +9,7 @@ use Rattle.canon_model.specs.Memory.{cap}
 use Rattle.canon_reading.specs.MapsOfTrees.{pairs_reading}
 use Rattle.canon_reading.specs.Reading.{Lifts, setting_in}
 use Rattle.canon_reading.specs.Spots.{stored}
-use Rattle.canon_lift_parts.proofs.Lookups.{IsPairThere, map_element, map_layout, map_there}
+use Rattle.canon_lift_parts.proofs.Lookups.{IsPairThere, map_element, map_layout, map_offset, map_there}
 use Rattle.canon_lift.proofs.MapLifting.{map_lifts}
 use Rattle.canon_lift.proofs.Pairs.{map_range_refused, named_so, refused_list}
 use Rattle.canon_lift.proofs.maps.lift_map.Given.{Over}
@@ -48,6 +49,16 @@ lift_pairs-requires-clause-value g c =
     let m = c.map-map.result.now in
     let there = pair g (goal.at.lift_pairs-requires-clause-value g c).After-map-map in
     subst (λ z. Knows (component_types z.core.now) m.value) (sym c.in-Ok.ensures.same) there.value_known
+
+pub lift_pairs-requires-clause-offset : goal.lift_pairs-requires-clause-offset
+lift_pairs-requires-clause-offset g c =
+    let core = c.args.cx.now.core.now in
+    let t = component_types core in
+    let m = c.map-map.result.now in
+    let there = pair g (goal.at.lift_pairs-requires-clause-offset g c).After-map-map in
+    let offset = map_offset t c.types.result.now c.in-Map.i c.args.ty m.key m.value m c.types.ensures c.in-Map.is there.shape c.map-map.ensures.pair in
+    subst (λ z. c.from.result ≡ begins false (ends false 0 (shape_of (component_types z.core.now) m.key)) (shape_of (component_types z.core.now) m.value)) (sym c.in-Ok.ensures.same)
+    (c.from.ensures ∙ offset)
 
 pub returns-in-Err-clause-lifts : goal.returns-in-Err-clause-lifts
 returns-in-Err-clause-lifts g c = λ spot there room.
