@@ -140,6 +140,7 @@ impl<T, G> Core<T, G> {
     /// The guest's memory.
     pub fn memory(&self) -> &Memory
         ensures memory { result.now.bytes ≡ self.now.memory }
+        ensures wide { result.now.wide ≡ self.now.wide }
         ensures narrow { IsFalse result.now.wide }
         ensures small { length self.now.memory ≤ 2 ^ 32 }
     {

@@ -1,11 +1,11 @@
--- Two calls, typed or dynamic, in one store or two, whose parameters mean the same trees.
-use Rattle.std.specs.Prelude.{List, None, false, ℕ, ◌≡◌}
+-- Two calls, typed or dynamic, in one store or two, whose starts name the same trees.
+use Rattle.std.specs.Prelude.{List, None, Option, Some, false, ℕ, ⊤, ◌×◌, ◌≡◌}
 use Rattle.canon_model.specs.Fields.{SameArgs}
 use Rattle.canon_model.specs.Flat.{AreWords}
 use Rattle.canon_model.specs.Memory.{IsMemory}
 use Rattle.canon_model.specs.Requests.{Request}
 use Rattle.canon_memory.specs.Guest.{Moment}
-use Rattle.canon_lowering.specs.Lowering.{AllLawful, Answer, Meets, addresses_of, events_of}
+use Rattle.canon_lowering.specs.Lowering.{AllLawful, Answer, Meets, Trap, addresses_of, events_of}
 use Rattle.canon_lowering.specs.Storing.{narrow}
 use Rattle.canon_func.specs.Call.{IsStart}
 use Rattle.canon_func.specs.Passing.{Arguments}
@@ -20,7 +20,13 @@ StartsAlike callee args other = (entry entry2 : Moment) (answers answers2 : List
     → k.trees ≡ h.trees → addresses_of answers2 ≡ addresses_of answers → AllLawful answers → AllLawful answers2
     → SameArgs callee.encoding false memory memory2 words words2 callee.params h.trees
 
+-- both trapped at the same request, or not both trapped
+abbrev pub TrapsAlike : Option Trap → Option Trap → Type 0
+TrapsAlike (Some t) (Some u) = u.call ≡ t.call
+TrapsAlike _ _ = ⊤
+
 -- Two that met the first of the same requests, and were answered the same, made the same requests.
 abbrev pub AsksAlike : Type 0
-AsksAlike = (requests left left2 : List Request) (answers answers2 : List Answer) → ((last : ℕ) → Meets last requests answers None left) → ((last : ℕ) → Meets last requests answers2 None left2)
-    → addresses_of answers2 ≡ addresses_of answers → events_of answers2 None ≡ events_of answers None
+AsksAlike = (requests left left2 : List Request) (answers answers2 : List Answer) (trap trap2 : Option Trap)
+    → ((last : ℕ) → Meets last requests answers trap left) → ((last : ℕ) → Meets last requests answers2 trap2 left2)
+    → addresses_of answers2 ≡ addresses_of answers → (events_of answers2 None ≡ events_of answers None) × TrapsAlike trap trap2

@@ -58,14 +58,17 @@ pub fn typed_results_are_exact<R: ComponentNamedList + Lift>()
     ensures enough { RepresentedIsEnough R.fits R.reading R.cost }
 {}
 
-/// Values that mean the same trees cross as the same words and the same stored fields, where `realloc` gives the same answers and keeps its law:
-/// the words of a valid call's start are the only ones. And two that are answered the same make the same requests.
+/// Two starts that name the same trees have the same words and the same stored fields, where `realloc` gives both the same answers and keeps its
+/// law, whatever `Val`s were passed: trees and answers leave no word open. And two that met the same requests and were answered the same made
+/// the same ones, also the one that trapped.
 pub fn starts_are_alike()
     ensures dynamic { (callee : Callee) (params others : List Val) → StartsAlike callee (dynamic callee params) (dynamic callee others) }
     ensures asked { AsksAlike }
 {}
 
-/// A typed value and a dynamic one of the same trees cross as the same words and the same stored fields too.
-pub fn typed_starts_are_alike<P: ComponentNamedList + Lower>()
-    ensures { (callee : Callee) (params : P) (values : List Val) → StartsAlike callee (typed_args (P.walks params) (P.gives callee.types (params_shape callee) params) callee) (dynamic callee values) }
+/// The same of a typed start beside a dynamic one, and of two typed ones.
+pub fn typed_starts_are_alike<P: ComponentNamedList + Lower, Q: ComponentNamedList + Lower>()
+    ensures dynamic { (callee : Callee) (params : P) (values : List Val) → StartsAlike callee (typed_args (P.walks params) (P.gives callee.types (params_shape callee) params) callee) (dynamic callee values) }
+    ensures typed { (callee : Callee) (params : P) (others : Q) → StartsAlike callee (typed_args (P.walks params) (P.gives callee.types (params_shape callee) params) callee)
+        (typed_args (Q.walks others) (Q.gives callee.types (params_shape callee) others) callee) }
 {}

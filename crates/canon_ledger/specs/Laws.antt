@@ -35,7 +35,7 @@ pub record LedgerLaws (l : LedgerState) : Type 0 where
   -- the host's slots: none is newer than the current generation, each handle has one, and that of an index without a handle is older
   pub host : IsHostSound l
   pub last_generation_at_most : l.host.generation ≤ last_generation
-  -- an index that is accepted has the generation in which the entry there was inserted
+  -- an index that is accepted has the generation of the slot that stands there
   pub accepted_are_current : (x : GivenIndex) → IsAccepted x l → option_map (λ (s : TableSlot). s.generation) (slot_at l.host x.index) ≡ Some x.generation
 
 -- Refusals

@@ -82,7 +82,7 @@ impl<'a> HostResourceTables<'a> {
     }
 
     /// What holds of the ledger, as of every other: so of the host's indexes too, that one which is
-    /// accepted has the generation in which its entry was inserted. It does nothing.
+    /// accepted has the generation of the slot that stands there. It does nothing.
     pub fn laws(&self)
         ensures { LedgerLaws (ledger_in self.now) }
     {

@@ -89,7 +89,7 @@ impl Ledger {
     /// What holds of this ledger, and of every other. The live handles are the entries of all tables
     /// and the lends; an own handle's lend count is the number of its lenders in open scopes; a
     /// scope's borrow count is the number of the borrow handles that name it; an index that the host
-    /// may use has the generation in which its entry was inserted. For a proof that cites it; it does
+    /// may use has the generation of the slot that stands there. For a proof that cites it; it does
     /// nothing.
     pub fn laws(&self)
         ensures { LedgerLaws self.now }

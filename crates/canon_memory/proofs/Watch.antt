@@ -258,7 +258,7 @@ ended_by x y live i le h k d low lt = let e = h k d low lt in omega (arith, le, 
 -- ---- marks
 
 module _ (w : Bool) (live : List Block) (before after : List ℕ) (o os al ns answer : ℕ) (l t : Bool) where
-  exact : length before ≤ length after → (IsTrue l ↔ LawHolds live before after (call o os al ns) answer) → (IsTrue t → IsTidy before after (block answer ns)) → (IsTrue w → IsTidy before after (block answer ns) → IsTrue t)
+  exact : length before ≤ length after → (IsTrue l ↔ LawHolds live before after (call o os al ns) answer) → (IsTrue t → IsTrue w × IsTidy before after (block answer ns)) → (IsTrue w → IsTidy before after (block answer ns) → IsTrue t)
       → IsExactMark w live (relisted live (call o os al ns) answer) before after (call o os al ns) answer (record { lawful = l; tidy = t })
   exact longer h g k = record {
     lawful = (λ e. law_from live before after (call o os al ns) answer longer (h.0 e), λ law. h.1 (law_to live before after (call o os al ns) answer law));
@@ -276,7 +276,8 @@ module _ (w : Bool) (live : List Block) (before after : List ℕ) (o os al ns an
       let h3 : IsTrue l ↔ LawHolds live shot after (call o os al ns) answer = subst (λ (b : Block). IsTrue l ↔ LawHolds live shot after (call o os al b.size) b.start) en h2 in
       let both = shot_law live before shot after is.0 is.1 (call o os al ns) answer is.2 is.3 in
       let h4 : IsTrue l ↔ LawHolds live before after (call o os al ns) answer = (λ e. both.0 (h3.0 e), λ e. h3.1 (both.1 e)) in
-      let g1 : IsTrue t → IsTidy before after (block answer ns) = λ e. subst (λ (xs : List ℕ). IsTidy xs after (block answer ns)) (whole_shot before shot is.0 is.1 (is.4 (g e).0)) (subst (λ (b : Block). IsTidy shot after b) en (g e).1) in
+      let g1 : IsTrue t → IsTrue w × IsTidy before after (block answer ns) =
+      λ e. ((g e).0, subst (λ (xs : List ℕ). IsTidy xs after (block answer ns)) (whole_shot before shot is.0 is.1 (is.4 (g e).0)) (subst (λ (b : Block). IsTidy shot after b) en (g e).1)) in
       let k1 : IsTrue w → IsTidy before after (block answer ns) → IsTrue t = λ e tidy. k e (subst (λ (b : Block). IsTidy shot after b) (sym en) (subst (λ (xs : List ℕ). IsTidy xs after (block answer ns)) (sym (whole_shot before shot is.0 is.1 (is.4 e))) tidy)) in
       let l1 : live2 ≡ relisted live (call o os al ns) answer = el ∙ ap₂ (λ (x y : Block). other_blocks live x ++ unless_empty y) eo en in
       subst (λ (ys : List Block). IsExactMark w live ys before after (call o os al ns) answer (record { lawful = l; tidy = t })) (sym l1) (exact longer h4 g1 k1)

@@ -70,11 +70,11 @@ BlockEndsBy end b = b.start + b.size ≤ end
 abbrev pub IsShot : Bool → List Block → ℕ → List ℕ → List ℕ → Type 0
 IsShot whole live old_end memory shot = (end : ℕ) × (shot ≡ take (min end (length memory)) memory) × (old_end ≤ end) × All (BlockEndsBy end) live × (IsTrue whole → length memory ≤ end)
 
--- A mark says exactly whether the law held. It says that no byte outside the block changed only if it is so, and where every byte
--- is watched exactly if.
+-- A mark says exactly whether the law held. Where every byte is watched it says exactly whether no byte outside the block changed; else it
+-- never says so.
 pub record IsExactMark (whole : Bool) (live live_after : List Block) (before after : List ℕ) (c : Call) (answer : ℕ) (mark : Mark) : Type 0 where
   pub lawful : IsTrue mark.lawful ↔ ReallocLaw live live_after before after c answer
-  pub tidy : IsTrue mark.tidy → IsTidy before after (new_block c answer)
+  pub tidy : IsTrue mark.tidy → IsTrue whole × IsTidy before after (new_block c answer)
   pub tells_tidy : IsTrue whole → IsTidy before after (new_block c answer) → IsTrue mark.tidy
 
 -- ---- what contracts see
@@ -92,10 +92,11 @@ pub record Watching (G : Type 0) : Type 0 where
 abbrev pub watched_guest : {G : Type 0} → GuestIn (Watching G) → GuestIn G
 watched_guest w = record { guest = w.guest.guest; len = w.len; wide = w.wide }
 
--- It moves as its guest does, the live blocks follow the events, and no want of memory was answered.
+-- It moves as its guest does, the live blocks follow the events, as much is watched as before, and no want of memory was answered.
 pub record WatchedMoves {G : Type 0} (Moves : GuestIn G → List Event → GuestIn G → Type 0) (w : GuestIn (Watching G)) (events : List Event) (x : GuestIn (Watching G)) : Type 0 where
   pub moves : Moves (watched_guest w) events (watched_guest x)
   pub live : x.guest.live ≡ live_along w.guest.live events
+  pub whole : x.guest.whole ≡ w.guest.whole
   pub shortages : x.guest.shortages ≡ w.guest.shortages
 
 -- one list of events after another

@@ -118,9 +118,9 @@ impl<G: Guest> Guest for Watched<G> {
 
     ghost leaves = { λ m n. G.leaves m n };
 
-    ghost stays = { λ w. record { moves = G.stays (watched_guest w); live = refl; shortages = refl } };
+    ghost stays = { λ w. record { moves = G.stays (watched_guest w); live = refl; whole = refl; shortages = refl } };
 
-    ghost goes_on = { λ u v w xs ys f g. record { moves = G.goes_on (watched_guest u) (watched_guest v) (watched_guest w) xs ys f.moves g.moves; live = along_both _ _ _ xs ys f.live g.live; shortages = g.shortages ∙ f.shortages } };
+    ghost goes_on = { λ u v w xs ys f g. record { moves = G.goes_on (watched_guest u) (watched_guest v) (watched_guest w) xs ys f.moves g.moves; live = along_both _ _ _ xs ys f.live g.live; whole = g.whole ∙ f.whole; shortages = g.shortages ∙ f.shortages } };
 
     fn start(
         &mut self,
@@ -160,7 +160,7 @@ impl<G: Guest> Guest for Watched<G> {
         ensures does { Reallocates (moment (watched_seen G.seen self.old) memory.old.bytes) (moment (watched_seen G.seen self.new) memory.new.bytes) (call old old_size align new_size) result }
         ensures moves { OnAnswer result (WatchedMoves G.moves (guest_in self.old memory.old) (realloc_events (call old old_size align new_size) memory.old.bytes result) (guest_in self.new memory.new)) }
         ensures exact { IfOk result (λ answer. Marks self.old self.new memory.old.bytes memory.new.bytes (call old old_size align new_size) answer) }
-        ensures kept { OnErr result ((self.new.marks ≡ self.old.marks) × (self.new.live ≡ self.old.live)) }
+        ensures kept { OnErr result ((self.new.marks ≡ self.old.marks) × (self.new.live ≡ self.old.live) × (self.new.whole ≡ self.old.whole)) }
     {
         let seen = shot(&self.live, old + old_size, self.whole, memory.as_slice());
         self.before.clear();

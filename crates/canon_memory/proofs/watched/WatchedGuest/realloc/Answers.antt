@@ -42,6 +42,6 @@ returns-in-Ok-clause-does g c =
       record {
         goes = record { no_shorter = inner.no_shorter; traps_later = inner.traps_later; shortages_later = search rules; marks = m.1; events = inner.events };
         lawful = m.2.lawful.0;
-        tidy = m.2.tidy;
+        tidy = λ e. (m.2.tidy e).1;
       },
     )
