@@ -81,8 +81,10 @@ pub fn renew(alloc: Global, core: &mut TestCore, byte: u8) {
     *core.guest_mut() = ScriptedGuest::new(alloc, 1024);
 }
 
-/// A memory of 64 bytes that begins with these. Answers `TooLarge` where these are more.
-pub fn memory_of(alloc: Global, bytes: &[u8]) -> Result<Memory, MemoryError> {
+/// A memory of 64 bytes that begins with these, with pointers of 32 bits. Answers `TooLarge` where these are more.
+pub fn memory_of(alloc: Global, bytes: &[u8]) -> Result<Memory, MemoryError>
+    ensures narrow { IfOk result (λ m. IsFalse m.wide) }
+{
     if bytes.len() > 64 {
         return Err(MemoryError::TooLarge);
     }
