@@ -1,5 +1,5 @@
 -- A call of a guest whose answers of `realloc` are tested.
-use Rattle.std.specs.Prelude.{List, drop, length, true, ◌×◌}
+use Rattle.std.specs.Prelude.{List, drop, length, true}
 use Rattle.canon_model.specs.Flat.{RepArgs}
 use Rattle.canon_model.specs.Tree.{Trees}
 use Rattle.canon_memory.specs.Guest.{Mark}

@@ -1,5 +1,5 @@
 -- Two calls whose parameters mean the same trees.
-use Rattle.std.proofs.Common.{List, None, Option, Some, [], ap, cc, false, refl, subst, subst₂, sym, ℕ, ◌∙◌, ◌∷◌, ◌≡◌}
+use Rattle.std.proofs.Common.{List, None, Option, Some, [], ap, false, refl, subst, subst₂, sym, true, ℕ, ◌∙◌, ◌∷◌, ◌≡◌}
 use Rattle.canon_model.proofs.Fields.{fields_determine}
 use Rattle.canon_model.specs.Flat.{RepArgs}
 use Rattle.canon_model.specs.Homes.{ParamsHome, PointsTo, host_texts}

@@ -1,5 +1,5 @@
 -- Two calls, typed or dynamic, in one store or two, whose starts name the same trees.
-use Rattle.std.specs.Prelude.{List, None, Option, Some, false, ℕ, ⊤, ◌×◌, ◌≡◌}
+use Rattle.std.specs.Prelude.{List, None, Option, Some, false, ℕ, ⊤, ◌≡◌}
 use Rattle.canon_model.specs.Fields.{SameArgs}
 use Rattle.canon_model.specs.Flat.{AreWords}
 use Rattle.canon_model.specs.Memory.{IsMemory}
