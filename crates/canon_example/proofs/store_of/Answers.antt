@@ -1,8 +1,8 @@
 use Rattle.std.proofs.Common.{◌∙◌, ap}
 use Rattle.canon_example.proofs.store_of.Goals as goal
 
-pub new-requires-clause-component : goal.new-requires-clause-component
-new-requires-clause-component g c = c.check.ensures.0 c.if-not-check.false
+pub new-requires-3-clause-component : goal.new-requires-3-clause-component
+new-requires-3-clause-component g c = c.check.ensures.0 c.if-not-check.false
 
 pub returns-clause-handles : goal.returns-clause-handles
 returns-clause-handles g c = ap (λ store. store.core.ledger) c.new-4.ensures ∙ ap (λ core. core.ledger) c.in_ok-core.ensures

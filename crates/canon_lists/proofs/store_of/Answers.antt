@@ -1,4 +1,4 @@
 use Rattle.canon_lists.proofs.store_of.Goals as goal
 
-pub new-requires-3 : goal.new-requires-3
-new-requires-3 c = c.check.ensures.0 c.if-not-check.false
+pub new-requires-3-clause-component : goal.new-requires-3-clause-component
+new-requires-3-clause-component c = c.check.ensures.0 c.if-not-check.false
