@@ -1,0 +1,4 @@
+pub mod Channel
+pub mod Memories
+pub mod Relay
+pub mod Wire
