@@ -193,7 +193,9 @@ void canon_why_text(const canon_why *why, char *to, size_t room) {
   if (why->in_import) snprintf(import, sizeof import, "ImportFault %" PRIu32 " ", why->import);
   else if (why->error == CANON_UNKNOWN_IMPORT || why->error == CANON_HOST_REFUSED) snprintf(more, sizeof more, " %" PRIu32, why->import);
   static const char *const before[] = {"", " ", " w", " @", " "};
-  if (why->kind >= CANON_AT_VALUE && why->kind <= CANON_COUNT) snprintf(place, sizeof place, "%s%" PRIu64, before[why->kind], why->place);
+  bool is_block = why->error == CANON_REALLOC_MISALIGNED || why->error == CANON_REALLOC_OUT_OF_BOUNDS;
+  if (why->kind >= CANON_AT_VALUE && why->kind <= CANON_COUNT)
+    snprintf(place, sizeof place, "%s%" PRIu64, before[is_block ? CANON_COUNT : why->kind], why->place);
   if (why->error == CANON_BAD_DISCRIMINANT || why->error == CANON_UNKNOWN_HANDLE || why->error == CANON_NOT_A_RESOURCE ||
       why->error == CANON_STILL_LENT || why->error == CANON_TOO_MANY_LENDS)
     snprintf(more, sizeof more, " %" PRIu64, why->more);
@@ -347,11 +349,10 @@ static canon_store *store_of(int channel) {
 
 static ssize_t told(canon_store *s, const uint8_t *bytes, size_t n) {
   switch (s->phase) {
-    case MEMORY: /* it is told before it is heard, for an engine that can't reach it */
-      return n == s->len ? (ssize_t)n : -1;
+    case MEMORY:
     case LONGER_MEMORY:
-      if (n == s->len) return (ssize_t)n;
-      free(s->memory.block); /* the library refused it */
+      if (n == s->len) return (ssize_t)n; /* memory may be told before it is heard */
+      free(s->memory.block);              /* it isn't wanted */
       s->memory.block = NULL;
       break;
     case PARAMS:

@@ -158,9 +158,9 @@ int main(void) {
   call(s, "words of two bytes", WORDS, &bad, &r, &none);
   call(s, "no export", 99, &bad, &r, &none);
   number(s, "broken", BROKEN, 0, false);
-  number(s, "after the trap", LENGTH, 0, false);
   words(s, "the store is shut", 17);
   number(t, "crash", CRASH, 0, false);
+  canon_bytes_free(&bad), canon_bytes_free(&r);
   if (!canon_store_free(s) || !canon_store_free(t)) return 1;
 
   if (!(t = open_store(three, &v, component))) return 1;

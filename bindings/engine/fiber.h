@@ -89,7 +89,7 @@ static inline bool fiber_make(fiber *f, size_t size) {
   f->size = (size + f->guard - 1) / f->guard * f->guard;
   void *pages = mmap(NULL, f->guard + f->size, PROT_READ | PROT_WRITE, MAP_PRIVATE | MAP_ANONYMOUS | MAP_NORESERVE, -1, 0);
   if (pages == MAP_FAILED) return false;
-  f->pages = pages;
+  f->pages = (uint8_t *)pages;
   return mprotect(pages, f->guard, PROT_NONE) == 0 || (munmap(pages, f->guard + f->size), false);
 }
 
