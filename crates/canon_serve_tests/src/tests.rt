@@ -5,7 +5,7 @@ use canon_serve::{End, serve};
 use std::alloc::{AllocError, Global};
 
 /// A function of a number, one of a text, and an import.
-const COMPONENT: &str = r#"{"memory": 64, "turns": 3,
+const COMPONENT: &str = r#"{"memory": 64, "heap": 0, "turns": 3,
  "types": [{"list": "u8"}],
  "funcs": [{"params": ["u32"], "results": ["u32"]}, {"params": ["string"], "results": [0]}],
  "imports": [{"params": ["u32"], "results": ["u32"], "answers": []}]}"#;
