@@ -13,4 +13,5 @@ pub use channel::Channel;
 pub use demand::Demand;
 pub use memory_channel::{Given, MemoryChannel, Said};
 pub use relay::Relay;
+pub use reply::number_at;
 pub use wire::{MAX_WORDS, put_number, put_numbers};

@@ -11,7 +11,7 @@ use std::alloc::Global;
 pub(crate) const REPLY_BYTES: usize = 168;
 
 /// The number in the 8 bytes at a place.
-fn number_at(bytes: &[u8], at: usize) -> u64
+pub fn number_at(bytes: &[u8], at: usize) -> u64
     requires { at + 8 ≤ length bytes.now }
     ensures { result ≡ spec.number_at bytes.now at }
 {
@@ -53,7 +53,7 @@ pub(crate) fn count_of(reply: &[u8]) -> u64
 }
 
 /// Its words, where there are no more than it has room for.
-#[tactic(auto, using(crate::proofs::Numbers::one_more))]
+
 pub(crate) fn words_of(alloc: Global, reply: &[u8]) -> Result<Words, MemoryError>
     requires whole { length reply.now ≡ 168 }
     requires few { spec.reply_count reply.now ≤ 17 }
