@@ -40,6 +40,8 @@ struct Interp {
   Values params;
   canon_step step{};
   uint64_t answer = 0; // the word that a resume brings
+  bool stands = false;  // core code stands still at an ask
+  bool over = false;    // it is to be left there
 
   /// The export of this name, or none.
   Func::Ptr Find(const std::string &name) {
@@ -68,7 +70,9 @@ struct Interp {
     ask.import = import;
     for (const Value &it : words) ask.words[ask.count++] = it.Get<u32>();
     step = ask;
+    stands = true;
     fiber_leave(&code);
+    stands = false;
     return static_cast<u32>(answer);
   }
 
@@ -109,6 +113,7 @@ bool Instantiate(void *data, canon_memory *lent) {
     const FuncType type = *cast<FuncType>(import.type.type.get());
     auto ask = [it, number](Thread &, const Values &params, Values &results, Trap::Ptr *) {
       const u32 word = it->Ask(number, params);
+      if (it->over) return Result::Error; // so that the interpreter leaves its frames
       for (Value &result : results) result = Value::Make(word);
       return Result::Ok;
     };
@@ -177,5 +182,8 @@ extern "C" void *demo_engine_new() {
 
 extern "C" void demo_engine_free(void *data) {
   std::unique_ptr<Interp> it(static_cast<Interp *>(data));
-  if (it) fiber_free(&it->code);
+  if (!it) return;
+  it->over = true;
+  if (it->stands) fiber_enter(&it->code);
+  fiber_free(&it->code);
 }

@@ -30,10 +30,11 @@ impl Channel for Descriptor {
         io::read_full(self.number, into) == len
     }
 
-    /// The bytes of memory are the buffer of a read: whoever answers it finds them there, and may change them until it answers. Of a memory
-    /// without bytes nothing is read.
+    /// The bytes of memory are written, and then the same buffer is read. Whoever answers both calls in this process finds the bytes in the buffer
+    /// that it is to fill, and may run in it without a copy. Of a memory without bytes nothing is written or read.
     fn lend(&mut self, memory: &mut Memory) -> bool {
         let len = memory.len() as usize;
-        io::read_full(self.number, memory.as_slice_mut()) == len
+        io::write_all(self.number, memory.as_slice())
+            && io::read_full(self.number, memory.as_slice_mut()) == len
     }
 }

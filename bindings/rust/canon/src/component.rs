@@ -19,6 +19,8 @@ pub struct Component {
     pub turns: u64,
     /// How many handles may live.
     pub handles: u64,
+    /// Whether answers of `realloc` are tested against all of memory, which takes time (`docs/GUEST.md`).
+    pub watched: bool,
 }
 
 impl Default for Component {
@@ -31,6 +33,7 @@ impl Default for Component {
             fuel: 1_000_000_000,
             turns: 1_000_000,
             handles: 1_000_000,
+            watched: false,
         }
     }
 }
@@ -133,5 +136,68 @@ impl Entries {
 
     fn signature(&mut self, func: &Function) -> String {
         format!("\"params\": {}, \"results\": {}", self.all(&func.params), self.all(&func.results))
+    }
+}
+
+impl Component {
+    /// What the library reads.
+    pub(crate) fn json(&self) -> String {
+        let mut entries = Entries::default();
+        let funcs = self.exports.iter().map(|func| {
+            format!("{{{}, \"post\": {}}}", entries.signature(func), func.post_return)
+        });
+        let funcs = joined(funcs);
+        let imports = self.imports.iter().map(|import| match import {
+            Import::Function(func) => format!("{{{}, \"answers\": []}}", entries.signature(func)),
+            Import::ResourceNew(resource) => format!("{{\"builtin\": \"new\", \"resource\": {resource}}}"),
+            Import::ResourceRep(resource) => format!("{{\"builtin\": \"rep\", \"resource\": {resource}}}"),
+            Import::ResourceDrop(resource) => format!("{{\"builtin\": \"drop\", \"resource\": {resource}}}"),
+        });
+        let imports = joined(imports);
+        let resources = joined(self.resources.iter().map(|resource| match resource {
+            ResourceType::Host { id } => format!("{{\"kind\": \"dynamic\", \"id\": {id}}}"),
+            ResourceType::Guest { id, dtor: None } => format!("{{\"kind\": \"guest\", \"id\": {id}}}"),
+            ResourceType::Guest { id, dtor: Some(dtor) } => {
+                format!("{{\"kind\": \"guest\", \"id\": {id}, \"dtor\": {dtor}}}")
+            }
+        }));
+        format!(
+            "{{\"memory\": {}, \"fuel\": {}, \"turns\": {}, \"handles\": {}, \"resources\": {resources}, \"types\": {}, \"funcs\": {funcs}, \"imports\": {imports}}}",
+            self.memory,
+            self.fuel,
+            self.turns,
+            self.handles,
+            joined(entries.text)
+        )
+    }
+}
+
+#[cfg(test)]
+mod tests {
+    use super::*;
+
+    #[test]
+    fn spells_types_by_their_entries() {
+        let text = Type::record([("a", Type::list(Type::U8)), ("b\"", Type::Own(0))]);
+        let component = Component {
+            resources: vec![ResourceType::Guest { id: 1, dtor: Some(3) }],
+            exports: vec![Function::new([text.clone(), text], [Type::Bool]).with_post_return()],
+            imports: vec![Import::ResourceNew(0), Import::Function(Function::new([], [Type::String]))],
+            memory: 1,
+            fuel: 2,
+            turns: 3,
+            handles: 4,
+            watched: false,
+        };
+        // The forms are those of examples/README.md, "Types".
+        assert_eq!(
+            component.json(),
+            "{\"memory\": 1, \"fuel\": 2, \"turns\": 3, \"handles\": 4, \
+             \"resources\": [{\"kind\": \"guest\", \"id\": 1, \"dtor\": 3}], \
+             \"types\": [{\"list\": \"u8\"}, {\"own\": 0}, {\"record\": [[\"a\", 0], [\"b\\\"\", 1]]}], \
+             \"funcs\": [{\"params\": [2, 2], \"results\": [\"bool\"], \"post\": true}], \
+             \"imports\": [{\"builtin\": \"new\", \"resource\": 0}, \
+             {\"params\": [], \"results\": [\"string\"], \"answers\": []}]}"
+        );
     }
 }

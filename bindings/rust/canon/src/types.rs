@@ -1,7 +1,5 @@
 //! What a component is made of: types, functions, resources and imports, and the JSON that spells them.
 
-use std::fmt::Write;
-
 /// The type of a value.
 #[derive(Clone, Debug, PartialEq, Eq)]
 pub enum Type {
