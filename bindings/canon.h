@@ -238,7 +238,8 @@ typedef struct {
 /* Says what came of the last command (at first: of making the store), and asks for the next one. False ends the session. */
 typedef bool canon_next(void *data, const canon_answer *last, canon_command *command);
 
-/* Runs a store on the stack of the caller until `next` ends it. False where memory is short. */
+/* Runs a store on the stack of the caller until `next` ends it. False where the library ended first: memory is short, or there is no store, and then `next` was
+ * told why. */
 bool canon_session(const canon_setup *, canon_next *next, void *data);
 
 #ifdef __cplusplus

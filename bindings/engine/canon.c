@@ -542,6 +542,7 @@ bool canon_session(const canon_setup *setup, canon_next *next, void *data) {
   command(s, 1, setup->watched, setup->component, strlen(setup->component), &s->session_results);
   canon_serve(s->channel);
   bool ended = s->ended;
+  if (!ended && s->answered) ask_next(s); /* the library ended by itself: nobody took its last answer */
   end_store(s);
   return ended;
 }

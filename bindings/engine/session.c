@@ -52,11 +52,19 @@ static bool next(void *data, const canon_answer *last, canon_command *command) {
   return true;
 }
 
+static bool refused(void *data, const canon_answer *last, canon_command *command) {
+  (void)data, (void)command;
+  show("made", last);
+  return true;
+}
+
 int main(void) {
   void *engine = demo_engine_new();
   program p = {0, {NULL, 0, 0}};
   canon_setup setup = {component, true, demo_engine, engine, host, NULL, 0};
   if (!engine || !canon_session(&setup, next, &p)) return 1;
+  setup.component = "no JSON";
+  if (canon_session(&setup, refused, NULL)) return 1;
   canon_bytes_free(&p.params);
   demo_engine_free(engine);
   return 0;

@@ -264,9 +264,14 @@ pub(crate) fn run(session: Session) {
         all.len() as i32 - 1
     });
     // SAFETY: the library calls nothing but the two functions below and the C library. Its contract asks for no more than that these two keep those of
-    // `read` and `write`. Neither unwinds: both catch panics.
+    // `read` and `write`. A panic of the engine or the host is caught there, and any other one ends the program, so none unwinds through the library.
     unsafe { canon_serve(channel) };
-    SESSIONS.with_borrow_mut(|all| all.pop());
+    // Where the library ended by itself, its last answer is still to be taken.
+    if let Some(mut session) = SESSIONS.with_borrow_mut(|all| all.pop()).flatten() {
+        if let Some(answer) = session.answer.take() {
+            (session.next)(Some(answer));
+        }
+    }
 }
 
 unsafe extern "C" {
