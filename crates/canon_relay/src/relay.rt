@@ -273,7 +273,6 @@ fn words_in(alloc: Global, reply: &[u8]) -> Result<Words, GuestFault>
     }
 }
 
-#[tactic(auto, using(crate::proofs::Moves::starts, crate::proofs::Moves::resumes, crate::proofs::Moves::reallocs, crate::proofs::Moves::posts, crate::proofs::Moves::destroys))]
 impl<C: Channel> Guest for Relay<C> {
     ghost use Rattle.canon_relay.specs.Relay.{RelayMoves, relay_seen, says_both, says_nothing};
 

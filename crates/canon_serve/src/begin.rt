@@ -72,7 +72,11 @@ pub(crate) fn store_of<E: Channel + Drop, H: Channel + Drop>(
 }
 
 /// A guest whose answers of `realloc` are tested.
-fn watched<E: Channel + Drop>(alloc: Global, relay: Relay<E>, watches_all: bool) -> Watched<Relay<E>> {
+fn watched<E: Channel + Drop>(
+    alloc: Global,
+    relay: Relay<E>,
+    watches_all: bool,
+) -> Watched<Relay<E>> {
     if watches_all {
         Watched::new(alloc, relay)
     } else {
@@ -94,14 +98,16 @@ fn component_of(
         return Err(NoStore::OutOfMemory);
     }
     for (i, has_post) in posts.iter().enumerate() {
-        let i = i as u32;
+        let Ok(i) = u32::try_from(i) else {
+            return Err(NoStore::NoComponent);
+        };
         let ty = TypeFuncIndex::from_u32(i);
         let is_async = types.contains_func(ty) && types.func(ty).async_;
         let post_return = if *has_post { Some(i) } else { None };
         let export = Export {
             ty,
             func: i,
-            options: OptionsIndex::from_u32(i + 1),
+            options: OptionsIndex::from_u32(i.saturating_add(1)),
         };
         if options
             .push(options_of(encoding, is_async, post_return))
