@@ -15,11 +15,10 @@ use Rattle.canon_relay.specs.declared.counts.Counts.{Counts}
 use Rattle.canon_relay.specs.declared.demand.Demand.{Demand}
 use Rattle.canon_relay.specs.declared.demand.Demand.TheVariants as demand
 
--- a guest behind a channel, with how many blocks it gave, how often it trapped and was out of memory, and what it told last
+-- a guest behind a channel, with how many blocks it gave, and how often it trapped and was out of memory
 pub record Relaying (C : Type 0) : Type 0 where
   pub channel : C
   pub counts : Counts
-  pub told : List ℕ
 
 -- the mark of an answer that nobody tested
 abbrev pub untested : Mark
@@ -40,16 +39,17 @@ abbrev pub IsLeft : ℕ → List ℕ → List ℕ → Type 0
 IsLeft zero ran after = after ≡ ran
 IsLeft (suc n) ran after = Unit {0}
 
--- A demand was told, memory was lent and given back, a reply of a kind was heard, and a memory that is to be longer by it was lent again.
-pub record Replied (kind : ℕ) (d : Demand) (words before after reply : List ℕ) (messages : List Message) : Type 0 where
+-- A demand of these bytes was told, memory was lent and given back, a reply of a kind was heard, and a memory that is to be longer by it was
+-- lent again.
+pub record Replied (kind : ℕ) (asked before after reply : List ℕ) (messages : List Message) : Type 0 where
   pub ran : List ℕ
-  pub passed : messages ≡ told (demand_bytes d (length before) words) ∷ lent before ran ∷ heard reply ∷ lent_again (reply_grown reply) ran after
+  pub passed : messages ≡ told asked ∷ lent before ran ∷ heard reply ∷ lent_again (reply_grown reply) ran after
   pub left : IsLeft (reply_grown reply) ran after
   pub kind_is : reply_kind reply ≡ kind
 
 -- what the reply to a demand is, and which messages it took
 abbrev pub Answers : ℕ → Demand → List ℕ → List ℕ → List ℕ → (List ℕ → Type 0) → List Message → Type 0
-Answers kind d words before after Says messages = (reply : List ℕ) × Replied kind d words before after reply messages × Says reply
+Answers kind d words before after Says messages = (reply : List ℕ) × Replied kind (demand_bytes d (length before) words) before after reply messages × Says reply
 
 -- an engine that was let go returned these words, or asks for an import with them
 abbrev pub Does : Demand → List ℕ → List ℕ → List ℕ → Step → List Message → Type 0

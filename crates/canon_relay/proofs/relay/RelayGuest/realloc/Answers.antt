@@ -14,7 +14,7 @@ returns-in-Ok-clause-does g c =
 
 pub returns-then-self-clause-moves : goal.returns-then-self-clause-moves
 returns-then-self-clause-moves g c =
-    reallocs _ _ (call c.args.old c.args.old_size c.args.align c.args.new_size) c.args.memory.now.bytes [] (Err c.add.result) ([], adds_none _, tt)
+    rw c.count.ensures.channel (reallocs _ _ (call c.args.old c.args.old_size c.args.align c.args.new_size) c.args.memory.now.bytes [] (Err c.count.result) ([], adds_none _, tt))
 
 pub returns-in-Ok-clause-moves : goal.returns-in-Ok-clause-moves
 returns-in-Ok-clause-moves g c =
@@ -25,4 +25,4 @@ returns-in-Ok-clause-moves g c =
 pub returns-in-Err-clause-moves : goal.returns-in-Err-clause-moves
 returns-in-Err-clause-moves g c =
     let asked = call c.args.old c.args.old_size c.args.align c.args.new_size in
-    reallocs _ _ asked c.args.memory.now.bytes c.block.new.memory.bytes (Err c.add.result) c.in-Err.ensures.gives
+    rw c.count-in-Err.ensures.channel (reallocs _ _ asked c.args.memory.now.bytes c.block.new.memory.bytes (Err c.count-in-Err.result) c.in-Err.ensures.gives)

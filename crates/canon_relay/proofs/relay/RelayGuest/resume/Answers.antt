@@ -6,4 +6,4 @@ pub returns-in-Ok-clause-moves : goal.returns-in-Ok-clause-moves
 returns-in-Ok-clause-moves g c = resumes _ _ c.args.words.now c.args.memory.now.bytes c.run.new.memory.bytes (Ok c.in-Ok.step) c.in-Ok.ensures.does
 
 pub returns-in-Err-clause-moves : goal.returns-in-Err-clause-moves
-returns-in-Err-clause-moves g c = resumes _ _ c.args.words.now c.args.memory.now.bytes c.run.new.memory.bytes (Err c.add.result) c.in-Err.ensures.does
+returns-in-Err-clause-moves g c = rw c.count.ensures.channel (resumes _ _ c.args.words.now c.args.memory.now.bytes c.run.new.memory.bytes (Err c.count.result) c.in-Err.ensures.does)
