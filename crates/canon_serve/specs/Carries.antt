@@ -1,11 +1,15 @@
 -- What a command does in a store whose code runs in an engine.
-use Rattle.std.specs.Prelude.{Bool, Err, IfSome, IsNone, List, None, Ok, OnErr, OnOk, Option, Result, Some, Vec, [], if◌then◌else◌, length, map, slice_get, true, ℕ, ⊤, ◌+◌, ◌*◌, ◌++◌, ◌<◌, ◌∷◌, ◌≡◌, ◌≤◌, ◌⊎◌}
+use Rattle.std.specs.Prelude.{Bool, Err, IfSome, IsNone, IsUtf8, List, None, Ok, OnErr, OnOk, Option, Result, Some, Vec, [], false, if◌then◌else◌, length, map, slice_get, true, ℕ, ⊤, ◌+◌, ◌*◌, ◌++◌, ◌<◌, ◌∷◌, ◌≡◌, ◌≤◌, ◌⊎◌}
 use Rattle.std.specs.declared.alloc.Global.{Global}
 use Rattle.canon_image_parts.specs.Read.{IsRead}
 use Rattle.canon_image_parts.specs.Written.{IsImaged}
 use Rattle.canon_image_parts.specs.declared.error.ImageError.{ImageError}
 use Rattle.canon_image_parts.specs.declared.error.ImageError.TheVariants as image
 use Rattle.canon_model.specs.Shape.{Shape}
+use Rattle.serde_json.specs.Data.{Data}
+use Rattle.serde_json.specs.Read.{read}
+use Rattle.canon_script.specs.Script.{Play, script_of}
+use Rattle.canon_ledger.specs.Ledger.{new_ledger}
 use Rattle.canon_types.specs.Table.{shape_of, types_of}
 use Rattle.canon_types.specs.declared.types.InterfaceType.TheVariants as ty
 use Rattle.canon_types.specs.declared.types.TypeFunc.{TypeFunc}
@@ -184,3 +188,37 @@ module _ {E H : Type 0} (log : E → Option (List Message)) where
     pub between : Option (List Message)
     pub served : ServesAll told between store last
     pub cut : Passes between told2 Any
+
+  -- ---- the store at first
+
+  -- The store of a component: its types and imports are those of the JSON, with no call done yet, no handle alive and no answer of `realloc` marked;
+  -- each call may use what the JSON says, and as much is watched as the caller asked for.
+  pub record Begins (watches_all : Bool) (json : List ℕ) (store : EngineStore E H) : Type 0 where
+    pub tree : Data
+    pub text : IsUtf8 json
+    pub value : read json ≡ Some tree
+    pub play : Play
+    pub script : script_of tree ≡ Some play
+    pub types : store.core.component.types.types ≡ play.types
+    pub imports : store.core.component.imports.items ≡ play.imports
+    pub fuel : store.core.fuel ≡ play.fuel
+    pub turns : store.turns ≡ play.turns
+    pub ledger : store.core.ledger ≡ new_ledger 256 play.handles 0
+    pub memory : play.memory ≤ length store.core.memory
+    pub untrapped : store.trapped ≡ false
+    pub marks : store.core.guest.marks ≡ []
+    pub watched : store.core.guest.whole ≡ watches_all
+
+  -- A component was heard, its store began, which was told, and then commands were served in it, the last perhaps in part.
+  pub record IsSession (told told2 : Option (List Message)) : Type 0 where
+    pub watches_all : Bool
+    pub json : Vec ℕ Global
+    pub heard : List Message
+    pub is_heard : IsHeard (command.Begin watches_all json) heard
+    pub store : EngineStore E H
+    pub begins : Begins watches_all json.items store
+    pub empty : Vec ℕ Global
+    pub is_empty : empty.items ≡ []
+    pub between : Option (List Message)
+    pub begun : Adds told between (heard ++ answer_messages (answer.Done empty))
+    pub served : ServesUntil between told2 store

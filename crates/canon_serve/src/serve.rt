@@ -2,7 +2,7 @@
 
 ghost use Rattle.std.specs.Prelude.{◌≡◌, IsNone, IsSome};
 ghost use Rattle.canon_relay.specs.Relay.{Any, Passes};
-ghost use Rattle.canon_serve.specs.Carries.{ServesOne, ServesUntil};
+ghost use Rattle.canon_serve.specs.Carries.{IsSession, ServesOne, ServesUntil};
 
 use crate::answer::{Answer, Senseless, tell_answer};
 use crate::begin::{NoStore, store_of};
@@ -34,7 +34,9 @@ pub fn serve<E: Channel + Drop, H: Channel + Drop, P: Channel>(
     engine: E,
     host: H,
     caller: &mut P,
-) -> End {
+) -> End
+    ensures session { result ≡ End.Asked → IsSession {E} {H} E.log (P.log caller.old) (P.log caller.new) }
+{
     let command = match hear_command(alloc, caller) {
         Ok(command) => command,
         Err(why) => return unheard(why),
