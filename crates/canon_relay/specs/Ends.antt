@@ -3,8 +3,8 @@ use Rattle.std.specs.Prelude.{List, ℕ, ◌≡◌}
 use Rattle.canon_memory.specs.declared.guest.Step.{Step}
 use Rattle.canon_memory.specs.declared.guest.Step.TheVariants as step
 use Rattle.canon_relay.specs.Wire.{reply_number, reply_words}
-use Rattle.canon_relay.specs.declared.relay.End.{End}
-use Rattle.canon_relay.specs.declared.relay.End.TheVariants as end
+use Rattle.canon_relay.specs.declared.exchange.End.{End}
+use Rattle.canon_relay.specs.declared.exchange.End.TheVariants as end
 
 -- the kind of its reply
 abbrev pub end_kind : End → ℕ

@@ -1,9 +1,7 @@
 -- What a guest behind a channel does, and what passes over the channel meanwhile.
 use Rattle.std.specs.Prelude.{Err, List, None, Ok, Option, Result, Some, [], false, length, replicate, suc, zero, ℕ, ◌++◌, ◌∷◌, ◌≡◌}
-use Rattle.std.specs.List.{All}
 use Rattle.std.proofs.Common.{ap, refl, subst, sym, ◌∙◌}
 use Rattle.std.proofs.lemmas.List.{append-nil, append_assoc}
-use Rattle.std.proofs.lemmas.List.Elements.{All-append}
 use Rattle.canon_memory.specs.Guest.{GuestIn, Mark, Seen}
 use Rattle.canon_memory.specs.declared.error.GuestFault.{GuestFault}
 use Rattle.canon_memory.specs.declared.error.GuestFault.TheVariants as fault
@@ -17,11 +15,10 @@ use Rattle.canon_relay.specs.declared.counts.Counts.{Counts}
 use Rattle.canon_relay.specs.declared.demand.Demand.{Demand}
 use Rattle.canon_relay.specs.declared.demand.Demand.TheVariants as demand
 
--- a guest behind a channel, with how many blocks it gave, how often it trapped and was out of memory, and what it told last
+-- a guest behind a channel, with how many blocks it gave, and how often it trapped and was out of memory
 pub record Relaying (C : Type 0) : Type 0 where
   pub channel : C
   pub counts : Counts
-  pub told : List ℕ
 
 -- the mark of an answer that nobody tested
 abbrev pub untested : Mark
@@ -42,16 +39,17 @@ abbrev pub IsLeft : ℕ → List ℕ → List ℕ → Type 0
 IsLeft zero ran after = after ≡ ran
 IsLeft (suc n) ran after = Unit {0}
 
--- A demand was told, memory was lent and given back, a reply of a kind was heard, and a memory that is to be longer by it was lent again.
-pub record Replied (kind : ℕ) (d : Demand) (words before after reply : List ℕ) (messages : List Message) : Type 0 where
+-- A demand of these bytes was told, memory was lent and given back, a reply of a kind was heard, and a memory that is to be longer by it was
+-- lent again.
+pub record Replied (kind : ℕ) (asked before after reply : List ℕ) (messages : List Message) : Type 0 where
   pub ran : List ℕ
-  pub passed : messages ≡ told (demand_bytes d (length before) words) ∷ lent before ran ∷ heard reply ∷ lent_again (reply_grown reply) ran after
+  pub passed : messages ≡ told asked ∷ lent before ran ∷ heard reply ∷ lent_again (reply_grown reply) ran after
   pub left : IsLeft (reply_grown reply) ran after
   pub kind_is : reply_kind reply ≡ kind
 
 -- what the reply to a demand is, and which messages it took
 abbrev pub Answers : ℕ → Demand → List ℕ → List ℕ → List ℕ → (List ℕ → Type 0) → List Message → Type 0
-Answers kind d words before after Says messages = (reply : List ℕ) × Replied kind d words before after reply messages × Says reply
+Answers kind d words before after Says messages = (reply : List ℕ) × Replied kind (demand_bytes d (length before) words) before after reply messages × Says reply
 
 -- an engine that was let go returned these words, or asks for an import with them
 abbrev pub Does : Demand → List ℕ → List ℕ → List ℕ → Step → List Message → Type 0
@@ -114,6 +112,10 @@ pub record Turn : Type 0 where
 abbrev pub IsTurn : Turn → Type 0
 IsTurn t = Tells t.events t.messages
 
+abbrev pub AreTurns : List Turn → Type 0
+AreTurns [] = Unit {0}
+AreTurns (t ∷ ts) = IsTurn t × AreTurns ts
+
 abbrev pub turn_events : List Turn → List Event
 turn_events [] = []
 turn_events (t ∷ ts) = t.events ++ turn_events ts
@@ -125,7 +127,7 @@ turn_messages (t ∷ ts) = t.messages ++ turn_messages ts
 -- Call by call, the events are those that the messages tell, and nothing else passed.
 pub record Converses (log log2 : Option (List Message)) (events : List Event) : Type 0 where
   pub turns : List Turn
-  pub are : All IsTurn turns
+  pub are : AreTurns turns
   pub events_are : events ≡ turn_events turns
   pub passed : Adds log log2 (turn_messages turns)
 
@@ -142,6 +144,10 @@ pub adds_both : (a b c : Option (List Message)) (xs ys : List Message) → Adds 
 adds_both None b c xs ys f g = rw f at g
 adds_both (Some ms) b c xs ys f g = (rw f at g) ∙ ap Some (append_assoc ms xs ys)
 
+turns_append : (ts us : List Turn) → AreTurns ts → AreTurns us → AreTurns (ts ++ us)
+turns_append [] us f g = g
+turns_append (t ∷ ts) us f g = (f.0, turns_append ts us f.1 g)
+
 events_append : (ts us : List Turn) → turn_events (ts ++ us) ≡ turn_events ts ++ turn_events us
 events_append [] us = refl
 events_append (t ∷ ts) us = ap (λ es. t.events ++ es) (events_append ts us) ∙ sym (append_assoc t.events (turn_events ts) (turn_events us))
@@ -156,7 +162,7 @@ says_nothing log = record { turns = []; are = tt; events_are = refl; passed = ad
 pub says_both : (a b c : Option (List Message)) (xs ys : List Event) → Converses a b xs → Converses b c ys → Converses a c (xs ++ ys)
 says_both a b c xs ys f g = record {
   turns = f.turns ++ g.turns;
-  are = All-append IsTurn f.turns g.turns f.are g.are;
+  are = turns_append f.turns g.turns f.are g.are;
   events_are = ap (λ es. es ++ ys) f.events_are ∙ ap (λ es. turn_events f.turns ++ es) g.events_are ∙ sym (events_append f.turns g.turns);
   passed = subst (Adds a c) (sym (messages_append f.turns g.turns)) (adds_both a b c (turn_messages f.turns) (turn_messages g.turns) f.passed g.passed);
 }

@@ -4,6 +4,7 @@
 mod channel;
 mod counts;
 mod demand;
+mod exchange;
 mod memory_channel;
 mod relay;
 mod reply;

@@ -1,17 +1,17 @@
 //! The guest behind a channel. It may lie in all that it answers.
 
-ghost use Rattle.std.specs.Prelude.{◌≡◌, ◌≤◌, ◌<◌, ◌^◌, ◌++◌, ◌∷◌, [], IfOk, IfSome, IsNone, OnErr, OnOk, length, replicate};
+ghost use Rattle.std.specs.Prelude.{◌≡◌, ◌≤◌, ◌<◌, ◌^◌, IfOk, OnErr, length};
 ghost use Rattle.std.proofs.Common.{refl};
-ghost use Rattle.canon_relay.specs.Channel.{Adds, heard, lent, told};
 ghost use Rattle.canon_relay.specs.Ends.{IsStepOf, end_kind};
-ghost use Rattle.canon_relay.specs.Relay.{Any, Does, Finishes, Gives, IsLeft, OnReply, Passes, RelayMoves, Relaying, Replied, lent_again, says_both, says_nothing};
-ghost use Rattle.canon_relay.specs.Wire.{reply_count, reply_kind, reply_number, reply_words};
+ghost use Rattle.canon_relay.specs.Relay.{Any, Does, Finishes, Gives, OnReply, Passes, RelayMoves, Relaying, Replied, says_both, says_nothing};
+ghost use Rattle.canon_relay.specs.Wire.{demand_bytes, reply_count, reply_number, reply_words};
 
 use crate::counts::Counts;
-use crate::reply::{REPLY_BYTES, count_of, grown_of, kind_of, number_of, words_of};
-use crate::wire::{MAX_WORDS, put_demand};
+use crate::exchange::{End, exchange};
+use crate::reply::{count_of, number_of, words_of};
+use crate::wire::{MAX_WORDS, bytes_of};
 use crate::{Channel, Demand};
-use canon_memory::{Guest, GuestFault, Memory, MemoryError, Step, ValRaw, Words};
+use canon_memory::{Guest, GuestFault, Memory, Step, ValRaw, Words};
 use std::alloc::Global;
 use std::marker::Model;
 
@@ -21,8 +21,6 @@ pub struct Relay<C> {
     alloc: Global,
     channel: C,
     counts: Counts,
-    // what is told, kept for its room
-    told: Vec<u8>,
 }
 
 impl<C> Model for Relay<C> {
@@ -30,22 +28,16 @@ impl<C> Model for Relay<C> {
 
     ghost Value = { Relaying C };
 
-    ghost view = { λ r. record { channel = r.channel; counts = r.counts; told = r.told.items } };
-}
-
-/// How the engine ended a demand that it didn't trap at.
-#[derive(Clone, Copy, Debug, PartialEq, Eq)]
-pub(crate) enum End {
-    Return,
-    Ask,
+    ghost view = { λ r. record { channel = r.channel; counts = r.counts } };
 }
 
 impl<C> Relay<C> {
-    ghost use Rattle.std.specs.Prelude.{◌≡◌, ◌+◌, ◌<◌, ◌^◌, []};
+    ghost use Rattle.std.specs.Prelude.{◌≡◌, ◌+◌, ◌<◌, ◌≤◌, ◌^◌};
+    ghost use Rattle.canon_memory.specs.Counts.{Rose};
 
     /// A guest at the other end of this channel.
     pub fn new(alloc: Global, channel: C) -> Self
-        ensures { result ≡ record { channel = channel; counts = record { blocks = 0; traps = 0; shortages = 0 }; told = [] } }
+        ensures { result ≡ record { channel = channel; counts = record { blocks = 0; traps = 0; shortages = 0 } } }
     {
         Relay {
             alloc,
@@ -55,8 +47,20 @@ impl<C> Relay<C> {
                 traps: 0,
                 shortages: 0,
             },
-            told: Vec::new(alloc),
         }
+    }
+
+    /// Counts a fault.
+    fn count(&mut self, fault: GuestFault) -> GuestFault
+        ensures same { result ≡ fault }
+        ensures channel { self.new.channel ≡ self.old.channel }
+        ensures blocks { self.new.counts.blocks ≡ self.old.counts.blocks }
+        ensures traps { self.old.counts.traps ≤ self.new.counts.traps }
+        ensures shortages { self.old.counts.shortages ≤ self.new.counts.shortages }
+        ensures trap { fault ≡ GuestFault.Trap → Rose self.old.counts.traps self.new.counts.traps }
+        ensures shortage { fault ≡ GuestFault.OutOfMemory → Rose self.old.counts.shortages self.new.counts.shortages }
+    {
+        self.counts.add(fault)
     }
 
     /// Counts a block.
@@ -85,7 +89,7 @@ impl<C: Channel> Relay<C> {
         self.finish(memory, Demand::Instantiate, &[])
     }
 
-    /// Has the engine carry out a demand, and tests how it ended.
+    /// Has the engine carry out a demand.
     fn ask(
         &mut self,
         memory: &mut Memory,
@@ -95,58 +99,13 @@ impl<C: Channel> Relay<C> {
         ensures longer { length memory.old.bytes ≤ length memory.new.bytes }
         ensures width { memory.new.wide ≡ memory.old.wide }
         ensures counts { self.new.counts ≡ self.old.counts }
-        ensures replied { IfOk result (λ r. Passes (C.log self.old.channel) (C.log self.new.channel) (Replied (end_kind r.0) demand words.now memory.old.bytes memory.new.bytes r.1)) }
+        ensures replied { IfOk result (λ r. Passes (C.log self.old.channel) (C.log self.new.channel) (Replied (end_kind r.0) (demand_bytes demand (length memory.old.bytes) words.now) memory.old.bytes memory.new.bytes r.1)) }
         ensures passed { OnErr result (Passes (C.log self.old.channel) (C.log self.new.channel) Any) }
     {
-        self.told.clear();
-        if put_demand(&mut self.told, demand, memory.len(), words).is_err() {
+        let Ok(asked) = bytes_of(self.alloc, demand, memory.len(), words) else {
             return Err(GuestFault::OutOfMemory);
-        }
-        let Some(reply) = self.pass(memory) else {
-            return Err(GuestFault::Trap);
         };
-        self.lengthen(memory, grown_of(&reply))?;
-        let end = end_of(&reply)?;
-        Ok((end, reply))
-    }
-
-    /// Tells the engine what was prepared, lends it memory, and hears its reply.
-    fn pass(&mut self, memory: &mut Memory) -> Option<[u8; 168]>
-        ensures length { length memory.new.bytes ≡ length memory.old.bytes }
-        ensures width { memory.new.wide ≡ memory.old.wide }
-        ensures counts { self.new.counts ≡ self.old.counts }
-        ensures replied { IfSome result (λ reply. Adds (C.log self.old.channel) (C.log self.new.channel) (told self.old.told ∷ lent memory.old.bytes memory.new.bytes ∷ heard reply ∷ [])) }
-        ensures passed { IsNone result → Passes (C.log self.old.channel) (C.log self.new.channel) Any }
-    {
-        let mut reply = [0u8; REPLY_BYTES];
-        if !self.channel.tell(&self.told) {
-            return None;
-        }
-        if !self.channel.lend(memory) {
-            return None;
-        }
-        if !self.channel.hear(&mut reply) {
-            return None;
-        }
-        Some(reply)
-    }
-
-    /// Makes memory longer by so many zeros, and lends it again, where there are any.
-    fn lengthen(&mut self, memory: &mut Memory, by: u64) -> Result<(), GuestFault>
-        ensures longer { length memory.old.bytes ≤ length memory.new.bytes }
-        ensures width { memory.new.wide ≡ memory.old.wide }
-        ensures counts { self.new.counts ≡ self.old.counts }
-        ensures lent { OnOk result (Adds (C.log self.old.channel) (C.log self.new.channel) (lent_again by memory.old.bytes memory.new.bytes) × IsLeft by memory.old.bytes memory.new.bytes) }
-        ensures passed { OnErr result (Passes (C.log self.old.channel) (C.log self.new.channel) Any) }
-    {
-        if by == 0 {
-            return Ok(());
-        }
-        grow(memory, by)?;
-        if !self.channel.lend(memory) {
-            return Err(GuestFault::Trap);
-        }
-        Ok(())
+        exchange(&mut self.channel, &asked, memory)
     }
 
     /// Has the engine run until it returns or asks for an import.
@@ -234,31 +193,6 @@ fn block_of(end: End, reply: &[u8]) -> Result<u64, GuestFault>
     Ok(at)
 }
 
-/// Makes memory longer by zeros.
-fn grow(memory: &mut Memory, by: u64) -> Result<(), GuestFault>
-    ensures longer { OnOk result (memory.new ≡ record memory.old { bytes = memory.old.bytes ++ replicate by 0 }) }
-    ensures same { OnErr result (memory.new ≡ memory.old) }
-{
-    match memory.grow(by) {
-        Ok(()) => Ok(()),
-        Err(MemoryError::TooLarge) => Err(GuestFault::Trap),
-        Err(MemoryError::OutOfMemory) => Err(GuestFault::OutOfMemory),
-    }
-}
-
-/// How the engine ended, unless it trapped.
-fn end_of(reply: &[u8]) -> Result<End, GuestFault>
-    requires { length reply.now ≡ 168 }
-    ensures { IfOk result (λ end. reply_kind reply.now ≡ end_kind end) }
-{
-    match kind_of(reply) {
-        0 => Ok(End::Return),
-        1 => Ok(End::Ask),
-        3 => Err(GuestFault::OutOfMemory),
-        _ => Err(GuestFault::Trap),
-    }
-}
-
 /// The words of a reply, which traps where it says that it has more than there is room for.
 fn words_in(alloc: Global, reply: &[u8]) -> Result<Words, GuestFault>
     requires { length reply.now ≡ 168 }
@@ -273,7 +207,6 @@ fn words_in(alloc: Global, reply: &[u8]) -> Result<Words, GuestFault>
     }
 }
 
-#[tactic(auto, using(crate::proofs::Moves::starts, crate::proofs::Moves::resumes, crate::proofs::Moves::reallocs, crate::proofs::Moves::posts, crate::proofs::Moves::destroys))]
 impl<C: Channel> Guest for Relay<C> {
     ghost use Rattle.canon_relay.specs.Relay.{RelayMoves, relay_seen, says_both, says_nothing};
 
@@ -295,14 +228,14 @@ impl<C: Channel> Guest for Relay<C> {
     ) -> Result<Step, GuestFault> {
         match self.run(memory, Demand::Start { func }, words) {
             Ok(step) => Ok(step),
-            Err(fault) => Err(self.counts.add(fault)),
+            Err(fault) => Err(self.count(fault)),
         }
     }
 
     fn resume(&mut self, memory: &mut Memory, words: &[ValRaw]) -> Result<Step, GuestFault> {
         match self.run(memory, Demand::Resume, words) {
             Ok(step) => Ok(step),
-            Err(fault) => Err(self.counts.add(fault)),
+            Err(fault) => Err(self.count(fault)),
         }
     }
 
@@ -315,7 +248,7 @@ impl<C: Channel> Guest for Relay<C> {
         new_size: u64,
     ) -> Result<u64, GuestFault> {
         if self.counts.blocks == u64::MAX {
-            return Err(self.counts.add(GuestFault::Trap));
+            return Err(self.count(GuestFault::Trap));
         }
         let demand = Demand::Realloc {
             old,
@@ -328,7 +261,7 @@ impl<C: Channel> Guest for Relay<C> {
                 self.count_block();
                 Ok(at)
             }
-            Err(fault) => Err(self.counts.add(fault)),
+            Err(fault) => Err(self.count(fault)),
         }
     }
 
@@ -340,14 +273,14 @@ impl<C: Channel> Guest for Relay<C> {
     ) -> Result<(), GuestFault> {
         match self.finish(memory, Demand::PostReturn { func }, words) {
             Ok(()) => Ok(()),
-            Err(fault) => Err(self.counts.add(fault)),
+            Err(fault) => Err(self.count(fault)),
         }
     }
 
     fn dtor(&mut self, memory: &mut Memory, func: u32, rep: u32) -> Result<(), GuestFault> {
         match self.finish(memory, Demand::Dtor { func, rep }, &[]) {
             Ok(()) => Ok(()),
-            Err(fault) => Err(self.counts.add(fault)),
+            Err(fault) => Err(self.count(fault)),
         }
     }
 }

@@ -1,11 +1,11 @@
 //! How a demand and a reply are spelled: as numbers of 8 bytes, the lowest byte first. The page `docs/ENGINE.md` has them as tables.
 
-ghost use Rattle.std.specs.Prelude.{◌≡◌, ◌++◌, ◌∷◌, ◌+◌, ◌*◌, ◌≤◌, [], OnErr, OnOk, length};
+ghost use Rattle.std.specs.Prelude.{◌≡◌, ◌++◌, ◌∷◌, ◌+◌, ◌*◌, ◌≤◌, IfOk, OnOk, length};
 ghost use Rattle.canon_relay.specs.Wire as spec;
 
 use crate::Demand;
 use canon_memory::ValRaw;
-use std::alloc::AllocError;
+use std::alloc::{AllocError, Global};
 
 /// The most words that a reply has: 16 that are passed in a row, and a pointer to the results.
 pub const MAX_WORDS: u64 = 17;
@@ -38,19 +38,21 @@ fn put_words(to: &mut Vec<u8>, words: &[ValRaw]) -> Result<(), AllocError>
     Ok(())
 }
 
-/// Adds a demand with its words, in a memory of `len` bytes.
-pub(crate) fn put_demand(
-    to: &mut Vec<u8>,
+/// A demand with its words, in a memory of `len` bytes.
+pub(crate) fn bytes_of(
+    alloc: Global,
     demand: Demand,
     len: u64,
     words: &[ValRaw],
-) -> Result<(), AllocError>
-    ensures { OnOk result (to.new.items ≡ to.old.items ++ spec.demand_bytes demand len words.now) }
+) -> Result<Vec<u8>, AllocError>
+    ensures { IfOk result (λ bytes. bytes.items ≡ spec.demand_bytes demand len words.now) }
 {
-    put_numbers(to, &head_of(demand))?;
-    put_number(to, len)?;
-    put_number(to, words.len() as u64)?;
-    put_words(to, words)
+    let mut bytes = Vec::new(alloc);
+    put_numbers(&mut bytes, &head_of(demand))?;
+    put_number(&mut bytes, len)?;
+    put_number(&mut bytes, words.len() as u64)?;
+    put_words(&mut bytes, words)?;
+    Ok(bytes)
 }
 
 /// The number of what is demanded, and its operands.

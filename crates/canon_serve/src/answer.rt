@@ -1,5 +1,10 @@
 //! What came of a command, and how it is told.
 
+ghost use Rattle.std.specs.Prelude.{◌≡◌, IsFalse, IsTrue};
+ghost use Rattle.canon_relay.specs.Channel.{Adds};
+ghost use Rattle.canon_relay.specs.Relay.{Any, Passes};
+ghost use Rattle.canon_serve.specs.Messages.{answer_bytes, answer_messages, answer_numbers, senseless_numbers};
+
 use crate::errors::error_numbers;
 use canon_func::Error;
 use canon_relay::{Channel, put_numbers};
@@ -32,7 +37,9 @@ pub enum Answer {
 }
 
 /// The numbers of an answer but the last.
-fn numbers_of(answer: &Answer) -> [u64; 7] {
+fn numbers_of(answer: &Answer) -> [u64; 7]
+    ensures { result ≡ answer_numbers answer.now }
+{
     match answer {
         Answer::Done(_) => [7, 0, 0, 0, 0, 0, 0],
         Answer::Refused(error) => {
@@ -46,7 +53,9 @@ fn numbers_of(answer: &Answer) -> [u64; 7] {
     }
 }
 
-fn senseless_numbers(why: Senseless) -> [u64; 2] {
+fn senseless_numbers(why: Senseless) -> [u64; 2]
+    ensures { result ≡ senseless_numbers why }
+{
     match why {
         Senseless::NoCommand => [1, 0],
         Senseless::NoExport => [2, 0],
@@ -57,7 +66,9 @@ fn senseless_numbers(why: Senseless) -> [u64; 2] {
 }
 
 /// The bytes of an answer.
-fn bytes_of(answer: &Answer) -> &[u8] {
+fn bytes_of(answer: &Answer) -> &[u8]
+    ensures { result.now ≡ answer_bytes answer.now }
+{
     match answer {
         Answer::Done(bytes) => bytes,
         _ => &[],
@@ -65,7 +76,10 @@ fn bytes_of(answer: &Answer) -> &[u8] {
 }
 
 /// Tells the caller what came of a command. Answers whether it was told whole.
-pub(crate) fn tell_answer<P: Channel>(alloc: Global, caller: &mut P, answer: &Answer) -> bool {
+pub(crate) fn tell_answer<P: Channel>(alloc: Global, caller: &mut P, answer: &Answer) -> bool
+    ensures told { IsTrue result → Adds (P.log caller.old) (P.log caller.new) (answer_messages answer.now) }
+    ensures passed { IsFalse result → Passes (P.log caller.old) (P.log caller.new) Any }
+{
     let bytes = bytes_of(answer);
     let mut head = Vec::new(alloc);
     if put_numbers(&mut head, &numbers_of(answer)).is_err()

@@ -3,7 +3,7 @@
 ghost use Rattle.canon_types.specs.Table.{HasTuple};
 
 use crate::command::{Unheard, hear_bytes};
-use crate::images::{image_values, read_values};
+use crate::images::{image_copies, read_values};
 use canon_host::HostStop;
 use canon_image::ImageError;
 use canon_relay::{Channel, number_at, put_numbers};
@@ -26,7 +26,7 @@ pub(crate) fn ask<H: Channel>(
     {
         return Err(HostStop::Refused);
     }
-    let bytes = match image_values(alloc, types, ty.params, params) {
+    let bytes = match image_copies(alloc, types, ty.params, params) {
         Ok(bytes) => bytes,
         Err(ImageError::OutOfMemory) => return Err(HostStop::OutOfMemory),
         Err(_) => return Err(HostStop::Refused),

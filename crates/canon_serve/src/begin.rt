@@ -1,5 +1,8 @@
 //! The store of a component.
 
+ghost use Rattle.std.specs.Prelude.{◌≡◌, [], IfOk};
+ghost use Rattle.canon_serve.specs.Carries.{Begins};
+
 use crate::imports::ChannelImports;
 use crate::session::EngineStore;
 use canon_func::Store;
@@ -34,7 +37,9 @@ pub(crate) fn store_of<E: Channel + Drop, H: Channel + Drop>(
     host: H,
     watches_all: bool,
     json: &[u8],
-) -> Result<EngineStore<E, H>, NoStore> {
+) -> Result<EngineStore<E, H>, NoStore>
+    ensures { IfOk result (λ store. Begins E.log watches_all json.now store) }
+{
     let Ok(tree) = Value::from_slice(alloc, json) else {
         return Err(NoStore::NoComponent);
     };
@@ -72,7 +77,11 @@ pub(crate) fn store_of<E: Channel + Drop, H: Channel + Drop>(
 }
 
 /// A guest whose answers of `realloc` are tested.
-fn watched<E: Channel + Drop>(alloc: Global, relay: Relay<E>, watches_all: bool) -> Watched<Relay<E>> {
+fn watched<E: Channel + Drop>(
+    alloc: Global,
+    relay: Relay<E>,
+    watches_all: bool,
+) -> Watched<Relay<E>> {
     if watches_all {
         Watched::new(alloc, relay)
     } else {
@@ -87,21 +96,26 @@ fn component_of(
     encoding: StringEncoding,
     posts: &[bool],
     imports: Vec<Import>,
-) -> Result<Component, NoStore> {
+) -> Result<Component, NoStore>
+    ensures types { IfOk result (λ c. c.types.types ≡ types) }
+    ensures imports { IfOk result (λ c. c.imports ≡ imports) }
+{
     let mut options = Vec::new(alloc);
     let mut exports = Vec::new(alloc);
     if options.push(options_of(encoding, false, None)).is_err() {
         return Err(NoStore::OutOfMemory);
     }
     for (i, has_post) in posts.iter().enumerate() {
-        let i = i as u32;
+        let Ok(i) = u32::try_from(i) else {
+            return Err(NoStore::NoComponent);
+        };
         let ty = TypeFuncIndex::from_u32(i);
         let is_async = types.contains_func(ty) && types.func(ty).async_;
         let post_return = if *has_post { Some(i) } else { None };
         let export = Export {
             ty,
             func: i,
-            options: OptionsIndex::from_u32(i + 1),
+            options: OptionsIndex::from_u32(i.saturating_add(1)),
         };
         if options
             .push(options_of(encoding, is_async, post_return))

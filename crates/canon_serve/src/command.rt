@@ -1,5 +1,10 @@
 //! What the caller asks for, and how it is heard.
 
+ghost use Rattle.std.specs.Prelude.{◌≡◌, ◌≤◌, ◌^◌, ◌∷◌, [], IfOk, OnErr, length};
+ghost use Rattle.canon_relay.specs.Channel.{Adds};
+ghost use Rattle.canon_relay.specs.Relay.{Any, Passes};
+ghost use Rattle.canon_serve.specs.Messages.{IsCommand, IsHeard, heard_bytes};
+
 use canon_relay::{Channel, number_at};
 use std::alloc::Global;
 
@@ -42,7 +47,9 @@ pub(crate) fn hear_command<P: Channel>(alloc: Global, caller: &mut P) -> Result<
     Ok(command_of(number_at(&head, 0), operand, bytes))
 }
 
-fn command_of(what: u64, operand: u64, bytes: Vec<u8>) -> Command {
+fn command_of(what: u64, operand: u64, bytes: Vec<u8>) -> Command
+    ensures { IsCommand what operand bytes.items result }
+{
     match what {
         0 => Command::End,
         1 => Command::Begin {
@@ -64,7 +71,10 @@ pub(crate) fn hear_bytes<P: Channel>(
     alloc: Global,
     caller: &mut P,
     len: u64,
-) -> Result<Vec<u8>, Unheard> {
+) -> Result<Vec<u8>, Unheard>
+    ensures heard { IfOk result (λ bytes. Adds (P.log caller.old) (P.log caller.new) (heard_bytes bytes.items) × (length bytes.items ≡ len)) }
+    ensures passed { OnErr result (Passes (P.log caller.old) (P.log caller.new) Any) }
+{
     if len > MAX_BYTES {
         return Err(Unheard::Broken);
     }

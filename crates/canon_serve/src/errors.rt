@@ -1,11 +1,16 @@
 //! The errors of a call, as numbers: which it is, of which import, what kind of place it has, that place, and what more it carries.
 
+ghost use Rattle.std.specs.Prelude.{◌≡◌};
+ghost use Rattle.canon_serve.specs.Errors as spec;
+
 use canon_func::Error;
 use canon_ledger::ResourceFault;
 use canon_value::{At, Fault};
 
 /// The numbers of an error.
-pub(crate) fn error_numbers(error: Error) -> [u64; 5] {
+pub(crate) fn error_numbers(error: Error) -> [u64; 5]
+    ensures { result ≡ spec.error_numbers error }
+{
     match error {
         Error::WrongCount => [1, 0, 0, 0, 0],
         Error::AsyncLifted => [2, 0, 0, 0, 0],
@@ -32,7 +37,9 @@ pub(crate) fn error_numbers(error: Error) -> [u64; 5] {
 }
 
 /// Which fault it is, what kind of place it has, that place, and what more it carries.
-fn fault_numbers(fault: Fault) -> [u64; 4] {
+fn fault_numbers(fault: Fault) -> [u64; 4]
+    ensures { result ≡ spec.fault_numbers fault }
+{
     match fault {
         Fault::TypeMismatch(place) => [11, 1, place, 0],
         Fault::FieldName(place) => [12, 1, place, 0],
@@ -58,7 +65,9 @@ fn fault_numbers(fault: Fault) -> [u64; 4] {
     }
 }
 
-fn at_numbers(code: u64, at: At, more: u64) -> [u64; 4] {
+fn at_numbers(code: u64, at: At, more: u64) -> [u64; 4]
+    ensures { result ≡ spec.at_numbers code at more }
+{
     match at {
         At::Word(index) => [code, 2, u64::from(index), more],
         At::Address(address) => [code, 3, address, more],
@@ -66,7 +75,9 @@ fn at_numbers(code: u64, at: At, more: u64) -> [u64; 4] {
 }
 
 /// A refusal of the ledger, with the number of the handle that it names.
-fn resource_numbers(fault: ResourceFault) -> [u64; 4] {
+fn resource_numbers(fault: ResourceFault) -> [u64; 4]
+    ensures { result ≡ spec.resource_numbers fault }
+{
     match fault {
         ResourceFault::UnknownHandle(index) => [40, 0, 0, u64::from(index)],
         ResourceFault::NotAResource(index) => [41, 0, 0, u64::from(index)],

@@ -1,7 +1,9 @@
 //! Values that cross as images: the parameters of a function in a row, and its results.
 
-ghost use Rattle.std.specs.Prelude.{IfOk};
-ghost use Rattle.canon_types.specs.Table.{HasTuple};
+ghost use Rattle.std.specs.Prelude.{◌≡◌, IfOk, Ok};
+ghost use Rattle.canon_types.specs.Table.{HasTuple, shape_of};
+ghost use Rattle.canon_image_parts.specs.Written.{IsImaged};
+ghost use Rattle.canon_serve.specs.Images.{IsReadRow};
 
 use canon_image::{ImageError, image, read_image};
 use canon_literals::copies_of;
@@ -17,6 +19,7 @@ pub(crate) fn read_values(
     bytes: &[u8],
 ) -> Result<Vec<Val>, ImageError>
     requires { HasTuple types.now tuple }
+    ensures { IsReadRow (shape_of types.now (InterfaceType.Tuple tuple)) bytes.now result }
 {
     match read_image(alloc, types, &InterfaceType::Tuple(tuple), bytes) {
         Ok(Val::Tuple(values)) => Ok(values),
@@ -26,8 +29,8 @@ pub(crate) fn read_values(
     }
 }
 
-/// The images of values in a row.
-pub(crate) fn image_values(
+/// The images of copies of values in a row.
+pub(crate) fn image_copies(
     alloc: Global,
     types: &ComponentTypes,
     tuple: TypeTupleIndex,
@@ -38,10 +41,23 @@ pub(crate) fn image_values(
     let Ok(copies) = copies_of(alloc, values) else {
         return Err(ImageError::OutOfMemory);
     };
+    image_values(alloc, types, tuple, copies)
+}
+
+/// The images of values in a row.
+pub(crate) fn image_values(
+    alloc: Global,
+    types: &ComponentTypes,
+    tuple: TypeTupleIndex,
+    values: Vec<Val>,
+) -> Result<Vec<u8>, ImageError>
+    requires { HasTuple types.now tuple }
+    ensures { IfOk result (λ bytes. IsImaged (shape_of types.now (InterfaceType.Tuple tuple)) (Val.Tuple values) (Ok bytes)) }
+{
     image(
         alloc,
         types,
         &InterfaceType::Tuple(tuple),
-        &Val::Tuple(copies),
+        &Val::Tuple(values),
     )
 }

@@ -65,8 +65,13 @@ fn serve_by<
 }
 
 impl<H: Channel, G: Guest> Imports<H, G> for ChannelImports {
+    ghost use Rattle.std.specs.Prelude.{◌≡◌, ◌≤◌, IfSome, None, slice_get};
+    ghost use Rattle.canon_types.specs.Table.{HasFunc};
+    ghost use Rattle.canon_context.specs.Component.{HasOptions};
+    ghost use Rattle.canon_context.specs.Core.{component_types};
+    ghost use Rattle.canon_host.specs.Asked.{HasRoomFor};
+    ghost use Rattle.canon_host.specs.Imports.{ServesImport};
     ghost use Rattle.canon_serve.specs.Imports.{AnyAnswer};
-    ghost use Rattle.std.specs.Prelude.{None};
 
     type Plan = ();
 
@@ -86,7 +91,19 @@ impl<H: Channel, G: Guest> Imports<H, G> for ChannelImports {
         n: u32,
         cx: HostCx<'_, H, G>,
         storage: &mut [ValRaw],
-    ) -> Result<(), HostError> {
+    ) -> Result<(), HostError>
+        requires ready { Unit {0} }
+        requires func { HasFunc (component_types cx.core.now) cx.ty }
+        requires options { HasOptions cx.core.now.component cx.options }
+        requires room { HasRoomFor (component_types cx.core.now) cx.ty storage.old }
+        ensures still_ready { Unit {0} }
+        ensures plan { tt {0} ≡ tt {0} }
+        ensures refusals { self.old.refusals ≤ self.new.refusals }
+        ensures serves { IfSome (slice_get (component_types cx.entry.core.now).funcs cx.entry.ty)
+            (λ t. ServesImport AnyAnswer None n G.seen G.moves (record { ty = cx.entry.ty; func = t; options = cx.entry.options }) None
+            self.old.refusals self.new.refusals cx.entry.core.now storage.old result cx.exit.0.now storage.new) }
+        ensures same { cx.exit.0.now ≡ record cx.entry.core.now { state = cx.exit.0.now.state; guest = cx.exit.0.now.guest; memory = cx.exit.0.now.memory; ledger = cx.exit.0.now.ledger } }
+    {
         let func = HostFunc::func_new(
             move |view: &mut HostView<
                 '_,

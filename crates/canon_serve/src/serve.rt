@@ -1,5 +1,9 @@
 //! Hears commands and tells what came of them, until the session ends.
 
+ghost use Rattle.std.specs.Prelude.{◌≡◌, IsNone, IsSome};
+ghost use Rattle.canon_relay.specs.Relay.{Any, Passes};
+ghost use Rattle.canon_serve.specs.Carries.{IsSession, ServesOne, ServesUntil};
+
 use crate::answer::{Answer, Senseless, tell_answer};
 use crate::begin::{NoStore, store_of};
 use crate::command::{Command, Unheard, hear_command};
@@ -30,7 +34,9 @@ pub fn serve<E: Channel + Drop, H: Channel + Drop, P: Channel>(
     engine: E,
     host: H,
     caller: &mut P,
-) -> End {
+) -> End
+    ensures session { result ≡ End.Asked → IsSession {E} {H} E.log (P.log caller.old) (P.log caller.new) }
+{
     let command = match hear_command(alloc, caller) {
         Ok(command) => command,
         Err(why) => return unheard(why),
@@ -80,23 +86,43 @@ fn no_store<P: Channel>(alloc: Global, caller: &mut P, why: NoStore) -> End {
 }
 
 /// Carries out commands until the caller ends the session.
-fn serve_store<E: Channel + Drop, H: Channel + Drop, P: Channel>(
+fn serve_store<E: Channel, H: Channel, P: Channel>(
     alloc: Global,
     store: &mut EngineStore<E, H>,
     caller: &mut P,
-) -> End {
+) -> End
+    ensures { ServesUntil E.log (P.log caller.old) (P.log caller.new) store.old }
+{
     for _ in 0..u64::MAX {
-        let command = match hear_command(alloc, caller) {
-            Ok(Command::End) => return End::Asked,
-            Ok(command) => command,
-            Err(why) => return unheard(why),
-        };
-        let Ok(answer) = carry_out(alloc, store, &command) else {
-            return End::OutOfMemory;
-        };
-        if !tell_answer(alloc, caller, &answer) {
-            return End::Broken;
+        if let Some(end) = serve_next(alloc, store, caller) {
+            return end;
         }
     }
     End::Asked
+}
+
+/// Carries out one command. Answers how the session ended, where it did.
+fn serve_next<E: Channel, H: Channel, P: Channel>(
+    alloc: Global,
+    store: &mut EngineStore<E, H>,
+    caller: &mut P,
+) -> Option<End>
+    ensures one { IsNone result → ServesOne E.log (P.log caller.old) (P.log caller.new) store.old store.new }
+    ensures cut { IsSome result → Passes (P.log caller.old) (P.log caller.new) Any }
+{
+    let command = match hear_command(alloc, caller) {
+        Ok(command) => command,
+        Err(why) => return Some(unheard(why)),
+    };
+    if matches!(command, Command::End) {
+        return Some(End::Asked);
+    }
+    let Ok(answer) = carry_out(alloc, store, &command) else {
+        return Some(End::OutOfMemory);
+    };
+    if tell_answer(alloc, caller, &answer) {
+        None
+    } else {
+        Some(End::Broken)
+    }
 }
