@@ -2,7 +2,8 @@
  * later and C++. Values cross as canonical images (docs/IMAGES.md); docs/ENGINE.md shows a whole program.
  *
  * What an engine answers isn't trusted: each lie is a refused call. What a caller and an engine owe beyond that stands below, with each item,
- * and in bindings/README.md. */
+ * and in bindings/README.md. The program is linked with engine/canon.c and with libcanon_c.a, in which `read` and `write` were renamed to
+ * canon_channel_read and canon_channel_write. */
 #ifndef CANON_H
 #define CANON_H
 

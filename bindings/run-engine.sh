@@ -40,7 +40,7 @@ build() {
     mkdir -p "$to"
     flags="-O2 -g -DWASM_RT_MEMCHECK_SIGNAL_HANDLER=0 -I$made $2"
     strict="-std=c11 -Wall -Wextra -Werror"
-    for it in canon native demo session hostile time; do
+    for it in canon native first demo session hostile time; do
         gcc $strict $flags -c $it.c -o "$to/$it.o"
     done
     gcc $strict $flags -Dcanon_serve=piped_serve -c canon.c -o "$to/canon_piped.o"
@@ -48,6 +48,7 @@ build() {
     gcc -w $flags -c "$made/guest_wasm.c" -o "$to/guest_wasm.o"
     g++ -std=c++17 -Wall -Wextra $flags -c interp.cc -o "$to/interp.o"
     native="$to/native.o $to/guest_wasm.o"
+    gcc $flags -o "$to/first" "$to/first.o" "$to/canon.o" $native "$made/libcanon_channel.a" "$heap"
     gcc $flags -o "$to/demo" "$to/demo.o" "$to/canon.o" $native "$made/libcanon_channel.a" "$heap"
     gcc $flags -o "$to/session" "$to/session.o" "$to/canon.o" $native "$made/libcanon_channel.a" "$heap"
     gcc $flags -o "$to/hostile_run" "$to/hostile.o" "$to/canon.o" "$made/libhostile.a" "$heap"
@@ -66,6 +67,7 @@ says() {
 }
 
 programs() {
+    says "$1, a first call" first.expected "$made/$1/first"
     says "$1, native" expected "$made/$1/demo"
     says "$1, wabt's interpreter" expected "$made/$1/demo_interp"
     says "$1, the library over descriptors, in a thread" expected env CANON_PIPED=thread "$made/$1/piped_run"
