@@ -11,7 +11,7 @@
 ssize_t canon_channel_read(int channel, void *to, size_t n);
 ssize_t canon_channel_write(int channel, const void *from, size_t n);
 
-enum { MEMORY = 65536, REPLY = 168, HEAP = 1024 };
+enum { MEMORY = 65536, REPLY = 168, HEAP = 1024, RANDOM = 3000 };
 
 static const char component[] =
     "{\"fuel\": 1000000, \"resources\": [{\"kind\": \"guest\", \"id\": 1}],"
@@ -37,7 +37,7 @@ typedef enum {
   NOT_INSTANTIATED, HOST_REFUSES, HOST_SHORT_IMAGE, HOST_LONG_IMAGE, HOST_OTHER_IMAGE, HOST_TOO_MUCH, HOST_CALLS_BACK, ENGINE_CALLS_BACK,
   WIRE_BYTE_BY_BYTE, WIRE_MEMORY_CLOSED, WIRE_REPLY_CLOSED, WIRE_REPLY_CUT, WIRE_OPENS_AGAIN, WIRE_DEMAND_REFUSED, WIRE_ANSWER_REFUSED,
   WIRE_KIND, WIRE_COUNT_18, WIRE_COUNT_ALL_ONES, WIRE_NUMBER, WIRE_GROWN_ALL_ONES, WIRE_GROWN_HUGE, WIRE_IMPORT_LENGTH, WIRE_COMMAND,
-  WIRE_COMMAND_LENGTH, WIRE_BEGINS_AGAIN
+  WIRE_COMMAND_LENGTH, WIRE_BEGINS_AGAIN, AT_RANDOM
 } lie;
 
 typedef struct {
@@ -125,6 +125,34 @@ static uint32_t heap;
 static int busy;
 static canon_store *store;
 
+/* ---- Lies at random ---- */
+
+static uint64_t seed;
+
+/* A number below n. */
+static uint64_t any(uint64_t n) {
+  seed ^= seed << 13, seed ^= seed >> 7, seed ^= seed << 17;
+  return seed * UINT64_C(0x2545f4914f6cdd1d) % n;
+}
+
+/* A word, often one at the edge of something. */
+static uint64_t any_word(const canon_memory *m) {
+  const uint64_t edges[] = {0, 1, 8, 24, 1024, m->len - 8, m->len - 1, m->len, UINT32_MAX, (uint64_t)1 << 32, UINT64_MAX};
+  return any(2) ? edges[any(11)] : any(any(2) ? 4096 : UINT64_MAX);
+}
+
+static canon_step any_step(canon_memory *m) {
+  for (uint64_t n = any(8); n > 0; n--) {
+    uint32_t word = (uint32_t)any_word(m);
+    memcpy(m->bytes + any(any(2) ? 2048 : m->len - 4), &word, 4);
+  }
+  if (any(16) == 0) canon_grow(m, any(2) ? 65536 : any(65536));
+  canon_step s = {any(4) ? CANON_RETURNS : any(4) ? CANON_ASKS : (canon_end)any(6), (uint32_t)any(4), (uint32_t)any(3), {0}};
+  if (any(64) == 0) s.count = (uint32_t)any(UINT32_MAX);
+  for (int i = 0; i < CANON_MAX_WORDS; i++) s.words[i] = any_word(m);
+  return s;
+}
+
 /* ---- An engine that lies in what it answers ---- */
 
 static canon_step gives(canon_end end, uint32_t count, uint64_t word) {
@@ -143,6 +171,7 @@ static bool h_instantiate(void *d, canon_memory *m) {
 
 static canon_step h_start(void *d, canon_memory *m, uint32_t func, const uint64_t *words, size_t count) {
   (void)d, (void)words, (void)count;
+  if (told == AT_RANDOM) return any_step(m);
   put32(m, 24, 0), put32(m, 28, 0); /* at 24: a list of none */
   canon_step s = gives(CANON_RETURNS, 1, 24);
   if (func == TEXTS) s.words[0] = 1;
@@ -197,6 +226,7 @@ static canon_step h_realloc(void *d, canon_memory *m, uint64_t old, uint64_t old
   uint32_t at = (heap + align - 1) / align * align;
   canon_step s = gives(CANON_RETURNS, 1, at);
   heap = at + (uint32_t)size;
+  if (told == AT_RANDOM && any(8) == 0) return any_step(m);
   switch (told) {
     case BLOCK_PAST_THE_END: s.words[0] = m->len - 3; break;
     case BLOCK_MISALIGNED: s.words[0] = 1025; break;
@@ -217,6 +247,7 @@ static canon_step h_realloc(void *d, canon_memory *m, uint64_t old, uint64_t old
 
 static canon_step h_post(void *d, canon_memory *m, uint32_t func, const uint64_t *words, size_t count) {
   (void)d, (void)m, (void)func, (void)words, (void)count;
+  if (told == AT_RANDOM) return any_step(m);
   if (told == POST_TRAPS) return gives(CANON_TRAPS, 0, 0);
   if (told == POST_ASKS) return gives(CANON_ASKS, 0, 0);
   if (told == POST_RETURNS) return gives(CANON_RETURNS, 5, 7);
@@ -229,6 +260,9 @@ static bool host(void *d, uint32_t import, const uint8_t *params, size_t len, ca
   (void)d, (void)import, (void)params, (void)len;
   uint64_t live;
   switch (told) {
+    case AT_RANDOM:
+      for (uint64_t n = any(2) ? 4 : any(12); n > 0; n--) canon_put_u8(results, (uint8_t)any(256));
+      return any(8) != 0;
     case HOST_REFUSES: return false;
     case HOST_SHORT_IMAGE: return canon_put_u16(results, 1);
     case HOST_LONG_IMAGE: return canon_put_u64(results, 1);
@@ -263,6 +297,11 @@ ssize_t hostile_read(int channel, void *to, size_t n) {
   if (lying && told == WIRE_REPLY_CUT && is_reply && first) return happened = true, canon_channel_read(channel, to, 100);
   if (lying && told == WIRE_REPLY_CUT && n == REPLY - 100) return 0;
   ssize_t got = canon_channel_read(channel, to, n);
+  if (lying && told == AT_RANDOM && got > 0 && n <= REPLY && any(64) == 0) {
+    if (any(8) == 0) return (ssize_t)any(2) - 1;
+    ((uint8_t *)to)[any((uint64_t)got)] ^= (uint8_t)(1 << any(8));
+    return any(2) ? got : 1 + (ssize_t)any((uint64_t)got);
+  }
   if (!lying || got != (ssize_t)n) return got;
   if (is_reply) {
     if (told == WIRE_KIND) set(to, 0, UINT64_MAX);
@@ -334,9 +373,24 @@ static bool passes(const test *t) {
   return ok;
 }
 
+/* A store whose engine, host and channel lie at random. */
+static void try_at_random(uint64_t from) {
+  canon_setup setup = {component, from % 2 == 0, &engine, NULL, host, NULL, 0};
+  char text[128];
+  seed = from * UINT64_C(0x9e3779b97f4a7c15) + 1;
+  told = AT_RANDOM, lying = false, heap = HEAP;
+  if (!(store = canon_store_new(&setup, NULL))) return;
+  lying = true;
+  for (int i = 0; i < 6; i++) call((uint32_t)any(9), text, sizeof text);
+  lying = false;
+  canon_store_free(store);
+}
+
 int main(void) {
   size_t count = sizeof tests / sizeof *tests, passed = 0;
   for (size_t i = 0; i < count; i++) passed += passes(&tests[i]);
   printf("%zu lies, %zu answered by their cause\n", count, passed);
+  for (uint64_t i = 1; i <= RANDOM; i++) try_at_random(i);
+  printf("%d stores at random, each was answered\n", RANDOM);
   return passed == count ? 0 : 1;
 }
