@@ -81,7 +81,9 @@ fn watched<E: Channel + Drop>(
     alloc: Global,
     relay: Relay<E>,
     watches_all: bool,
-) -> Watched<Relay<E>> {
+) -> Watched<Relay<E>>
+    ensures { result ≡ record { guest = relay; whole = watches_all; live = []; marks = []; shortages = 0 } }
+{
     if watches_all {
         Watched::new(alloc, relay)
     } else {

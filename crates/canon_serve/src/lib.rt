@@ -9,11 +9,11 @@ mod command;
 mod errors;
 mod images;
 mod imports;
-mod serve;
+mod serving;
 mod session;
 
 pub use answer::{Answer, Senseless};
 pub use command::Command;
 pub use imports::ChannelImports;
-pub use serve::{End, serve};
+pub use serving::{End, serve};
 pub use session::{EngineStore, carry_out};

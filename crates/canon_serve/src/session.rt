@@ -6,13 +6,13 @@ ghost use Rattle.canon_func.specs.Stores.{IsOwned, type_of};
 ghost use Rattle.canon_context.specs.Core.{component_types};
 ghost use Rattle.canon_plan.specs.NoHandle.{has_no_handle};
 ghost use Rattle.canon_relay.specs.Wire.{number_bytes};
-ghost use Rattle.canon_serve.specs.Carries.{CalledBy, CalledOf, CarriesOut, IsDone, IsReadParams, IsSenseless, TellsCall, WasCalled, mark_byte, named, results_shape, without_marks};
+ghost use Rattle.canon_serve.specs.Carries.{CalledBy, CalledOf, Calls, CarriesOut, IsDone, IsReadParams, IsSenseless, TellsCall, WasCalled, mark_byte, named, results_shape, without_marks};
 
 use crate::answer::{Answer, Senseless};
 use crate::command::Command;
 use crate::images::{image_values, read_values};
 use crate::imports::ChannelImports;
-use canon_func::{Func, Store};
+use canon_func::{Error, Func, Store};
 use canon_image::ImageError;
 use canon_memory::{AnswerMark, Watched};
 use canon_plan::has_no_handle;
@@ -136,14 +136,30 @@ fn call_with<E: Channel, H: Channel>(
     ensures { IfOk result (λ answer. IfSome (type_of store.old func.now) (λ t. WasCalled E.log func.now t params.now store.old store.new answer)) }
 {
     let mut results = slots_of(alloc, slots)?;
-    match func.call(alloc, store, params, &mut results) {
+    match enter(alloc, store, func, params, &mut results) {
         Ok(()) => results_of(alloc, store, func, results),
         Err(error) => Ok(Answer::Refused(error)),
     }
 }
 
+/// Calls a function, as `Func::call`.
+fn enter<E: Channel, H: Channel>(
+    alloc: Global,
+    store: &mut EngineStore<E, H>,
+    func: &Func,
+    params: &[Val],
+    results: &mut [Val],
+) -> Result<(), Error>
+    requires { IsOwned store.old func.now }
+    ensures { Calls E.log func.now params.now (length results.old) store.old store.new result results.new }
+{
+    func.call(alloc, store, params, results)
+}
+
 /// So many slots for results.
-fn slots_of(alloc: Global, slots: usize) -> Result<Vec<Val>, OutOfMemory> {
+fn slots_of(alloc: Global, slots: usize) -> Result<Vec<Val>, OutOfMemory>
+    ensures { IfOk result (λ results. length results.items ≡ slots) }
+{
     let mut results = Vec::new(alloc);
     for _ in 0..slots {
         results.push(Val::Bool(false))?;
