@@ -114,8 +114,12 @@ typedef enum {
   CANON_NO_EXPORT,
   CANON_NO_IMAGE, /* the bytes are no image of the parameters */
   CANON_HANDLES,  /* the types of the parameters or the results reach a handle */
-  CANON_NO_COMPONENT
+  CANON_NO_COMPONENT,
+  CANON_TOO_LONG /* the bytes, by CANON_MAX_BYTES */
 } canon_reason;
+
+/* How many bytes parameters, results of a function of the host, or a component may have. */
+enum { CANON_MAX_BYTES = 16777216 };
 
 /* Why a call was refused. docs/ENGINE.md and the crate canon_func say when each comes. */
 typedef enum {
@@ -184,6 +188,20 @@ void canon_why_text(const canon_why *, char *to, size_t room);
  * call is refused. It is called as the functions of an engine are. */
 typedef bool canon_host(void *data, uint32_t import, const uint8_t *params, size_t len, canon_bytes *results);
 
+/* A step of core code, as it happened: of a `start` and a `resume` the words that it began with, of a `realloc` the old address, the old size, the alignment and the
+ * new size, of a `post_return` what was returned, of a `dtor` the representation. */
+typedef enum { CANON_START, CANON_RESUME, CANON_REALLOC, CANON_POST_RETURN, CANON_DTOR, CANON_INSTANTIATE } canon_demand;
+typedef struct {
+  canon_demand demand;
+  uint32_t func;
+  const uint64_t *words;
+  size_t count;
+  const canon_step *step; /* what came of it */
+} canon_event;
+
+/* Is told each event. It is called as the functions of an engine are. */
+typedef void canon_trace(void *data, const canon_event *event);
+
 /* What a store is made of. */
 typedef struct {
   const char *component; /* JSON (docs/ENGINE.md) */
@@ -192,6 +210,8 @@ typedef struct {
   void *engine_data;
   canon_host *host; /* NULL: each import of a function is refused */
   void *host_data;
+  canon_trace *trace; /* or NULL */
+  void *trace_data;
   size_t stack; /* how many bytes the stack has on which the library, the engine and the host's functions run. 0: CANON_STACK */
 } canon_setup;
 

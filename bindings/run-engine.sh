@@ -43,6 +43,7 @@ build() {
     for it in canon native first demo session hostile time; do
         gcc $strict $flags -c $it.c -o "$to/$it.o"
     done
+    gcc -std=c99 -pedantic -Wall -Wextra -Werror -fsyntax-only first.c
     gcc $strict $flags -Dcanon_serve=piped_serve -c canon.c -o "$to/canon_piped.o"
     gcc $strict $flags -c piped.c -o "$to/piped.o"
     gcc -w $flags -c "$made/guest_wasm.c" -o "$to/guest_wasm.o"

@@ -15,7 +15,8 @@
 /* The export of libcanon_c.a. */
 uint32_t canon_serve(int32_t channel);
 
-enum { START, RESUME, REALLOC, POST_RETURN, DTOR, INSTANTIATE, IMPORT, ANSWER };
+/* What a message begins with, beside a canon_demand. */
+enum { IMPORT = 6, ANSWER };
 enum { DEMAND_NUMBERS = 7, REPLY_BYTES = 168, ANSWER_BYTES = 64, MOST_STORES = 1024 };
 #define MOST_MEMORY ((size_t)1 << 32)
 
@@ -177,7 +178,7 @@ static const char *const names[] = {
     [CANON_BORROW_AS_OWN] = "BorrowAsOwn", [CANON_HOST_CONSUMED] = "HostConsumed", [CANON_HOST_DEALLOCATED] = "HostDeallocated",
     [CANON_GENERATION_EXHAUSTED] = "GenerationExhausted", [CANON_BORROWS_REMAIN] = "BorrowsRemain", [CANON_NO_SCOPE] = "NoScope",
     [CANON_LEDGER_OUT_OF_MEMORY] = "OutOfMemory"};
-static const char *const reasons[] = {"", "no such command", "no such export", "no image of the parameters", "a type that reaches a handle", "no component"};
+static const char *const reasons[] = {"", "no such command", "no such export", "no image of the parameters", "a type that reaches a handle", "no component", "too many bytes"};
 
 const char *canon_error_name(canon_error error) {
   size_t n = (size_t)error;
@@ -186,7 +187,7 @@ const char *canon_error_name(canon_error error) {
 
 void canon_why_text(const canon_why *why, char *to, size_t room) {
   if (why->reason) {
-    snprintf(to, room, why->reason == CANON_NO_IMAGE ? "%s @%" PRIu64 : "%s", why->reason <= CANON_NO_COMPONENT ? reasons[why->reason] : "", why->place);
+    snprintf(to, room, why->reason == CANON_NO_IMAGE ? "%s @%" PRIu64 : "%s", why->reason <= CANON_TOO_LONG ? reasons[why->reason] : "", why->place);
     return;
   }
   char import[32] = "", place[32] = "", more[32] = "";
@@ -241,7 +242,7 @@ bool canon_grow(canon_memory *memory, size_t by) {
   return true;
 }
 
-/* An end that can't be told from its words is a trap. */
+/* A block is told as a number, and not as a word. Without exactly one it is a trap. */
 static canon_step one_word(canon_step step, uint64_t *word) {
   if (step.end == CANON_RETURNS && step.count == 1) {
     *word = step.words[0];
@@ -250,6 +251,15 @@ static canon_step one_word(canon_step step, uint64_t *word) {
     step.end = CANON_TRAPS;
   }
   return step;
+}
+
+static void trace(const canon_store *s, const canon_step *step) {
+  const uint64_t *d = s->demand;
+  const uint64_t block[] = {d[1], d[2], d[3], d[4]};
+  canon_event event = {(canon_demand)d[0], (uint32_t)d[1], s->words, (size_t)d[6], step};
+  if (event.demand == CANON_REALLOC) event.func = 0, event.words = block, event.count = 4;
+  if (event.demand == CANON_DTOR) event.words = block + 1, event.count = 1;
+  s->setup->trace(s->setup->trace_data, &event);
 }
 
 /* Carries out the demand in memory, and has the reply heard next. */
@@ -264,17 +274,18 @@ static void step_in(canon_store *s, uint8_t *bytes, size_t len) {
   given->len = m->len = len;
   m->block = NULL;
   canon_step step = {CANON_TRAPS, 0, 0, {0}};
-  uint64_t number = 0;
   switch (d[0]) {
-    case START: step = e->start(data, given, (uint32_t)d[1], s->words, count); break;
-    case RESUME: step = e->resume(data, given, s->words, count); break;
-    case REALLOC: step = one_word(e->realloc(data, given, d[1], d[2], (uint32_t)d[3], d[4]), &number); break;
-    case POST_RETURN: step = e->post_return(data, given, (uint32_t)d[1], s->words, count); break;
-    case DTOR: step = e->dtor(data, given, (uint32_t)d[1], (uint32_t)d[2]); break;
-    case INSTANTIATE: step.end = e->instantiate(data, given) ? CANON_RETURNS : CANON_TRAPS; break;
+    case CANON_START: step = e->start(data, given, (uint32_t)d[1], s->words, count); break;
+    case CANON_RESUME: step = e->resume(data, given, s->words, count); break;
+    case CANON_REALLOC: step = e->realloc(data, given, d[1], d[2], (uint32_t)d[3], d[4]); break;
+    case CANON_POST_RETURN: step = e->post_return(data, given, (uint32_t)d[1], s->words, count); break;
+    case CANON_DTOR: step = e->dtor(data, given, (uint32_t)d[1], (uint32_t)d[2]); break;
+    case CANON_INSTANTIATE: step.end = e->instantiate(data, given) ? CANON_RETURNS : CANON_TRAPS; break;
   }
-  if (step.end == CANON_ASKS) number = step.import;
   if (step.count > CANON_MAX_WORDS) step.end = CANON_TRAPS, step.count = 0;
+  if (s->setup->trace) trace(s, &step);
+  uint64_t number = step.end == CANON_ASKS ? step.import : 0;
+  if (d[0] == CANON_REALLOC) step = one_word(step, &number);
   memset(s->head, 0, REPLY_BYTES);
   put_at(s->head, 0, (uint64_t)step.end);
   put_at(s->head, 1, number);
@@ -290,6 +301,7 @@ static void serve_import(canon_store *s, const uint8_t *params, size_t len) {
   const canon_setup *setup = s->setup;
   s->from_host.len = 0;
   bool ok = setup->host && setup->host(setup->host_data, (uint32_t)s->import, params, len, &s->from_host);
+  ok = ok && s->from_host.len <= CANON_MAX_BYTES;
   put_at(s->head, 0, ok ? 0 : 1);
   put_at(s->head, 1, ok ? s->from_host.len : 0);
   says(s, 16, s->from_host.bytes, ok ? s->from_host.len : 0);
@@ -328,12 +340,20 @@ static void command(canon_store *s, uint64_t what, uint64_t operand, const void 
   s->phase = IDLE;
 }
 
+static canon_status too_long(canon_why *why) {
+  if (why) why->reason = CANON_TOO_LONG;
+  return CANON_SENSELESS;
+}
+
 /* Asks a session's program what is next. */
 static void ask_next(canon_store *s) {
   canon_answer last = {CANON_OK, {0}, s->session_results.bytes, s->session_results.len};
   canon_command next = {CANON_DO_LIVE, 0, NULL, 0};
   last.status = status_of(s, &last.why);
-  s->ended = !s->next(s->next_data, &last, &next);
+  while (!(s->ended = !s->next(s->next_data, &last, &next)) && next.what == CANON_DO_CALL && next.len > CANON_MAX_BYTES) {
+    memset(&last, 0, sizeof last);
+    last.status = too_long(&last.why);
+  }
   if (s->ended) command(s, 0, 0, NULL, 0, NULL);
   else command(s, (uint64_t)next.what, next.export_number, next.params, next.what == CANON_DO_CALL ? next.len : 0, &s->session_results);
   s->session_results.len = 0;
@@ -368,7 +388,7 @@ static ssize_t told(canon_store *s, const uint8_t *bytes, size_t n) {
   }
   if (n < 24) return -1;
   uint64_t what = number_at(bytes, 0);
-  if (what <= INSTANTIATE && n >= 8 * DEMAND_NUMBERS) {
+  if (what <= CANON_INSTANTIATE && n >= 8 * DEMAND_NUMBERS) {
     for (size_t i = 0; i < DEMAND_NUMBERS; i++) s->demand[i] = number_at(bytes, i);
     if (s->demand[6] > CANON_MAX_WORDS || n != 8 * (DEMAND_NUMBERS + s->demand[6])) return -1;
     for (size_t i = 0; i < s->demand[6]; i++) s->words[i] = number_at(bytes, DEMAND_NUMBERS + i);
@@ -478,6 +498,7 @@ static canon_status carry_out(canon_store *s, canon_why *why) {
 
 canon_store *canon_store_new(const canon_setup *setup, canon_why *why) {
   if (why) memset(why, 0, sizeof *why);
+  if (strlen(setup->component) > CANON_MAX_BYTES) return too_long(why), NULL;
   canon_store *s = store_for(setup);
   if (!s) return NULL;
   if (!fiber_make(&s->library, setup->stack ? setup->stack : CANON_STACK)) {
@@ -497,6 +518,7 @@ canon_store *canon_store_new(const canon_setup *setup, canon_why *why) {
 
 static canon_status do_command(canon_store *s, uint64_t what, uint64_t operand, const void *bytes, size_t len, canon_bytes *results, canon_why *why) {
   if (why) memset(why, 0, sizeof *why);
+  if (len > CANON_MAX_BYTES) return too_long(why);
   if (atomic_flag_test_and_set(&s->busy)) return CANON_BUSY;
   command(s, what, operand, bytes, len, results);
   canon_status status = carry_out(s, why);
@@ -535,7 +557,7 @@ bool canon_store_free(canon_store *s) {
 size_t canon_stack_used(const canon_store *s) { return fiber_depth(&s->library); }
 
 bool canon_session(const canon_setup *setup, canon_next *next, void *data) {
-  canon_store *s = store_for(setup);
+  canon_store *s = strlen(setup->component) > CANON_MAX_BYTES ? NULL : store_for(setup);
   if (!s) return false;
   s->next = next;
   s->next_data = data;

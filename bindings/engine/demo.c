@@ -28,6 +28,20 @@ static bool host(void *data, uint32_t import, const uint8_t *params, size_t len,
   return r.ok;
 }
 
+/* Prints the events of a call, where it is asked to. */
+static void trace(void *data, const canon_event *event) {
+  static const char *const demands[] = {"start", "resume", "realloc", "post-return", "dtor", "instantiate"};
+  static const char *const ends[] = {"returns", "asks", "traps", "short"};
+  if (!*(bool *)data) return;
+  printf("  %s", demands[event->demand]);
+  if (event->demand == CANON_START) printf(" %" PRIu32, event->func);
+  if (event->demand == CANON_REALLOC) printf(" of %" PRIu64, event->words[3]);
+  printf(": %s", ends[event->step->end]);
+  if (event->step->end == CANON_ASKS) printf(" for %" PRIu32, event->step->import);
+  printf("\n");
+}
+static bool traces;
+
 static void refused(const char *name, canon_status status, const canon_why *why) {
   char text[128];
   canon_why_text(why, text, sizeof text);
@@ -110,7 +124,7 @@ static void same(canon_store *s, uint32_t a, int8_t b) {
 }
 
 static canon_store *open_store(void *engine_data, world *w, const char *of) {
-  canon_setup setup = {of, false, demo_engine, engine_data, host, w, 0};
+  canon_setup setup = {of, false, demo_engine, engine_data, host, w, trace, &traces, 0};
   canon_why why;
   canon_store *s = canon_store_new(&setup, &why);
   if (!s) refused("no store", why.reason ? CANON_SENSELESS : why.error ? CANON_REFUSED : CANON_OVER, &why);
@@ -127,7 +141,9 @@ int main(void) {
   words(s, "the quick brown fox", 19);
   greet(s, "Anna");
   greet(t, "Otto"); /* another store: its clock, its memory */
+  traces = true;
   greet(s, "Zoë");
+  traces = false;
   total(s);
   same(s, 7, 7);
   same(s, 4294967295u, -1); /* an s8 is widened to 32 bits */

@@ -352,7 +352,7 @@ static bool is(const test *t, const char *when, const char *found, const char *w
 }
 
 static bool passes(const test *t) {
-  canon_setup setup = {component, false, &engine, NULL, host, NULL, 0};
+  canon_setup setup = {component, false, &engine, NULL, host, NULL, NULL, NULL, 0};
   char text[128], after[128];
   canon_why why;
   told = t->lie, lying = happened = false, busy = 0;
@@ -375,7 +375,7 @@ static bool passes(const test *t) {
 
 /* A store whose engine, host and channel lie at random. */
 static void try_at_random(uint64_t from) {
-  canon_setup setup = {component, from % 2 == 0, &engine, NULL, host, NULL, 0};
+  canon_setup setup = {component, from % 2 == 0, &engine, NULL, host, NULL, NULL, NULL, 0};
   char text[128];
   seed = from * UINT64_C(0x9e3779b97f4a7c15) + 1;
   told = AT_RANDOM, lying = false, heap = HEAP;

@@ -61,7 +61,7 @@ static bool refused(void *data, const canon_answer *last, canon_command *command
 int main(void) {
   void *engine = demo_engine_new();
   program p = {0, {NULL, 0, 0}};
-  canon_setup setup = {component, true, demo_engine, engine, host, NULL, 0};
+  canon_setup setup = {component, true, demo_engine, engine, host, NULL, NULL, NULL, 0};
   if (!engine || !canon_session(&setup, next, &p)) return 1;
   setup.component = "no JSON";
   if (canon_session(&setup, refused, NULL)) return 1;

@@ -11,6 +11,9 @@ const MAX_WORDS: usize = 17;
 const DEMAND_NUMBERS: usize = 7;
 const REPLY_BYTES: usize = 168;
 
+/// The most bytes of a command, and of the results of a function of the host.
+pub(crate) const MAX_BYTES: usize = 1 << 24;
+
 /// What came of a command: the numbers of the answer, and its bytes.
 #[derive(Debug)]
 pub(crate) struct Answer {
@@ -162,7 +165,7 @@ impl Session {
         let results: &[Type] = &func.results;
         let (host, import) = (&mut self.host, self.import as u32);
         let values = catch_unwind(AssertUnwindSafe(|| host.call(import, params))).ok()?.ok()?;
-        image(results, &values).ok()
+        image(results, &values).ok().filter(|it| it.len() <= MAX_BYTES)
     }
 
     /// Carries out the demand in memory, and has the reply heard next.

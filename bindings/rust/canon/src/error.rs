@@ -18,6 +18,8 @@ pub enum Error {
     NoComponent,
     /// The command makes no sense here.
     NoCommand,
+    /// The image of the parameters, or the component, has more than 16,777,216 bytes.
+    TooLong,
     /// A value has no image of its type, or bytes are none.
     Image(ImageError),
     /// The library ended before it answered.
@@ -127,6 +129,7 @@ impl fmt::Display for Error {
             Error::HasHandle => f.write_str("senseless, a type that reaches a handle"),
             Error::NoComponent => f.write_str("senseless, no component"),
             Error::NoCommand => f.write_str("senseless, no such command"),
+            Error::TooLong => f.write_str("senseless, too many bytes"),
             Error::Image(why) => why.fmt(f),
             Error::Over => f.write_str("over"),
         }

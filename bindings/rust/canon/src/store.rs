@@ -1,6 +1,6 @@
 //! Stores, and sessions that run on the caller's thread.
 
-use crate::channel::{run, Answer, Command, Session};
+use crate::channel::{run, Answer, Command, Session, MAX_BYTES};
 use crate::component::Component;
 use crate::engine::{Engine, Host};
 use crate::error::{Error, Refusal};
@@ -54,6 +54,14 @@ fn begin(component: &Component) -> Command {
     Command { what: BEGIN, operand: u64::from(component.watched), bytes: component.json().into_bytes() }
 }
 
+/// A command that isn't too long.
+fn checked(command: Command) -> Result<Command, Error> {
+    if command.bytes.len() > MAX_BYTES {
+        return Err(Error::TooLong);
+    }
+    Ok(command)
+}
+
 fn marks_of(bytes: &[u8]) -> Vec<Mark> {
     bytes.iter().map(|it| Mark { lawful: it & 1 == 1, tidy: it & 2 == 2 }).collect()
 }
@@ -73,10 +81,11 @@ impl Store {
         E: Engine + Send + 'static,
         H: Host + Send + 'static,
     {
+        let begin = checked(begin(&component))?;
         let (commands, given) = channel::<Command>();
         let (told, answers) = channel();
         let imports = component.imports.clone();
-        let mut first = Some(begin(&component));
+        let mut first = Some(begin);
         let serve = move || {
             let last = told.clone();
             let next = move |answer: Option<Answer>| {
@@ -98,7 +107,7 @@ impl Store {
 
     fn carry_out(&mut self, what: u64, operand: u64, bytes: Vec<u8>) -> Result<Vec<u8>, Error> {
         let commands = self.commands.as_ref().ok_or(Error::Over)?;
-        commands.send(Command { what, operand, bytes }).map_err(|_| Error::Over)?;
+        commands.send(checked(Command { what, operand, bytes })?).map_err(|_| Error::Over)?;
         bytes_of(self.answers.recv().map_err(|_| Error::Over)?)
     }
 
@@ -164,7 +173,7 @@ fn command_of(component: &Component, asked: &Do) -> Result<Command, Error> {
         Do::LiveHandles => (LIVE, 0, Vec::new()),
         Do::Marks => (MARKS, 0, Vec::new()),
     };
-    Ok(Command { what, operand: u64::from(operand), bytes })
+    checked(Command { what, operand: u64::from(operand), bytes })
 }
 
 fn done_of(component: &Component, asked: Option<&Do>, bytes: Vec<u8>) -> Result<Done, Error> {
@@ -185,7 +194,10 @@ where
     N: FnMut(Result<Done, Error>) -> Option<Do> + 'static,
 {
     let imports = component.imports.clone();
-    let mut first = Some(begin(&component));
+    let mut first = match checked(begin(&component)) {
+        Ok(begin) => Some(begin),
+        Err(why) => return drop(next(Err(why))),
+    };
     let mut asked = None;
     let next = move |answer: Option<Answer>| {
         if let Some(first) = first.take() {
