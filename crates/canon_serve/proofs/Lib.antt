@@ -1,1 +1,2 @@
-mod Unlogged
+pub mod Sessions
+pub mod Unlogged

@@ -18,7 +18,7 @@ use Rattle.canon_memory.specs.Guest.{GuestIn, Mark, Seen}
 use Rattle.canon_memory.specs.Watch.{WatchedMoves, Watching, watched_seen}
 use Rattle.canon_memory.specs.declared.event.Event.{Event}
 use Rattle.canon_relay.specs.Channel.{Adds, Message}
-use Rattle.canon_relay.specs.Relay.{Any, Passes, RelayMoves, Relaying, relay_seen}
+use Rattle.canon_relay.specs.Relay.{Passes, RelayMoves, Relaying, relay_seen}
 use Rattle.canon_relay.specs.Wire.{number_bytes}
 use Rattle.canon_context.specs.Core.{Parts, component_types, guest_of, moment_of}
 use Rattle.canon_host.specs.HostSide.{host_side}
@@ -37,6 +37,8 @@ use Rattle.canon_serve.specs.declared.answer.Senseless.TheVariants as senseless
 use Rattle.canon_serve.specs.declared.command.Command.{Command}
 use Rattle.canon_serve.specs.declared.command.Command.TheVariants as command
 use Rattle.canon_serve.specs.declared.imports.ChannelImports.{ChannelImports}
+use Rattle.canon_serve.specs.declared.serving.End.{End}
+use Rattle.canon_serve.specs.declared.serving.End.TheVariants as end
 
 -- ---- a store whose code runs in an engine behind a channel, and whose answers of `realloc` are tested
 
@@ -51,6 +53,11 @@ engine_seen w = watched_seen relay_seen w
 
 abbrev pub EngineMoves : {E : Type 0} → (E → Option (List Message)) → GuestIn (Watching (Relaying E)) → List Event → GuestIn (Watching (Relaying E)) → Type 0
 EngineMoves log w events x = WatchedMoves (RelayMoves log) w events x
+
+-- What passed of the last command: where the caller ended the session, the command that does so; else it was cut off somewhere.
+abbrev pub IsCut : End → List Message → Type 0
+IsCut end.Asked messages = IsHeard command.End messages
+IsCut why messages = Unit {0}
 
 -- ---- a turn of a session: a command that was heard, and the answer that was told
 
@@ -182,12 +189,12 @@ module _ {E H : Type 0} (log : E → Option (List Message)) where
     pub serves : Serves turns store store2
     pub passed : Adds told told2 (turn_messages turns)
 
-  -- Several were, and then the session ended within one more.
-  pub record ServesUntil (told told2 : Option (List Message)) (store : EngineStore E H) : Type 0 where
+  -- Several were, and then the session ended so, within one more.
+  pub record ServesUntil (told told2 : Option (List Message)) (store : EngineStore E H) (why : End) : Type 0 where
     pub last : EngineStore E H
     pub between : Option (List Message)
     pub served : ServesAll told between store last
-    pub cut : Passes between told2 Any
+    pub cut : Passes between told2 (IsCut why)
 
   -- ---- the store at first
 
@@ -210,7 +217,7 @@ module _ {E H : Type 0} (log : E → Option (List Message)) where
     pub watched : store.core.guest.whole ≡ watches_all
 
   -- A component was heard, its store began, which was told, and then commands were served in it, the last perhaps in part.
-  pub record IsSession (told told2 : Option (List Message)) : Type 0 where
+  pub record IsSession (told told2 : Option (List Message)) (why : End) : Type 0 where
     pub watches_all : Bool
     pub json : Vec ℕ Global
     pub heard : List Message
@@ -221,4 +228,4 @@ module _ {E H : Type 0} (log : E → Option (List Message)) where
     pub is_empty : empty.items ≡ []
     pub between : Option (List Message)
     pub begun : Adds told between (heard ++ answer_messages (answer.Done empty))
-    pub served : ServesUntil between told2 store
+    pub served : ServesUntil between told2 store why

@@ -1,8 +1,8 @@
 //! Hears commands and tells what came of them, until the session ends.
 
-ghost use Rattle.std.specs.Prelude.{◌≡◌, IsNone, IsSome};
-ghost use Rattle.canon_relay.specs.Relay.{Any, Passes};
-ghost use Rattle.canon_serve.specs.Carries.{IsSession, ServesOne, ServesUntil};
+ghost use Rattle.std.specs.Prelude.{◌≡◌, ◌≢◌, IfSome, IsNone};
+ghost use Rattle.canon_relay.specs.Relay.{Passes};
+ghost use Rattle.canon_serve.specs.Carries.{IsCut, IsSession, ServesOne, ServesUntil};
 
 use crate::answer::{Answer, Senseless, tell_answer};
 use crate::begin::{NoStore, store_of};
@@ -18,7 +18,7 @@ use std::alloc::Global;
 pub enum End {
     /// The caller ended it.
     Asked,
-    /// The caller's channel failed.
+    /// The caller's channel failed, or brought more commands than a session has: 2^64 - 1.
     Broken,
     /// The caller gave no component.
     NoComponent,
@@ -35,7 +35,7 @@ pub fn serve<E: Channel + Drop, H: Channel + Drop, P: Channel>(
     host: H,
     caller: &mut P,
 ) -> End
-    ensures session { result ≡ End.Asked → IsSession {E} {H} E.log (P.log caller.old) (P.log caller.new) }
+    ensures session { result ≡ End.Asked → IsSession {E} {H} E.log (P.log caller.old) (P.log caller.new) result }
 {
     let command = match hear_command(alloc, caller) {
         Ok(command) => command,
@@ -55,7 +55,9 @@ pub fn serve<E: Channel + Drop, H: Channel + Drop, P: Channel>(
     serve_store(alloc, &mut store, caller)
 }
 
-fn unheard(why: Unheard) -> End {
+fn unheard(why: Unheard) -> End
+    ensures { result ≢ End.Asked }
+{
     match why {
         Unheard::Broken => End::Broken,
         Unheard::OutOfMemory => End::OutOfMemory,
@@ -63,7 +65,9 @@ fn unheard(why: Unheard) -> End {
 }
 
 /// Tells the caller why its component isn't served.
-fn no_store<P: Channel>(alloc: Global, caller: &mut P, why: NoStore) -> End {
+fn no_store<P: Channel>(alloc: Global, caller: &mut P, why: NoStore) -> End
+    ensures { result ≢ End.Asked }
+{
     match why {
         NoStore::NoComponent => {
             let answer = Answer::Senseless(Senseless::NoComponent);
@@ -91,14 +95,14 @@ fn serve_store<E: Channel, H: Channel, P: Channel>(
     store: &mut EngineStore<E, H>,
     caller: &mut P,
 ) -> End
-    ensures { ServesUntil E.log (P.log caller.old) (P.log caller.new) store.old }
+    ensures { ServesUntil E.log (P.log caller.old) (P.log caller.new) store.old result }
 {
     for _ in 0..u64::MAX {
         if let Some(end) = serve_next(alloc, store, caller) {
             return end;
         }
     }
-    End::Asked
+    End::Broken
 }
 
 /// Carries out one command. Answers how the session ended, where it did.
@@ -108,7 +112,7 @@ fn serve_next<E: Channel, H: Channel, P: Channel>(
     caller: &mut P,
 ) -> Option<End>
     ensures one { IsNone result → ServesOne E.log (P.log caller.old) (P.log caller.new) store.old store.new }
-    ensures cut { IsSome result → Passes (P.log caller.old) (P.log caller.new) Any }
+    ensures cut { IfSome result (λ why. Passes (P.log caller.old) (P.log caller.new) (IsCut why)) }
 {
     let command = match hear_command(alloc, caller) {
         Ok(command) => command,
