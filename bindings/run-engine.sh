@@ -88,5 +88,5 @@ cargo_run() {
 }
 cargo_run test > "$made/out" 2>&1 || { cat "$made/out" >&2; exit 1; }
 echo "Rust, tests: passed"
-cargo_run build --release --examples
+cargo_run build --release --features guest --examples
 says "Rust" "$here/rust/canon/examples/expected" "$made/target/release/examples/demo"
