@@ -1,12 +1,16 @@
 /* An engine, a host and a channel that lie. Each lie is told to a store of its own, and the program tests that it is answered by its cause. The library's
  * `read` and `write` are renamed to hostile_read and hostile_write here, so that a lie may also be one of the bytes that pass. */
+#define _POSIX_C_SOURCE 200809L
 #include "../canon.h"
 
 #include <inttypes.h>
+#include <signal.h>
 #include <stdio.h>
 #include <stdlib.h>
 #include <string.h>
 #include <sys/types.h>
+#include <sys/wait.h>
+#include <unistd.h>
 
 ssize_t canon_channel_read(int channel, void *to, size_t n);
 ssize_t canon_channel_write(int channel, const void *from, size_t n);
@@ -37,7 +41,7 @@ typedef enum {
   NOT_INSTANTIATED, HOST_REFUSES, HOST_SHORT_IMAGE, HOST_LONG_IMAGE, HOST_OTHER_IMAGE, HOST_TOO_MUCH, HOST_CALLS_BACK, ENGINE_CALLS_BACK,
   WIRE_BYTE_BY_BYTE, WIRE_MEMORY_CLOSED, WIRE_REPLY_CLOSED, WIRE_REPLY_CUT, WIRE_OPENS_AGAIN, WIRE_DEMAND_REFUSED, WIRE_ANSWER_REFUSED,
   WIRE_KIND, WIRE_COUNT_18, WIRE_COUNT_ALL_ONES, WIRE_NUMBER, WIRE_GROWN_ALL_ONES, WIRE_GROWN_HUGE, WIRE_IMPORT_LENGTH, WIRE_COMMAND,
-  WIRE_COMMAND_LENGTH, WIRE_BEGINS_AGAIN, AT_RANDOM
+  WIRE_COMMAND_LENGTH, WIRE_BEGINS_AGAIN, AT_RANDOM, GROWS_FROM_NOTHING
 } lie;
 
 typedef struct {
@@ -189,6 +193,7 @@ static canon_step h_start(void *d, canon_memory *m, uint32_t func, const uint64_
     case ASKS_PAST_THE_END: s = gives(CANON_ASKS, 2, MEMORY - 3), s.words[1] = 4; break;
     case ASKS_FOR_NO_HANDLE: s = gives(CANON_ASKS, 1, UINT32_MAX), s.import = 1; break;
     case GROWS_TOO_MUCH: s = gives(canon_grow(m, (size_t)1 << 40) ? CANON_RETURNS : CANON_TRAPS, 1, 24); break;
+    case GROWS_FROM_NOTHING: s = gives(m->len == 0 && canon_grow(m, 65536) ? CANON_RETURNS : CANON_TRAPS, 1, 24); break;
     case GROWS_BY_A_BYTE: s = gives(canon_grow(m, 1) ? CANON_RETURNS : CANON_TRAPS, 1, 24); break;
     case MEMORY_SHRINKS: m->len = 1; break;
     case MEMORY_GONE: m->len = 0, m->bytes = NULL; break;
@@ -386,10 +391,40 @@ static void try_at_random(uint64_t from) {
   canon_store_free(store);
 }
 
+/* A memory without bytes, which then grows. */
+static bool from_nothing(void) {
+  static const char small[] = "{\"memory\": 0, \"heap\": 0, \"funcs\": [{\"params\": [], \"results\": [\"string\"]}]}";
+  canon_setup setup = {small, false, &engine, NULL, NULL, NULL, NULL, NULL, 0};
+  canon_bytes results = {0};
+  told = GROWS_FROM_NOTHING, lying = false;
+  if (!(store = canon_store_new(&setup, NULL))) return false;
+  bool ok = canon_call(store, 0, NULL, 0, &results, NULL) == CANON_OK && results.len == 8;
+  canon_bytes_free(&results);
+  return canon_store_free(store) && ok;
+}
+
+/* A stack that is too small ends the program at its guard page. */
+static bool stops_at_its_guard(void) {
+  pid_t child = fork();
+  if (child == 0) {
+    canon_setup setup = {component, false, &engine, NULL, NULL, NULL, NULL, NULL, 16384};
+    signal(SIGSEGV, SIG_DFL);
+    told = UNKNOWN_END;
+    canon_store_new(&setup, NULL);
+    _exit(0);
+  }
+  int status = 0;
+  return child > 0 && waitpid(child, &status, 0) == child && WIFSIGNALED(status) && WTERMSIG(status) == SIGSEGV;
+}
+
 int main(void) {
   size_t count = sizeof tests / sizeof *tests, passed = 0;
   for (size_t i = 0; i < count; i++) passed += passes(&tests[i]);
   printf("%zu lies, %zu answered by their cause\n", count, passed);
+  fflush(stdout);
+  printf("memory that was empty: %s\n", from_nothing() ? "grows" : "wrong");
+  printf("a stack of 16 KiB: %s\n", stops_at_its_guard() ? "stops at its guard page" : "wrong");
+  fflush(stdout);
   for (uint64_t i = 1; i <= RANDOM; i++) try_at_random(i);
   printf("%d stores at random, each was answered\n", RANDOM);
   return passed == count ? 0 : 1;
