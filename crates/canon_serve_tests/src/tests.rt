@@ -1,6 +1,7 @@
 //! Sessions, and what an engine may say that is no answer.
 
-use canon_relay::{Given, MemoryChannel, Said, put_numbers};
+use canon_memory::{Guest, Memory, ValRaw};
+use canon_relay::{Given, MemoryChannel, Relay, Said, number_at, put_numbers};
 use canon_serve::{End, serve};
 use std::alloc::{AllocError, Global};
 
@@ -278,4 +279,25 @@ fn senseless(alloc: Global) -> Option<bool> {
 #[test]
 fn a_command_without_sense_is_refused(rt: HostRuntime) {
     assert!(rt; senseless(rt.alloc()) == Some(true));
+}
+
+/// What the engine is told at a start, after it was lent memory of 64 bytes, and what it hears.
+fn demand(alloc: Global) -> Option<bool> {
+    let given = vec![in alloc; reply(alloc, [0, 0, 0, 1], 8)?].ok()?;
+    let mut relay = Relay::new(alloc, MemoryChannel::new(alloc, given));
+    let mut memory = Memory::new(alloc, 64).ok()?;
+    let _step = relay.start(&mut memory, 3, &[ValRaw::u32(7)]).ok()?;
+    let [Said::Told(told), Said::Lent { .. }, Said::Heard(_)] = relay.channel().said() else {
+        return None;
+    };
+    // a start of function 3, in 64 bytes, with one word
+    let numbers = [0, 3, 0, 0, 0, 64, 1, 7];
+    let mut wanted = Vec::new(alloc);
+    put_numbers(&mut wanted, &numbers).ok()?;
+    Some(*told == wanted && number_at(told, 8) == 3)
+}
+
+#[test]
+fn a_demand_is_spelled_as_the_page_says(rt: HostRuntime) {
+    assert!(rt; demand(rt.alloc()) == Some(true));
 }
