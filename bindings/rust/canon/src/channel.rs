@@ -90,7 +90,8 @@ impl Session {
     fn says(&mut self, numbers: &[u64], bytes: &[u8]) {
         self.ready.clear();
         self.at = 0;
-        self.ready.extend(numbers.iter().flat_map(|it| it.to_le_bytes()));
+        self.ready
+            .extend(numbers.iter().flat_map(|it| it.to_le_bytes()));
         self.ready.extend(bytes);
     }
 
@@ -99,7 +100,9 @@ impl Session {
         match std::mem::replace(&mut self.phase, Phase::Idle) {
             // Memory may be told before it is heard.
             Phase::Memory(len) if bytes.len() == len => self.phase = Phase::Memory(len),
-            Phase::LongerMemory(it) if bytes.len() == it.len() => self.phase = Phase::LongerMemory(it),
+            Phase::LongerMemory(it) if bytes.len() == it.len() => {
+                self.phase = Phase::LongerMemory(it)
+            }
             Phase::Params(len) => return bytes.len() == len && self.serve(bytes),
             Phase::Results(len) => return bytes.len() == len && self.take_results(bytes),
             _ => return self.take_head(bytes),
@@ -123,7 +126,8 @@ impl Session {
         match number_at(bytes, 0) {
             0..=5 if bytes.len() >= 8 * DEMAND_NUMBERS => {
                 self.demand.clear();
-                self.demand.extend((0..bytes.len() / 8).map(|i| number_at(bytes, i)));
+                self.demand
+                    .extend((0..bytes.len() / 8).map(|i| number_at(bytes, i)));
                 self.phase = Phase::Memory(self.demand[5] as usize);
                 self.demand[6] == (self.demand.len() - DEMAND_NUMBERS) as u64
             }
@@ -137,7 +141,10 @@ impl Session {
             }
             7 if bytes.len() == 64 => {
                 let numbers = std::array::from_fn(|i| number_at(bytes, i));
-                self.answer = Some(Answer { numbers, bytes: Vec::new() });
+                self.answer = Some(Answer {
+                    numbers,
+                    bytes: Vec::new(),
+                });
                 self.phase = match numbers[7] as usize {
                     0 => Phase::Answered,
                     len => Phase::Results(len),
@@ -164,8 +171,12 @@ impl Session {
         let params = read_image(&func.params, params).ok()?;
         let results: &[Type] = &func.results;
         let (host, import) = (&mut self.host, self.import as u32);
-        let values = catch_unwind(AssertUnwindSafe(|| host.call(import, params))).ok()?.ok()?;
-        image(results, &values).ok().filter(|it| it.len() <= MAX_BYTES)
+        let values = catch_unwind(AssertUnwindSafe(|| host.call(import, params)))
+            .ok()?
+            .ok()?;
+        image(results, &values)
+            .ok()
+            .filter(|it| it.len() <= MAX_BYTES)
     }
 
     /// Carries out the demand in memory, and has the reply heard next.
@@ -173,10 +184,14 @@ impl Session {
         let mut memory = Memory::new(lent);
         let before = memory.as_slice().len();
         let (engine, demand) = (&mut self.engine, &self.demand);
-        let ended = catch_unwind(AssertUnwindSafe(|| demanded(engine.as_mut(), &mut memory, demand)));
+        let ended = catch_unwind(AssertUnwindSafe(|| {
+            demanded(engine.as_mut(), &mut memory, demand)
+        }));
         let (kind, number, words) = match ended.unwrap_or(Err(Fault::Trap)) {
             Ok(Ended::Returned(words)) if words.len() <= MAX_WORDS => (0, 0, words),
-            Ok(Ended::Asked(index, words)) if words.len() <= MAX_WORDS => (1, u64::from(index), words),
+            Ok(Ended::Asked(index, words)) if words.len() <= MAX_WORDS => {
+                (1, u64::from(index), words)
+            }
             Ok(Ended::Gave(at)) => (0, at, Vec::new()),
             Ok(_) | Err(Fault::Trap) => (2, 0, Vec::new()),
             Err(Fault::OutOfMemory) => (3, 0, Vec::new()),
@@ -184,7 +199,8 @@ impl Session {
         let longer = memory.into_longer();
         let grown = longer.as_ref().map_or(0, |it| it.len() - before);
         self.says(&[kind, number, grown as u64, words.len() as u64], &[]);
-        self.ready.extend(words.iter().flat_map(|it| it.to_le_bytes()));
+        self.ready
+            .extend(words.iter().flat_map(|it| it.to_le_bytes()));
         self.ready.resize(REPLY_BYTES, 0);
         self.phase = match longer {
             Some(longer) if grown > 0 => Phase::LongerMemory(longer),
@@ -194,7 +210,15 @@ impl Session {
 
     fn next_command(&mut self) {
         let command = (self.next)(self.answer.take());
-        let Command { what, operand, bytes } = command.unwrap_or(Command { what: 0, operand: 0, bytes: Vec::new() });
+        let Command {
+            what,
+            operand,
+            bytes,
+        } = command.unwrap_or(Command {
+            what: 0,
+            operand: 0,
+            bytes: Vec::new(),
+        });
         self.says(&[what, operand, 0, bytes.len() as u64], &bytes);
     }
 
@@ -206,11 +230,15 @@ impl Session {
                 self.step(into);
                 return Some(into.len());
             }
-            Phase::LongerMemory(longer) if self.at == self.ready.len() && longer.len() == into.len() => {
+            Phase::LongerMemory(longer)
+                if self.at == self.ready.len() && longer.len() == into.len() =>
+            {
                 into.copy_from_slice(&longer);
                 return Some(into.len());
             }
-            Phase::LongerMemory(longer) if self.at < self.ready.len() => self.phase = Phase::LongerMemory(longer),
+            Phase::LongerMemory(longer) if self.at < self.ready.len() => {
+                self.phase = Phase::LongerMemory(longer)
+            }
             Phase::Answered => self.next_command(),
             Phase::Idle => {}
             _ => return None,
@@ -230,15 +258,35 @@ enum Ended {
     Gave(u64),
 }
 
-fn demanded(engine: &mut dyn Engine, memory: &mut Memory<'_>, demand: &[u64]) -> Result<Ended, Fault> {
+fn demanded(
+    engine: &mut dyn Engine,
+    memory: &mut Memory<'_>,
+    demand: &[u64],
+) -> Result<Ended, Fault> {
     let (words, func) = (&demand[DEMAND_NUMBERS..], demand[1] as u32);
     let step = match demand[0] {
         0 => engine.start(memory, func, words)?,
         1 => engine.resume(memory, words)?,
-        2 => return engine.realloc(memory, demand[1], demand[2], demand[3] as u32, demand[4]).map(Ended::Gave),
-        3 => return engine.post_return(memory, func, words).map(|()| Ended::Returned(Vec::new())),
-        4 => return engine.dtor(memory, func, demand[2] as u32).map(|()| Ended::Returned(Vec::new())),
-        _ => return engine.instantiate(memory).map(|()| Ended::Returned(Vec::new())),
+        2 => {
+            return engine
+                .realloc(memory, demand[1], demand[2], demand[3] as u32, demand[4])
+                .map(Ended::Gave)
+        }
+        3 => {
+            return engine
+                .post_return(memory, func, words)
+                .map(|()| Ended::Returned(Vec::new()))
+        }
+        4 => {
+            return engine
+                .dtor(memory, func, demand[2] as u32)
+                .map(|()| Ended::Returned(Vec::new()))
+        }
+        _ => {
+            return engine
+                .instantiate(memory)
+                .map(|()| Ended::Returned(Vec::new()))
+        }
     };
     Ok(match step {
         Step::Return(words) => Ended::Returned(words),

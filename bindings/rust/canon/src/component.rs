@@ -108,9 +108,14 @@ impl Entries {
         let (kind, of) = match ty {
             Type::List(of) => ("list", self.reference(of)),
             Type::FixedLengthList(of, len) => ("fixed", format!("[{}, {len}]", self.reference(of))),
-            Type::Map(keys, values) => ("map", format!("[{}, {}]", self.reference(keys), self.reference(values))),
+            Type::Map(keys, values) => (
+                "map",
+                format!("[{}, {}]", self.reference(keys), self.reference(values)),
+            ),
             Type::Record(fields) => {
-                let fields = fields.iter().map(|(name, ty)| format!("[{}, {}]", quoted(name), self.reference(ty)));
+                let fields = fields
+                    .iter()
+                    .map(|(name, ty)| format!("[{}, {}]", quoted(name), self.reference(ty)));
                 ("record", joined(fields))
             }
             Type::Tuple(types) => ("tuple", self.all(types)),
@@ -123,9 +128,14 @@ impl Entries {
             }
             Type::Enum(names) => ("enum", joined(names.iter().map(|it| quoted(it)))),
             Type::Option(of) => ("option", self.reference(of)),
-            Type::Result(ok, err) => {
-                ("result", format!("[{}, {}]", self.or_null(ok.as_deref()), self.or_null(err.as_deref())))
-            }
+            Type::Result(ok, err) => (
+                "result",
+                format!(
+                    "[{}, {}]",
+                    self.or_null(ok.as_deref()),
+                    self.or_null(err.as_deref())
+                ),
+            ),
             Type::Flags(names) => ("flags", joined(names.iter().map(|it| quoted(it)))),
             Type::Own(resource) => ("own", resource.to_string()),
             Type::Borrow(resource) => ("borrow", resource.to_string()),
@@ -135,7 +145,11 @@ impl Entries {
     }
 
     fn signature(&mut self, func: &Function) -> String {
-        format!("\"params\": {}, \"results\": {}", self.all(&func.params), self.all(&func.results))
+        format!(
+            "\"params\": {}, \"results\": {}",
+            self.all(&func.params),
+            self.all(&func.results)
+        )
     }
 }
 
@@ -144,20 +158,35 @@ impl Component {
     pub(crate) fn json(&self) -> String {
         let mut entries = Entries::default();
         let funcs = self.exports.iter().map(|func| {
-            format!("{{{}, \"post\": {}}}", entries.signature(func), func.post_return)
+            format!(
+                "{{{}, \"post\": {}}}",
+                entries.signature(func),
+                func.post_return
+            )
         });
         let funcs = joined(funcs);
         let imports = self.imports.iter().map(|import| match import {
             Import::Function(func) => format!("{{{}, \"answers\": []}}", entries.signature(func)),
-            Import::ResourceNew(resource) => format!("{{\"builtin\": \"new\", \"resource\": {resource}}}"),
-            Import::ResourceRep(resource) => format!("{{\"builtin\": \"rep\", \"resource\": {resource}}}"),
-            Import::ResourceDrop(resource) => format!("{{\"builtin\": \"drop\", \"resource\": {resource}}}"),
+            Import::ResourceNew(resource) => {
+                format!("{{\"builtin\": \"new\", \"resource\": {resource}}}")
+            }
+            Import::ResourceRep(resource) => {
+                format!("{{\"builtin\": \"rep\", \"resource\": {resource}}}")
+            }
+            Import::ResourceDrop(resource) => {
+                format!("{{\"builtin\": \"drop\", \"resource\": {resource}}}")
+            }
         });
         let imports = joined(imports);
         let resources = joined(self.resources.iter().map(|resource| match resource {
             ResourceType::Host { id } => format!("{{\"kind\": \"dynamic\", \"id\": {id}}}"),
-            ResourceType::Guest { id, dtor: None } => format!("{{\"kind\": \"guest\", \"id\": {id}}}"),
-            ResourceType::Guest { id, dtor: Some(dtor) } => {
+            ResourceType::Guest { id, dtor: None } => {
+                format!("{{\"kind\": \"guest\", \"id\": {id}}}")
+            }
+            ResourceType::Guest {
+                id,
+                dtor: Some(dtor),
+            } => {
                 format!("{{\"kind\": \"guest\", \"id\": {id}, \"dtor\": {dtor}}}")
             }
         }));
@@ -180,9 +209,15 @@ mod tests {
     fn spells_types_by_their_entries() {
         let text = Type::record([("a", Type::list(Type::U8)), ("b\"", Type::Own(0))]);
         let component = Component {
-            resources: vec![ResourceType::Guest { id: 1, dtor: Some(3) }],
+            resources: vec![ResourceType::Guest {
+                id: 1,
+                dtor: Some(3),
+            }],
             exports: vec![Function::new([text.clone(), text], [Type::Bool]).with_post_return()],
-            imports: vec![Import::ResourceNew(0), Import::Function(Function::new([], [Type::String]))],
+            imports: vec![
+                Import::ResourceNew(0),
+                Import::Function(Function::new([], [Type::String])),
+            ],
             memory: 1,
             fuel: 2,
             turns: 3,

@@ -80,7 +80,12 @@ pub trait Engine {
     ) -> Result<u64, Fault>;
 
     /// Runs the post-return function of this export, with the words that it returned.
-    fn post_return(&mut self, _memory: &mut Memory<'_>, _func: u32, _words: &[u64]) -> Result<(), Fault> {
+    fn post_return(
+        &mut self,
+        _memory: &mut Memory<'_>,
+        _func: u32,
+        _words: &[u64],
+    ) -> Result<(), Fault> {
         Ok(())
     }
 

@@ -82,10 +82,21 @@ error_kinds! {
 
 impl Refusal {
     /// The refusal that an answer's numbers tell.
-    pub(crate) fn of(error: u64, import: u64, place_kind: u64, place: u64, more: u64) -> Option<Refusal> {
-        let (number, in_import) = if error > 100 { (error - 100, true) } else { (error, false) };
+    pub(crate) fn of(
+        error: u64,
+        import: u64,
+        place_kind: u64,
+        place: u64,
+        more: u64,
+    ) -> Option<Refusal> {
+        let (number, in_import) = if error > 100 {
+            (error - 100, true)
+        } else {
+            (error, false)
+        };
         let kind = ErrorKind::from_number(number)?;
-        let names_import = in_import || matches!(kind, ErrorKind::UnknownImport | ErrorKind::HostRefused);
+        let names_import =
+            in_import || matches!(kind, ErrorKind::UnknownImport | ErrorKind::HostRefused);
         let place = match place_kind {
             1 => Place::Value(place),
             2 => Place::Word(place),
@@ -94,7 +105,12 @@ impl Refusal {
             _ => Place::Nowhere,
         };
         let import = names_import.then(|| u32::try_from(import).ok()).flatten();
-        Some(Refusal { kind, place, more, import })
+        Some(Refusal {
+            kind,
+            place,
+            more,
+            import,
+        })
     }
 }
 
@@ -102,7 +118,9 @@ impl fmt::Display for Refusal {
     fn fmt(&self, f: &mut fmt::Formatter<'_>) -> fmt::Result {
         use ErrorKind::*;
         match (self.kind, self.import) {
-            (UnknownImport | HostRefused, Some(import)) => return write!(f, "{:?} {import}", self.kind),
+            (UnknownImport | HostRefused, Some(import)) => {
+                return write!(f, "{:?} {import}", self.kind)
+            }
             (LedgerOutOfMemory, _) => f.write_str("OutOfMemory")?,
             (kind, Some(import)) => write!(f, "ImportFault {import} {kind:?}")?,
             (kind, None) => write!(f, "{kind:?}")?,
@@ -110,11 +128,15 @@ impl fmt::Display for Refusal {
         match self.place {
             Place::Nowhere => {}
             Place::Word(k) => write!(f, " w{k}")?,
-            Place::Address(at) if !matches!(self.kind, ReallocMisaligned | ReallocOutOfBounds) => write!(f, " @{at}")?,
+            Place::Address(at) if !matches!(self.kind, ReallocMisaligned | ReallocOutOfBounds) => {
+                write!(f, " @{at}")?
+            }
             Place::Value(at) | Place::Address(at) | Place::Count(at) => write!(f, " {at}")?,
         }
         match self.kind {
-            BadDiscriminant | UnknownHandle | NotAResource | StillLent | TooManyLends => write!(f, " {}", self.more),
+            BadDiscriminant | UnknownHandle | NotAResource | StillLent | TooManyLends => {
+                write!(f, " {}", self.more)
+            }
             _ => Ok(()),
         }
     }

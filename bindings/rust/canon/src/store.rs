@@ -36,7 +36,10 @@ pub struct Store {
 
 /// The bytes of an answer that was done, or why it wasn't.
 fn bytes_of(answer: Option<Answer>) -> Result<Vec<u8>, Error> {
-    let Answer { numbers: [_, status, error, import, kind, place, more, _], bytes } = answer.ok_or(Error::Over)?;
+    let Answer {
+        numbers: [_, status, error, import, kind, place, more, _],
+        bytes,
+    } = answer.ok_or(Error::Over)?;
     match status {
         0 => Ok(bytes),
         1 => Err(Refusal::of(error, import, kind, place, more).map_or(Error::Over, Error::Refused)),
@@ -51,7 +54,11 @@ fn bytes_of(answer: Option<Answer>) -> Result<Vec<u8>, Error> {
 }
 
 fn begin(component: &Component) -> Command {
-    Command { what: BEGIN, operand: u64::from(component.watched), bytes: component.json().into_bytes() }
+    Command {
+        what: BEGIN,
+        operand: u64::from(component.watched),
+        bytes: component.json().into_bytes(),
+    }
 }
 
 /// A command that isn't too long.
@@ -63,15 +70,27 @@ fn checked(command: Command) -> Result<Command, Error> {
 }
 
 fn marks_of(bytes: &[u8]) -> Vec<Mark> {
-    bytes.iter().map(|it| Mark { lawful: it & 1 == 1, tidy: it & 2 == 2 }).collect()
+    bytes
+        .iter()
+        .map(|it| Mark {
+            lawful: it & 1 == 1,
+            tidy: it & 2 == 2,
+        })
+        .collect()
 }
 
 fn number_of(bytes: &[u8]) -> Result<u64, Error> {
-    bytes.try_into().map(u64::from_le_bytes).map_err(|_| Error::Over)
+    bytes
+        .try_into()
+        .map(u64::from_le_bytes)
+        .map_err(|_| Error::Over)
 }
 
 fn export(component: &Component, export: u32) -> Result<&Function, Error> {
-    component.exports.get(export as usize).ok_or(Error::NoExport)
+    component
+        .exports
+        .get(export as usize)
+        .ok_or(Error::NoExport)
 }
 
 impl Store {
@@ -95,19 +114,38 @@ impl Store {
                 told.send(answer).ok()?;
                 given.recv().ok()
             };
-            run(Session::new(Box::new(engine), Box::new(host), imports, Box::new(next)));
+            run(Session::new(
+                Box::new(engine),
+                Box::new(host),
+                imports,
+                Box::new(next),
+            ));
             // The library ended, with or without an answer.
             let _ = last.send(None);
         };
-        let thread = Builder::new().stack_size(STACK).spawn(serve).map_err(|_| Error::Over)?;
-        let store = Store { component, commands: Some(commands), answers, thread: Some(thread) };
+        let thread = Builder::new()
+            .stack_size(STACK)
+            .spawn(serve)
+            .map_err(|_| Error::Over)?;
+        let store = Store {
+            component,
+            commands: Some(commands),
+            answers,
+            thread: Some(thread),
+        };
         bytes_of(store.answers.recv().map_err(|_| Error::Over)?)?;
         Ok(store)
     }
 
     fn carry_out(&mut self, what: u64, operand: u64, bytes: Vec<u8>) -> Result<Vec<u8>, Error> {
         let commands = self.commands.as_ref().ok_or(Error::Over)?;
-        commands.send(checked(Command { what, operand, bytes })?).map_err(|_| Error::Over)?;
+        commands
+            .send(checked(Command {
+                what,
+                operand,
+                bytes,
+            })?)
+            .map_err(|_| Error::Over)?;
         bytes_of(self.answers.recv().map_err(|_| Error::Over)?)
     }
 
@@ -115,7 +153,10 @@ impl Store {
     pub fn call(&mut self, number: u32, params: &[Value]) -> Result<Vec<Value>, Error> {
         let bytes = image(&export(&self.component, number)?.params, params)?;
         let bytes = self.call_image(number, bytes)?;
-        Ok(read_image(&export(&self.component, number)?.results, &bytes)?)
+        Ok(read_image(
+            &export(&self.component, number)?.results,
+            &bytes,
+        )?)
     }
 
     /// Calls an export with the image of its parameters, and gives that of its results.
@@ -168,18 +209,28 @@ pub enum Done {
 /// The command for what is asked for, or why there is none.
 fn command_of(component: &Component, asked: &Do) -> Result<Command, Error> {
     let (what, operand, bytes) = match asked {
-        Do::Call(number, params) => (CALL, *number, image(&export(component, *number)?.params, params)?),
+        Do::Call(number, params) => (
+            CALL,
+            *number,
+            image(&export(component, *number)?.params, params)?,
+        ),
         Do::CallImage(number, params) => (CALL, *number, params.clone()),
         Do::LiveHandles => (LIVE, 0, Vec::new()),
         Do::Marks => (MARKS, 0, Vec::new()),
     };
-    checked(Command { what, operand: u64::from(operand), bytes })
+    checked(Command {
+        what,
+        operand: u64::from(operand),
+        bytes,
+    })
 }
 
 fn done_of(component: &Component, asked: Option<&Do>, bytes: Vec<u8>) -> Result<Done, Error> {
     Ok(match asked {
         None => Done::Begun,
-        Some(Do::Call(number, _)) => Done::Called(read_image(&export(component, *number)?.results, &bytes)?),
+        Some(Do::Call(number, _)) => {
+            Done::Called(read_image(&export(component, *number)?.results, &bytes)?)
+        }
         Some(Do::CallImage(..)) => Done::CalledImage(bytes),
         Some(Do::LiveHandles) => Done::LiveHandles(number_of(&bytes)?),
         Some(Do::Marks) => Done::Marks(marks_of(&bytes)),
@@ -203,7 +254,8 @@ where
         if let Some(first) = first.take() {
             return Some(first);
         }
-        let mut last = bytes_of(answer).and_then(|bytes| done_of(&component, asked.as_ref(), bytes));
+        let mut last =
+            bytes_of(answer).and_then(|bytes| done_of(&component, asked.as_ref(), bytes));
         loop {
             let it = next(last)?;
             match command_of(&component, &it) {
@@ -215,5 +267,10 @@ where
             }
         }
     };
-    run(Session::new(Box::new(engine), Box::new(host), imports, Box::new(next)));
+    run(Session::new(
+        Box::new(engine),
+        Box::new(host),
+        imports,
+        Box::new(next),
+    ));
 }

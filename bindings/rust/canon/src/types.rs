@@ -44,7 +44,12 @@ impl Type {
 
     /// A record of these fields.
     pub fn record<const N: usize>(fields: [(&str, Type); N]) -> Type {
-        Type::Record(fields.into_iter().map(|(name, ty)| (name.into(), ty)).collect())
+        Type::Record(
+            fields
+                .into_iter()
+                .map(|(name, ty)| (name.into(), ty))
+                .collect(),
+        )
     }
 }
 
@@ -69,12 +74,19 @@ pub struct Function {
 impl Function {
     /// A function without a post-return function.
     pub fn new<const P: usize, const R: usize>(params: [Type; P], results: [Type; R]) -> Function {
-        Function { params: params.into(), results: results.into(), post_return: false }
+        Function {
+            params: params.into(),
+            results: results.into(),
+            post_return: false,
+        }
     }
 
     /// The same with one.
     pub fn with_post_return(self) -> Function {
-        Function { post_return: true, ..self }
+        Function {
+            post_return: true,
+            ..self
+        }
     }
 }
 

@@ -48,7 +48,12 @@ impl Value {
 
     /// A record of these fields.
     pub fn record<const N: usize>(fields: [(&str, Value); N]) -> Value {
-        Value::Record(fields.into_iter().map(|(name, value)| (name.into(), value)).collect())
+        Value::Record(
+            fields
+                .into_iter()
+                .map(|(name, value)| (name.into(), value))
+                .collect(),
+        )
     }
 }
 
@@ -88,7 +93,10 @@ pub fn image(types: &[Type], values: &[Value]) -> Result<Vec<u8>, ImageError> {
 /// The values of these types whose images stand one behind the other.
 pub fn read_image(types: &[Type], bytes: &[u8]) -> Result<Vec<Value>, ImageError> {
     let mut reader = Reader { bytes, at: 0 };
-    let values = types.iter().map(|ty| reader.value(ty)).collect::<Result<_, _>>()?;
+    let values = types
+        .iter()
+        .map(|ty| reader.value(ty))
+        .collect::<Result<_, _>>()?;
     if reader.at < bytes.len() {
         return Err(ImageError::Trailing(reader.at));
     }
@@ -121,7 +129,10 @@ fn write_all<'a>(
     if types.len() != values.len() {
         return Err(ImageError::NotOfType);
     }
-    types.iter().zip(values).try_for_each(|(ty, value)| write(ty, value, to))
+    types
+        .iter()
+        .zip(values)
+        .try_for_each(|(ty, value)| write(ty, value, to))
 }
 
 fn write_each(of: &Type, values: &[Value], to: &mut Vec<u8>) -> Result<(), ImageError> {
@@ -152,7 +163,10 @@ fn write_case(
     }
 }
 
-fn place_of<'a>(mut names: impl Iterator<Item = &'a String>, name: &str) -> Result<usize, ImageError> {
+fn place_of<'a>(
+    mut names: impl Iterator<Item = &'a String>,
+    name: &str,
+) -> Result<usize, ImageError> {
     names.position(|it| it == name).ok_or(ImageError::NotOfType)
 }
 
@@ -188,7 +202,9 @@ fn write(ty: &Type, value: &Value, to: &mut Vec<u8>) -> Result<(), ImageError> {
             write_count(items.len(), to);
             write_each(of, items, to)?;
         }
-        (Type::FixedLengthList(of, len), Value::FixedLengthList(items)) if items.len() == *len as usize => {
+        (Type::FixedLengthList(of, len), Value::FixedLengthList(items))
+            if items.len() == *len as usize =>
+        {
             write_each(of, items, to)?;
         }
         (Type::Map(keys, values), Value::Map(pairs)) => {
@@ -212,13 +228,25 @@ fn write(ty: &Type, value: &Value, to: &mut Vec<u8>) -> Result<(), ImageError> {
         (Type::Tuple(types), Value::Tuple(values)) => write_all(types, values.iter(), to)?,
         (Type::Variant(cases), Value::Variant(name, payload)) => {
             let case = place_of(cases.iter().map(|it| &it.0), name)?;
-            write_case(case, cases.len(), cases[case].1.as_ref(), payload.as_deref(), to)?;
+            write_case(
+                case,
+                cases.len(),
+                cases[case].1.as_ref(),
+                payload.as_deref(),
+                to,
+            )?;
         }
-        (Type::Enum(names), Value::Enum(name)) => write_tag(place_of(names.iter(), name)?, names.len(), to),
+        (Type::Enum(names), Value::Enum(name)) => {
+            write_tag(place_of(names.iter(), name)?, names.len(), to)
+        }
         (Type::Option(_), Value::Option(None)) => write_tag(0, 2, to),
         (Type::Option(of), Value::Option(Some(it))) => write_case(1, 2, Some(of), Some(it), to)?,
-        (Type::Result(ok, _), Value::Result(Ok(it))) => write_case(0, 2, ok.as_deref(), it.as_deref(), to)?,
-        (Type::Result(_, err), Value::Result(Err(it))) => write_case(1, 2, err.as_deref(), it.as_deref(), to)?,
+        (Type::Result(ok, _), Value::Result(Ok(it))) => {
+            write_case(0, 2, ok.as_deref(), it.as_deref(), to)?
+        }
+        (Type::Result(_, err), Value::Result(Err(it))) => {
+            write_case(1, 2, err.as_deref(), it.as_deref(), to)?
+        }
         (Type::Flags(names), Value::Flags(set)) => write_flags(names, set, to)?,
         (Type::Own(_) | Type::Borrow(_), Value::Resource(it)) => to.extend(it.0.to_le_bytes()),
         _ => return Err(ImageError::NotOfType),
@@ -270,7 +298,9 @@ impl<'a> Reader<'a> {
 
     /// Room is made as values come, so a count alone takes none.
     fn values(&mut self, of: &Type, count: usize) -> Result<Vec<Value>, ImageError> {
-        (0..count).map(|_| self.value(of)).collect::<Result<Vec<_>, _>>()
+        (0..count)
+            .map(|_| self.value(of))
+            .collect::<Result<Vec<_>, _>>()
     }
 
     fn string(&mut self) -> Result<Value, ImageError> {
@@ -317,17 +347,26 @@ impl<'a> Reader<'a> {
                 let count = self.count()?;
                 Value::List(self.values(of, count)?)
             }
-            Type::FixedLengthList(of, len) => Value::FixedLengthList(self.values(of, *len as usize)?),
+            Type::FixedLengthList(of, len) => {
+                Value::FixedLengthList(self.values(of, *len as usize)?)
+            }
             Type::Map(keys, values) => {
                 let count = self.count()?;
                 let pairs = (0..count).map(|_| Ok((self.value(keys)?, self.value(values)?)));
                 Value::Map(pairs.collect::<Result<_, _>>()?)
             }
             Type::Record(fields) => {
-                let fields = fields.iter().map(|(name, ty)| Ok((name.clone(), self.value(ty)?)));
+                let fields = fields
+                    .iter()
+                    .map(|(name, ty)| Ok((name.clone(), self.value(ty)?)));
                 Value::Record(fields.collect::<Result<_, _>>()?)
             }
-            Type::Tuple(types) => Value::Tuple(types.iter().map(|ty| self.value(ty)).collect::<Result<_, _>>()?),
+            Type::Tuple(types) => Value::Tuple(
+                types
+                    .iter()
+                    .map(|ty| self.value(ty))
+                    .collect::<Result<_, _>>()?,
+            ),
             Type::Variant(cases) => {
                 let (name, ty) = &cases[self.tag(cases.len())?];
                 Value::Variant(name.clone(), self.payload(ty.as_ref())?)
@@ -342,7 +381,9 @@ impl<'a> Reader<'a> {
                 _ => Value::Result(Err(self.payload(err.as_deref())?)),
             },
             Type::Flags(names) => self.flags(names)?,
-            Type::Own(_) | Type::Borrow(_) => Value::Resource(Resource(u32::from_le_bytes(self.array()?))),
+            Type::Own(_) | Type::Borrow(_) => {
+                Value::Resource(Resource(u32::from_le_bytes(self.array()?)))
+            }
         })
     }
 }
@@ -360,7 +401,10 @@ mod tests {
             assert!(read_image(&types, &bytes[..len]).is_err());
         }
         let longer = [bytes, &[0]].concat();
-        assert_eq!(read_image(&types, &longer), Err(ImageError::Trailing(bytes.len())));
+        assert_eq!(
+            read_image(&types, &longer),
+            Err(ImageError::Trailing(bytes.len()))
+        );
     }
 
     fn names(all: &[&str]) -> Vec<String> {
@@ -376,36 +420,90 @@ mod tests {
         stands_for(Type::U64, Value::U64(1), &[1, 0, 0, 0, 0, 0, 0, 0]);
         stands_for(Type::Float32, Value::Float32(1.0), &[0, 0, 0x80, 0x3f]);
         stands_for(Type::Char, Value::Char('é'), &[0xe9, 0, 0, 0]);
-        assert_eq!(read_image(&[Type::Bool], &[2]), Err(ImageError::Malformed(0)));
-        assert_eq!(read_image(&[Type::Char], &[0, 0xd8, 0, 0]), Err(ImageError::Malformed(0)));
+        assert_eq!(
+            read_image(&[Type::Bool], &[2]),
+            Err(ImageError::Malformed(0))
+        );
+        assert_eq!(
+            read_image(&[Type::Char], &[0, 0xd8, 0, 0]),
+            Err(ImageError::Malformed(0))
+        );
     }
 
     #[test]
     fn texts_and_lists() {
-        stands_for(Type::String, Value::string("é"), &[2, 0, 0, 0, 0, 0, 0, 0, 0xc3, 0xa9]);
+        stands_for(
+            Type::String,
+            Value::string("é"),
+            &[2, 0, 0, 0, 0, 0, 0, 0, 0xc3, 0xa9],
+        );
         let list = Value::List(vec![Value::U16(1), Value::U16(2)]);
-        stands_for(Type::list(Type::U16), list, &[2, 0, 0, 0, 0, 0, 0, 0, 1, 0, 2, 0]);
+        stands_for(
+            Type::list(Type::U16),
+            list,
+            &[2, 0, 0, 0, 0, 0, 0, 0, 1, 0, 2, 0],
+        );
         let fixed = Value::FixedLengthList(vec![Value::U8(1), Value::U8(2)]);
         stands_for(Type::FixedLengthList(Box::new(Type::U8), 2), fixed, &[1, 2]);
         let map = Value::Map(vec![(Value::U8(1), Value::Bool(false))]);
-        stands_for(Type::Map(Box::new(Type::U8), Box::new(Type::Bool)), map, &[1, 0, 0, 0, 0, 0, 0, 0, 1, 0]);
-        assert_eq!(read_image(&[Type::String], &[1, 0, 0, 0, 0, 0, 0, 0, 0xff]), Err(ImageError::Malformed(8)));
-        assert_eq!(read_image(&[Type::list(Type::U8)], &[0xff; 8]), Err(ImageError::Truncated));
+        stands_for(
+            Type::Map(Box::new(Type::U8), Box::new(Type::Bool)),
+            map,
+            &[1, 0, 0, 0, 0, 0, 0, 0, 1, 0],
+        );
+        assert_eq!(
+            read_image(&[Type::String], &[1, 0, 0, 0, 0, 0, 0, 0, 0xff]),
+            Err(ImageError::Malformed(8))
+        );
+        assert_eq!(
+            read_image(&[Type::list(Type::U8)], &[0xff; 8]),
+            Err(ImageError::Truncated)
+        );
     }
 
     #[test]
     fn made_of_others() {
         let ty = Type::record([("a", Type::U8), ("b", Type::U16)]);
-        stands_for(ty, Value::record([("a", Value::U8(1)), ("b", Value::U16(2))]), &[1, 2, 0]);
-        stands_for(Type::Tuple(vec![Type::U8, Type::U8]), Value::Tuple(vec![Value::U8(3), Value::U8(4)]), &[3, 4]);
+        stands_for(
+            ty,
+            Value::record([("a", Value::U8(1)), ("b", Value::U16(2))]),
+            &[1, 2, 0],
+        );
+        stands_for(
+            Type::Tuple(vec![Type::U8, Type::U8]),
+            Value::Tuple(vec![Value::U8(3), Value::U8(4)]),
+            &[3, 4],
+        );
         let cases = vec![("x".into(), None), ("y".into(), Some(Type::U16))];
-        stands_for(Type::Variant(cases), Value::Variant("y".into(), Some(Box::new(Value::U16(5)))), &[1, 5, 0]);
-        stands_for(Type::Enum(names(&["a", "b", "c"])), Value::Enum("c".into()), &[2]);
-        stands_for(Type::Option(Box::new(Type::U8)), Value::Option(Some(Box::new(Value::U8(7)))), &[1, 7]);
-        stands_for(Type::Result(None, Some(Box::new(Type::U8))), Value::Result(Ok(None)), &[0]);
+        stands_for(
+            Type::Variant(cases),
+            Value::Variant("y".into(), Some(Box::new(Value::U16(5)))),
+            &[1, 5, 0],
+        );
+        stands_for(
+            Type::Enum(names(&["a", "b", "c"])),
+            Value::Enum("c".into()),
+            &[2],
+        );
+        stands_for(
+            Type::Option(Box::new(Type::U8)),
+            Value::Option(Some(Box::new(Value::U8(7)))),
+            &[1, 7],
+        );
+        stands_for(
+            Type::Result(None, Some(Box::new(Type::U8))),
+            Value::Result(Ok(None)),
+            &[0],
+        );
         let many: Vec<String> = (0..9).map(|it| it.to_string()).collect();
         stands_for(Type::Flags(many), Value::Flags(names(&["0", "8"])), &[1, 1]);
-        assert_eq!(read_image(&[Type::Flags(names(&["a", "b", "c"]))], &[8]), Err(ImageError::Malformed(0)));
-        assert_eq!(image(&[Type::U8], &[Value::U16(1)]), Err(ImageError::NotOfType));
+        assert_eq!(
+            read_image(&[Type::Flags(names(&["a", "b", "c"]))], &[8]),
+            Err(ImageError::Malformed(0))
+        );
+        assert_eq!(
+            image(&[Type::U8], &[Value::U16(1)]),
+            Err(ImageError::NotOfType)
+        );
     }
 }

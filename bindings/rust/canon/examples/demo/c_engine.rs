@@ -58,7 +58,10 @@ unsafe extern "C" fn canon_grow(memory: *mut CMemory, by: usize) -> bool {
 
 fn public_of(memory: &mut Memory<'_>) -> CMemory {
     let bytes = memory.as_slice_mut();
-    CMemory { bytes: bytes.as_mut_ptr(), len: bytes.len() }
+    CMemory {
+        bytes: bytes.as_mut_ptr(),
+        len: bytes.len(),
+    }
 }
 
 /// An instance of the module.
@@ -77,8 +80,15 @@ impl CEngine {
     }
 
     /// Has C do something in this memory.
-    fn step<R>(&self, memory: &mut Memory<'_>, call: impl FnOnce(&CFunctions, *mut c_void, *mut CMemory) -> R) -> R {
-        let mut lent = Lent { public: public_of(memory), memory };
+    fn step<R>(
+        &self,
+        memory: &mut Memory<'_>,
+        call: impl FnOnce(&CFunctions, *mut c_void, *mut CMemory) -> R,
+    ) -> R {
+        let mut lent = Lent {
+            public: public_of(memory),
+            memory,
+        };
         // SAFETY: the table is a constant of native.c.
         let functions = unsafe { &*demo_engine };
         call(functions, self.data, (&raw mut lent).cast())
@@ -93,46 +103,84 @@ impl Drop for CEngine {
 }
 
 fn step_of(it: CStep) -> Result<Step, Fault> {
-    let words = it.words.get(..it.count as usize).ok_or(Fault::Trap)?.to_vec();
+    let words = it
+        .words
+        .get(..it.count as usize)
+        .ok_or(Fault::Trap)?
+        .to_vec();
     match it.end {
         0 => Ok(Step::Return(words)),
-        1 => Ok(Step::Import { index: it.import, words }),
+        1 => Ok(Step::Import {
+            index: it.import,
+            words,
+        }),
         3 => Err(Fault::OutOfMemory),
         _ => Err(Fault::Trap),
     }
 }
 
-// SAFETY, of each call: `memory` is that of `step`, which outlives the call, and the words are as many as their length says.
+/// What each call below rests on: the memory is that of `step`, which outlives the call, and the words are as many as their length says.
 impl Engine for CEngine {
     fn instantiate(&mut self, memory: &mut Memory<'_>) -> Result<(), Fault> {
-        match self.step(memory, |c, data, memory| unsafe { (c.instantiate)(data, memory) }) {
+        // SAFETY: as said above of each call.
+        match self.step(memory, |c, data, memory| unsafe {
+            (c.instantiate)(data, memory)
+        }) {
             true => Ok(()),
             false => Err(Fault::Trap),
         }
     }
 
     fn start(&mut self, memory: &mut Memory<'_>, func: u32, words: &[u64]) -> Result<Step, Fault> {
-        step_of(self.step(memory, |c, data, memory| unsafe { (c.start)(data, memory, func, words.as_ptr(), words.len()) }))
+        // SAFETY: as said above of each call.
+        step_of(self.step(memory, |c, data, memory| unsafe {
+            (c.start)(data, memory, func, words.as_ptr(), words.len())
+        }))
     }
 
     fn resume(&mut self, memory: &mut Memory<'_>, words: &[u64]) -> Result<Step, Fault> {
-        step_of(self.step(memory, |c, data, memory| unsafe { (c.resume)(data, memory, words.as_ptr(), words.len()) }))
+        // SAFETY: as said above of each call.
+        step_of(self.step(memory, |c, data, memory| unsafe {
+            (c.resume)(data, memory, words.as_ptr(), words.len())
+        }))
     }
 
-    fn realloc(&mut self, memory: &mut Memory<'_>, old: u64, old_size: u64, align: u32, new_size: u64) -> Result<u64, Fault> {
-        let step = self.step(memory, |c, data, memory| unsafe { (c.realloc)(data, memory, old, old_size, align, new_size) });
+    fn realloc(
+        &mut self,
+        memory: &mut Memory<'_>,
+        old: u64,
+        old_size: u64,
+        align: u32,
+        new_size: u64,
+    ) -> Result<u64, Fault> {
+        // SAFETY: as said above of each call.
+        let step = self.step(memory, |c, data, memory| unsafe {
+            (c.realloc)(data, memory, old, old_size, align, new_size)
+        });
         match step_of(step)? {
             Step::Return(words) if words.len() == 1 => Ok(words[0]),
             _ => Err(Fault::Trap),
         }
     }
 
-    fn post_return(&mut self, memory: &mut Memory<'_>, func: u32, words: &[u64]) -> Result<(), Fault> {
-        let step = self.step(memory, |c, data, memory| unsafe { (c.post_return)(data, memory, func, words.as_ptr(), words.len()) });
+    fn post_return(
+        &mut self,
+        memory: &mut Memory<'_>,
+        func: u32,
+        words: &[u64],
+    ) -> Result<(), Fault> {
+        // SAFETY: as said above of each call.
+        let step = self.step(memory, |c, data, memory| unsafe {
+            (c.post_return)(data, memory, func, words.as_ptr(), words.len())
+        });
         step_of(step).map(drop)
     }
 
     fn dtor(&mut self, memory: &mut Memory<'_>, func: u32, rep: u32) -> Result<(), Fault> {
-        step_of(self.step(memory, |c, data, memory| unsafe { (c.dtor)(data, memory, func, rep) })).map(drop)
+        // SAFETY: as said above of each call.
+        step_of(self.step(memory, |c, data, memory| unsafe {
+            (c.dtor)(data, memory, func, rep)
+        }))
+        .map(drop)
     }
 }

@@ -3,7 +3,9 @@
 mod c_engine;
 
 use c_engine::CEngine;
-use canon::{session, Component, Do, Error, Function, Import, Refused, ResourceType, Store, Type, Value};
+use canon::{
+    session, Component, Do, Error, Function, Import, Refused, ResourceType, Store, Type, Value,
+};
 
 const WORDS: u32 = 0;
 const GREET: u32 = 1;
@@ -69,7 +71,11 @@ fn store(now: u32) -> Result<Store, Error> {
 /// Prints what came of a call.
 fn show(name: &str, results: Result<Vec<Value>, Error>) {
     match results.as_deref() {
-        Ok([Value::List(items)]) => println!("{name}: {}: {:?} ..", items.len(), &items[..items.len().min(4)]),
+        Ok([Value::List(items)]) => println!(
+            "{name}: {}: {:?} ..",
+            items.len(),
+            &items[..items.len().min(4)]
+        ),
         Ok([value]) => println!("{name}: {value:?}"),
         Ok(values) => println!("{name}: {values:?}"),
         Err(error) => println!("{name}: {error}"),
@@ -82,11 +88,18 @@ fn item(name: &str, count: u32) -> Value {
 
 fn main() -> Result<(), Error> {
     let (mut s, mut t) = (store(6)?, store(0)?);
-    show("words", s.call(WORDS, &[Value::string("the quick brown fox")]));
+    show(
+        "words",
+        s.call(WORDS, &[Value::string("the quick brown fox")]),
+    );
     show("greet", s.call(GREET, &[Value::string("Anna")]));
     show("greet", t.call(GREET, &[Value::string("Otto")]));
     show("greet", s.call(GREET, &[Value::string("Zoë")]));
-    let items = [item("pears", 3), item("apples", 40), item("figs", 4_000_000_000)];
+    let items = [
+        item("pears", 3),
+        item("apples", 40),
+        item("figs", 4_000_000_000),
+    ];
     show("total", s.call(TOTAL, &[Value::List(items.into())]));
     show("same", s.call(SAME, &[Value::U32(u32::MAX), Value::S8(-1)]));
 
@@ -94,7 +107,11 @@ fn main() -> Result<(), Error> {
     let many = "xxxxxxx ".repeat(37_500);
     show("words", s.call(WORDS, &[Value::string(&many)]));
     let marks = s.marks()?;
-    println!("marks: {}, lawful {}", marks.len(), marks.iter().filter(|it| it.lawful).count());
+    println!(
+        "marks: {}, lawful {}",
+        marks.len(),
+        marks.iter().filter(|it| it.lawful).count()
+    );
 
     show("make", s.call(MAKE, &[Value::U32(40)]));
     println!("live: {}", s.live_handles()?);
@@ -102,10 +119,16 @@ fn main() -> Result<(), Error> {
     println!("live: {}", s.live_handles()?);
 
     show("words of a number", s.call(WORDS, &[Value::U32(7)]));
-    show("words of two bytes", s.call_image(WORDS, vec![7, 0]).map(|_| vec![]));
+    show(
+        "words of two bytes",
+        s.call_image(WORDS, vec![7, 0]).map(|_| vec![]),
+    );
     show("no export", s.call(99, &[]));
     show("broken", s.call(BROKEN, &[]));
-    show("words", s.call(WORDS, &[Value::string("the store is shut")]));
+    show(
+        "words",
+        s.call(WORDS, &[Value::string("the store is shut")]),
+    );
     show("crash", t.call(CRASH, &[]));
     show("unmake", store(0)?.call(UNMAKE, &[Value::U32(99)]));
 
