@@ -50,7 +50,7 @@ module _ {E H : Type 0} (log : E → Option (List Message)) where
 
   -- the store of a component that was heard began, which was told, and commands were served in it
   pub begun : (a b c d : Option (List Message)) (watches_all : Bool) (json empty : Vec ℕ Global) (s : EngineStore E H) (why : End) → Passes a b (IsHeard (command.Begin watches_all json))
-      → Begins log watches_all json.items s → empty.items ≡ [] → Adds b c (answer_messages (answer.Done empty)) → ServesUntil log c d s why → IsSession log a d why
+      → Begins log watches_all json.items s → empty.items ≡ [] → Adds b c (answer_messages (answer.Done empty)) → ServesUntil log c d s why → IsSession H log a d why
   begun a b c d watches_all json empty s why heard begins is_empty told served = record {
     watches_all = watches_all;
     json = json;
@@ -72,10 +72,3 @@ cut_off a b end.Broken not cut = cut
 cut_off a b end.NoComponent not cut = cut
 cut_off a b end.NotInstantiated not cut = cut
 cut_off a b end.OutOfMemory not cut = cut
-
--- messages passed, of which nothing more is said
-pub passed_any : (a b : Option (List Message)) (P : List Message → Type 0) → Passes a b P → Passes a b Any
-passed_any a b P h = (h.0, h.1, tt)
-
-pub passed_both : (a b c : Option (List Message)) (P Q : List Message → Type 0) → Passes a b P → Passes b c Q → Passes a c Any
-passed_both a b c P Q f g = (f.0 ++ g.0, adds_both a b c f.0 g.0 f.1 g.1, tt)

@@ -81,6 +81,12 @@ IsDone bytes a = ⊥
 
 -- ---- a call
 
+-- The answer tells how a call ended: the image of its results, or its error.
+abbrev pub TellsCall : Shape → Result (Unit {0}) Error → List Val → Answer → Type 0
+TellsCall s (Ok x) results (answer.Done bytes) = (vs : Vec Val Global) × (vs.items ≡ results) × IsImaged s (val.Tuple vs) (Ok bytes)
+TellsCall s (Err e) results (answer.Refused refusal) = refusal ≡ e
+TellsCall s result results a = ⊥
+
 -- why the bytes of parameters are none, as an answer
 abbrev pub IsSenseless : ImageError → Answer → Type 0
 IsSenseless (image.Truncated place) a = a ≡ answer.Senseless (senseless.NoImage place)
@@ -117,12 +123,6 @@ module _ {E H : Type 0} (log : E → Option (List Message)) where
   IsReadParams store t bytes (Ok p) = IsRead (params_shape store t) bytes (Ok (val.Tuple p.0)) × (p.1 ≡ length (types_of (component_types store.core) t.results))
   IsReadParams store t bytes (Err e) = IsRead (params_shape store t) bytes (Err e)
 
-  -- The answer tells how a call ended: the image of its results, or its error.
-  abbrev pub TellsCall : Shape → Result (Unit {0}) Error → List Val → Answer → Type 0
-  TellsCall s (Ok x) results (answer.Done bytes) = (vs : Vec Val Global) × (vs.items ≡ results) × IsImaged s (val.Tuple vs) (Ok bytes)
-  TellsCall s (Err e) results (answer.Refused refusal) = refusal ≡ e
-  TellsCall s result results a = ⊥
-
   -- With the parameters of an image the function was called, and the answer tells how that ended.
   pub record WasCalled (f : Named) (t : TypeFunc) (params : List Val) (store store2 : EngineStore E H) (a : Answer) : Type 0 where
     pub slots : ℕ
@@ -138,9 +138,8 @@ module _ {E H : Type 0} (log : E → Option (List Message)) where
 
   -- by what the bytes of the parameters are
   abbrev pub ByReading : Named → TypeFunc → EngineStore E H → EngineStore E H → Answer → Result Val ImageError → Type 0
-  ByReading f t store store2 a (Ok (val.Tuple params)) = WasCalled f t params.items store store2 a
+  ByReading f t store store2 a (Ok v) = (params : Vec Val Global) × (v ≡ val.Tuple params) × WasCalled f t params.items store store2 a
   ByReading f t store store2 a (Err e) = IsSenseless e a × (store2 ≡ store)
-  ByReading f t store store2 a (Ok v) = ⊥
 
   -- A function of this type: where its results reach a handle nothing is done, else it is as the bytes of the parameters are read.
   abbrev pub CalledBy : Named → TypeFunc → List ℕ → EngineStore E H → EngineStore E H → Answer → Bool → Type 0
@@ -216,6 +215,7 @@ module _ {E H : Type 0} (log : E → Option (List Message)) where
     pub marks : store.core.guest.marks ≡ []
     pub watched : store.core.guest.whole ≡ watches_all
 
+module _ {E : Type 0} (H : Type 0) (log : E → Option (List Message)) where
   -- A component was heard, its store began, which was told, and then commands were served in it, the last perhaps in part.
   pub record IsSession (told told2 : Option (List Message)) (why : End) : Type 0 where
     pub watches_all : Bool
@@ -223,9 +223,9 @@ module _ {E H : Type 0} (log : E → Option (List Message)) where
     pub heard : List Message
     pub is_heard : IsHeard (command.Begin watches_all json) heard
     pub store : EngineStore E H
-    pub begins : Begins watches_all json.items store
+    pub begins : Begins log watches_all json.items store
     pub empty : Vec ℕ Global
     pub is_empty : empty.items ≡ []
     pub between : Option (List Message)
     pub begun : Adds told between (heard ++ answer_messages (answer.Done empty))
-    pub served : ServesUntil between told2 store why
+    pub served : ServesUntil log between told2 store why

@@ -1,14 +1,15 @@
 //! What came of a command, and how it is told.
 
-ghost use Rattle.std.specs.Prelude.{◌≡◌, IsFalse, IsTrue};
-ghost use Rattle.canon_relay.specs.Channel.{Adds};
+ghost use Rattle.std.specs.Prelude.{◌≡◌, ◌++◌, ◌∷◌, [], IfOk, IsFalse, IsTrue};
+ghost use Rattle.canon_relay.specs.Channel.{Adds, told};
 ghost use Rattle.canon_relay.specs.Relay.{Any, Passes};
-ghost use Rattle.canon_serve.specs.Messages.{answer_bytes, answer_messages, answer_numbers, senseless_numbers};
+ghost use Rattle.canon_relay.specs.Wire.{numbers_bytes};
+ghost use Rattle.canon_serve.specs.Messages.{answer_bytes, answer_messages, answer_numbers, senseless_numbers, told_bytes};
 
 use crate::errors::error_numbers;
 use canon_func::Error;
 use canon_relay::{Channel, put_numbers};
-use std::alloc::Global;
+use std::alloc::{AllocError, Global};
 
 /// Why a command makes no sense.
 #[derive(Clone, Copy, Debug, PartialEq, Eq)]
@@ -75,17 +76,53 @@ fn bytes_of(answer: &Answer) -> &[u8]
     }
 }
 
+/// The numbers of an answer with so many bytes.
+fn numbers_with(answer: &Answer, len: u64) -> [u64; 8]
+    ensures { result ≡ answer_numbers answer.now ++ len ∷ [] }
+{
+    let [a, b, c, d, e, f, g] = numbers_of(answer);
+    [a, b, c, d, e, f, g, len]
+}
+
+/// The numbers of an answer, spelled.
+fn head_of(alloc: Global, answer: &Answer, len: u64) -> Result<Vec<u8>, AllocError>
+    ensures { IfOk result (λ head. head.items ≡ numbers_bytes (answer_numbers answer.now ++ len ∷ [])) }
+{
+    let mut head = Vec::new(alloc);
+    put_numbers(&mut head, &numbers_with(answer, len))?;
+    Ok(head)
+}
+
 /// Tells the caller what came of a command. Answers whether it was told whole.
 pub(crate) fn tell_answer<P: Channel>(alloc: Global, caller: &mut P, answer: &Answer) -> bool
     ensures told { IsTrue result → Adds (P.log caller.old) (P.log caller.new) (answer_messages answer.now) }
     ensures passed { IsFalse result → Passes (P.log caller.old) (P.log caller.new) Any }
 {
     let bytes = bytes_of(answer);
-    let mut head = Vec::new(alloc);
-    if put_numbers(&mut head, &numbers_of(answer)).is_err()
-        || put_numbers(&mut head, &[bytes.len() as u64]).is_err()
-    {
+    match head_of(alloc, answer, bytes.len() as u64) {
+        Ok(head) => tell_both(caller, &head, bytes),
+        Err(_) => false,
+    }
+}
+
+/// Tells the numbers of an answer and its bytes.
+fn tell_both<P: Channel>(caller: &mut P, head: &[u8], bytes: &[u8]) -> bool
+    ensures told { IsTrue result → Adds (P.log caller.old) (P.log caller.new) (told head.now ∷ told_bytes bytes.now) }
+    ensures passed { IsFalse result → Passes (P.log caller.old) (P.log caller.new) Any }
+{
+    if !caller.tell(head) {
         return false;
     }
-    caller.tell(&head) && (bytes.is_empty() || caller.tell(bytes))
+    tell_bytes(caller, bytes)
+}
+
+/// Tells bytes, if there are any.
+fn tell_bytes<P: Channel>(caller: &mut P, bytes: &[u8]) -> bool
+    ensures told { IsTrue result → Adds (P.log caller.old) (P.log caller.new) (told_bytes bytes.now) }
+    ensures passed { IsFalse result → Passes (P.log caller.old) (P.log caller.new) Any }
+{
+    if bytes.is_empty() {
+        return true;
+    }
+    caller.tell(bytes)
 }

@@ -35,7 +35,7 @@ pub fn serve<E: Channel + Drop, H: Channel + Drop, P: Channel>(
     host: H,
     caller: &mut P,
 ) -> End
-    ensures session { result ≡ End.Asked → IsSession {E} {H} E.log (P.log caller.old) (P.log caller.new) result }
+    ensures session { result ≡ End.Asked → IsSession H E.log (P.log caller.old) (P.log caller.new) result }
 {
     let command = match hear_command(alloc, caller) {
         Ok(command) => command,

@@ -175,7 +175,7 @@ fn results_of<E: Channel, H: Channel>(
     results: Vec<Val>,
 ) -> Result<Answer, OutOfMemory>
     requires { IsOwned store.now func.now }
-    ensures { IfOk result (λ answer. IfSome (type_of store.now func.now) (λ t. TellsCall E.log (results_shape E.log store.now t) (Ok tt) results.items answer)) }
+    ensures { IfOk result (λ answer. IfSome (type_of store.now func.now) (λ t. TellsCall (results_shape E.log store.now t) (Ok tt) results.items answer)) }
 {
     let ty = func.ty(store);
     let types = store.core().component().types.types();
