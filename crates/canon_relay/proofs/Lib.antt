@@ -1,0 +1,4 @@
+pub mod Blocks
+pub mod Exchanges
+pub mod Moves
+pub mod Numbers

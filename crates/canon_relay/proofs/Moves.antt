@@ -1,0 +1,55 @@
+-- The events of each call of a guest behind a channel are those that its messages tell.
+use Rattle.std.proofs.Common.{Err, List, Ok, Option, Result, [], ap, refl, sym, subst, ℕ, ◌++◌, ◌∙◌, ◌∷◌, ◌≡◌}
+use Rattle.std.proofs.lemmas.List.{append-nil}
+use Rattle.canon_model.specs.Requests.{Call}
+use Rattle.canon_memory.specs.Guest.{OnAnswer}
+use Rattle.canon_memory.specs.Journal.{dtor_events, post_events, realloc_events, resume_events, start_events}
+use Rattle.canon_memory.specs.declared.error.GuestFault.{GuestFault}
+use Rattle.canon_memory.specs.declared.error.GuestFault.TheVariants as fault
+use Rattle.canon_memory.specs.declared.event.Event.{Event}
+use Rattle.canon_memory.specs.declared.guest.Step.{Step}
+use Rattle.canon_memory.specs.declared.guest.Step.TheVariants as step
+use Rattle.canon_relay.specs.Channel.{Adds, Message}
+use Rattle.canon_relay.specs.Relay.{Converses, Does, Finishes, Gives, OnReply, Tells, Turn}
+use Rattle.canon_relay.specs.declared.demand.Demand.TheVariants as demand
+
+module _ (log log2 : Option (List Message)) where
+  one : (events : List Event) (messages : List Message) → Adds log log2 messages → Tells events messages → Converses log log2 events
+  one events messages added told = record {
+    turns = record { events = events; messages = messages } ∷ [];
+    are = (told, tt);
+    events_are = sym (append-nil events);
+    passed = subst (Adds log log2) (sym (append-nil messages)) added;
+  }
+
+  pub starts : (func : ℕ) (words before after : List ℕ) (r : Result Step GuestFault) → OnReply log log2 (Does (demand.Start func) words before after) r
+      → OnAnswer r (Converses log log2 (start_events func words before after r))
+  starts func words before after (Ok (step.Return results)) h = one _ h.0 h.1 h.2
+  starts func words before after (Ok (step.Import index asked)) h = one _ h.0 h.1 h.2
+  starts func words before after (Err fault.Trap) h = one _ h.0 h.1 tt
+  starts func words before after (Err fault.OutOfMemory) h = tt
+
+  pub resumes : (words before after : List ℕ) (r : Result Step GuestFault) → OnReply log log2 (Does demand.Resume words before after) r
+      → OnAnswer r (Converses log log2 (resume_events words before after r))
+  resumes words before after (Ok (step.Return results)) h = one _ h.0 h.1 h.2
+  resumes words before after (Ok (step.Import index asked)) h = one _ h.0 h.1 h.2
+  resumes words before after (Err fault.Trap) h = one _ h.0 h.1 tt
+  resumes words before after (Err fault.OutOfMemory) h = tt
+
+  pub reallocs : (c : Call) (before after : List ℕ) (r : Result ℕ GuestFault) → OnReply log log2 (Gives (demand.Realloc c.old c.old_size c.align c.new_size) before after) r
+      → OnAnswer r (Converses log log2 (realloc_events c before r))
+  reallocs c before after (Ok at) h = one _ h.0 h.1 (before, after, h.2)
+  reallocs c before after (Err fault.Trap) h = one _ h.0 h.1 tt
+  reallocs c before after (Err fault.OutOfMemory) h = tt
+
+  pub posts : (func : ℕ) (words before after : List ℕ) (r : Result (Unit {0}) GuestFault) → OnReply log log2 (λ x. Finishes (demand.PostReturn func) words before after) r
+      → OnAnswer r (Converses log log2 (post_events func words before r))
+  posts func words before after (Ok x) h = one _ h.0 h.1 (before, after, h.2)
+  posts func words before after (Err fault.Trap) h = one _ h.0 h.1 tt
+  posts func words before after (Err fault.OutOfMemory) h = tt
+
+  pub destroys : (func rep : ℕ) (before after : List ℕ) (r : Result (Unit {0}) GuestFault) → OnReply log log2 (λ x. Finishes (demand.Dtor func rep) [] before after) r
+      → OnAnswer r (Converses log log2 (dtor_events func rep before r))
+  destroys func rep before after (Ok x) h = one _ h.0 h.1 (before, after, h.2)
+  destroys func rep before after (Err fault.Trap) h = one _ h.0 h.1 tt
+  destroys func rep before after (Err fault.OutOfMemory) h = tt

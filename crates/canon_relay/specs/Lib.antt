@@ -1,0 +1,5 @@
+pub mod Channel
+pub mod Ends
+pub mod Memories
+pub mod Relay
+pub mod Wire

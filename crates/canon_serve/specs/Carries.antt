@@ -1,0 +1,231 @@
+-- What a command does in a store whose code runs in an engine.
+use Rattle.std.specs.Prelude.{Bool, Err, IfSome, IsNone, IsUtf8, List, None, Ok, OnErr, OnOk, Option, Result, Some, Vec, [], false, if◌then◌else◌, length, map, slice_get, true, ℕ, ⊤, ◌+◌, ◌*◌, ◌++◌, ◌<◌, ◌∷◌, ◌≡◌, ◌≤◌, ◌⊎◌}
+use Rattle.std.specs.declared.alloc.Global.{Global}
+use Rattle.canon_image_parts.specs.Read.{IsRead}
+use Rattle.canon_image_parts.specs.Written.{IsImaged}
+use Rattle.canon_image_parts.specs.declared.error.ImageError.{ImageError}
+use Rattle.canon_image_parts.specs.declared.error.ImageError.TheVariants as image
+use Rattle.canon_model.specs.Shape.{Shape}
+use Rattle.serde_json.specs.Data.{Data}
+use Rattle.serde_json.specs.Read.{read}
+use Rattle.canon_script.specs.Script.{Play, script_of}
+use Rattle.canon_ledger.specs.Ledger.{new_ledger}
+use Rattle.canon_types.specs.Table.{shape_of, types_of}
+use Rattle.canon_types.specs.declared.types.InterfaceType.TheVariants as ty
+use Rattle.canon_types.specs.declared.types.TypeFunc.{TypeFunc}
+use Rattle.canon_plan.specs.NoHandle.{has_no_handle}
+use Rattle.canon_memory.specs.Guest.{GuestIn, Mark, Seen}
+use Rattle.canon_memory.specs.Watch.{WatchedMoves, Watching, watched_seen}
+use Rattle.canon_memory.specs.declared.event.Event.{Event}
+use Rattle.canon_relay.specs.Channel.{Adds, Message}
+use Rattle.canon_relay.specs.Relay.{Passes, RelayMoves, Relaying, relay_seen}
+use Rattle.canon_relay.specs.Wire.{number_bytes}
+use Rattle.canon_context.specs.Core.{Parts, component_types, guest_of, moment_of}
+use Rattle.canon_host.specs.HostSide.{host_side}
+use Rattle.canon_func.specs.Asks.{allowed}
+use Rattle.canon_func.specs.Call.{Adding, IsCall, LivesUntil, OnAnswered, call_refusal, refused_by}
+use Rattle.canon_func.specs.Steps.{SameButHost}
+use Rattle.canon_func.specs.Stores.{Named, StoreView, callee_of, type_of}
+use Rattle.canon_func.specs.declared.error.Error.{Error}
+use Rattle.canon_val.specs.declared.val.Val.{Val}
+use Rattle.canon_val.specs.declared.val.Val.TheVariants as val
+use Rattle.canon_serve.specs.Imports.{AnyAnswer}
+use Rattle.canon_serve.specs.Messages.{IsHeard, answer_messages}
+use Rattle.canon_serve.specs.declared.answer.Answer.{Answer}
+use Rattle.canon_serve.specs.declared.answer.Answer.TheVariants as answer
+use Rattle.canon_serve.specs.declared.answer.Senseless.TheVariants as senseless
+use Rattle.canon_serve.specs.declared.command.Command.{Command}
+use Rattle.canon_serve.specs.declared.command.Command.TheVariants as command
+use Rattle.canon_serve.specs.declared.imports.ChannelImports.{ChannelImports}
+use Rattle.canon_serve.specs.declared.serving.End.{End}
+use Rattle.canon_serve.specs.declared.serving.End.TheVariants as end
+
+-- ---- a store whose code runs in an engine behind a channel, and whose answers of `realloc` are tested
+
+abbrev pub EngineStore : Type 0 → Type 0 → Type 0
+EngineStore E H = StoreView H (Watching (Relaying E)) ChannelImports
+
+abbrev pub EngineParts : Type 0 → Type 0 → Type 0
+EngineParts E H = Parts H (Watching (Relaying E))
+
+abbrev pub engine_seen : {E : Type 0} → Watching (Relaying E) → Seen
+engine_seen w = watched_seen relay_seen w
+
+abbrev pub EngineMoves : {E : Type 0} → (E → Option (List Message)) → GuestIn (Watching (Relaying E)) → List Event → GuestIn (Watching (Relaying E)) → Type 0
+EngineMoves log w events x = WatchedMoves (RelayMoves log) w events x
+
+-- What passed of the last command: where the caller ended the session, the command that does so; else it was cut off somewhere.
+abbrev pub IsCut : End → List Message → Type 0
+IsCut end.Asked messages = IsHeard command.End messages
+IsCut why messages = Unit {0}
+
+-- ---- a turn of a session: a command that was heard, and the answer that was told
+
+pub record Turn : Type 0 where
+  pub asked : Command
+  pub heard : List Message
+  pub answered : Answer
+
+abbrev pub turn_messages : List Turn → List Message
+turn_messages [] = []
+turn_messages (t ∷ ts) = t.heard ++ answer_messages t.answered ++ turn_messages ts
+
+-- ---- marks
+
+abbrev pub mark_byte : Mark → ℕ
+mark_byte m = (if m.lawful then 1 else 0) + (if m.tidy then 2 else 0)
+
+abbrev pub IsDone : List ℕ → Answer → Type 0
+IsDone bytes (answer.Done given) = given.items ≡ bytes
+IsDone bytes a = ⊥
+
+-- ---- a call
+
+-- The answer tells how a call ended: the image of its results, or its error.
+abbrev pub TellsCall : Shape → Result (Unit {0}) Error → List Val → Answer → Type 0
+TellsCall s (Ok x) results (answer.Done bytes) = (vs : Vec Val Global) × (vs.items ≡ results) × IsImaged s (val.Tuple vs) (Ok bytes)
+TellsCall s (Err e) results (answer.Refused refusal) = refusal ≡ e
+TellsCall s result results a = ⊥
+
+-- why the bytes of parameters are none, as an answer
+abbrev pub IsSenseless : ImageError → Answer → Type 0
+IsSenseless (image.Truncated place) a = a ≡ answer.Senseless (senseless.NoImage place)
+IsSenseless (image.Malformed place) a = a ≡ answer.Senseless (senseless.NoImage place)
+IsSenseless (image.Trailing place) a = a ≡ answer.Senseless (senseless.NoImage place)
+IsSenseless image.Resource a = a ≡ answer.Senseless senseless.HasHandle
+IsSenseless e a = ⊥
+
+module _ {E H : Type 0} (log : E → Option (List Message)) where
+  -- A function was called with these parameters and so many slots for results, which it left so: refused before the guest was entered,
+  -- which leaves the store as it was, or called.
+  pub record Calls (f : Named) (params : List Val) (slots : ℕ) (store store2 : EngineStore E H) (result : Result (Unit {0}) Error) (results : List Val) : Type 0 where
+    pub refused : refused_by result ≡ call_refusal (callee_of store f) (length params) slots store.trapped
+    pub unchanged : IfSome (refused_by result) (λ e. store2 ≡ store)
+    pub call : IsNone (refused_by result) → Adding (moment_of engine_seen store.core) (moment_of engine_seen store2.core)
+        (λ events. OnAnswered result (EngineMoves log (guest_of store.core) events (guest_of store2.core)))
+        (λ events. IsCall (LivesUntil engine_seen (EngineMoves log) (guest_of store.core) (guest_of store2.core) result) (λ before after. Unit {0}) AnyAnswer
+        (callee_of store f) (allowed store.core.fuel store.turns) params (moment_of engine_seen store.core) (moment_of engine_seen store2.core)
+        (host_side store.core None store.imports.refusals) (host_side store2.core None store2.imports.refusals) result results events)
+    pub trapped : IsNone (refused_by result) → OnErr result (store2.trapped ≡ true)
+    pub runs : OnOk result (store2.trapped ≡ store.trapped)
+    pub same : SameButHost store.core store2.core
+    pub turns : store2.turns ≡ store.turns
+
+  -- the shapes of the tuples of a function's parameters and results
+  abbrev pub params_shape : EngineStore E H → TypeFunc → Shape
+  params_shape store f = shape_of (component_types store.core) (ty.Tuple f.params)
+
+  abbrev pub results_shape : EngineStore E H → TypeFunc → Shape
+  results_shape store f = shape_of (component_types store.core) (ty.Tuple f.results)
+
+  -- these bytes are the image of these parameters, for so many results; or they are none
+  abbrev pub IsReadParams : EngineStore E H → TypeFunc → List ℕ → Result (Vec Val Global × ℕ) ImageError → Type 0
+  IsReadParams store t bytes (Ok p) = IsRead (params_shape store t) bytes (Ok (val.Tuple p.0)) × (p.1 ≡ length (types_of (component_types store.core) t.results))
+  IsReadParams store t bytes (Err e) = IsRead (params_shape store t) bytes (Err e)
+
+  -- With the parameters of an image the function was called, and the answer tells how that ended.
+  pub record WasCalled (f : Named) (t : TypeFunc) (params : List Val) (store store2 : EngineStore E H) (a : Answer) : Type 0 where
+    pub slots : ℕ
+    pub slots_are : slots ≡ length (types_of (component_types store.core) t.results)
+    pub result : Result (Unit {0}) Error
+    pub results : List Val
+    pub called : Calls f params slots store store2 result results
+    pub told : TellsCall (results_shape store t) result results a
+
+  -- nothing was done, and this was answered
+  abbrev pub Idle : EngineStore E H → EngineStore E H → Answer → Answer → Type 0
+  Idle store store2 a is = (a ≡ is) × (store2 ≡ store)
+
+  -- by what the bytes of the parameters are
+  abbrev pub ByReading : Named → TypeFunc → EngineStore E H → EngineStore E H → Answer → Result Val ImageError → Type 0
+  ByReading f t store store2 a (Ok v) = (params : Vec Val Global) × (v ≡ val.Tuple params) × WasCalled f t params.items store store2 a
+  ByReading f t store store2 a (Err e) = IsSenseless e a × (store2 ≡ store)
+
+  -- A function of this type: where its results reach a handle nothing is done, else it is as the bytes of the parameters are read.
+  abbrev pub CalledBy : Named → TypeFunc → List ℕ → EngineStore E H → EngineStore E H → Answer → Bool → Type 0
+  CalledBy f t bytes store store2 a true = (read : Result Val ImageError) × IsRead (params_shape store t) bytes read × ByReading f t store store2 a read
+  CalledBy f t bytes store store2 a false = Idle store store2 a (answer.Senseless senseless.HasHandle)
+
+  abbrev pub CalledOf : Named → List ℕ → EngineStore E H → EngineStore E H → Answer → Option TypeFunc → Type 0
+  CalledOf f bytes store store2 a (Some t) = CalledBy f t bytes store store2 a (has_no_handle (results_shape store t))
+  CalledOf f bytes store store2 a None = Idle store store2 a (answer.Senseless senseless.NoExport)
+
+  abbrev pub without_marks : EngineStore E H → EngineStore E H
+  without_marks store = record store { core = record store.core { guest = record store.core.guest { marks = [] } } }
+
+  -- ---- a command
+
+  abbrev pub named : EngineStore E H → ℕ → Named
+  named store export = record { store = store.core.id; export = export }
+
+  -- What was answered to a command, and what it left: a call by the export of that number, if there is one; how many handles live; the marks since
+  -- the last time, which are forgotten then.
+  abbrev pub CarriesOut : Command → EngineStore E H → EngineStore E H → Answer → Type 0
+  CarriesOut (command.Call export params) store store2 a = CalledOf (named store export) params.items store store2 a (type_of store (named store export))
+  CarriesOut command.Live store store2 a = IsDone (number_bytes store.core.ledger.handles.counter.live) a × (store2 ≡ store)
+  CarriesOut command.Marks store store2 a = IsDone (map mark_byte store.core.guest.marks) a × (store2 ≡ without_marks store)
+  CarriesOut command.End store store2 a = Idle store store2 a (answer.Senseless senseless.NoCommand)
+  CarriesOut (command.Begin all json) store store2 a = Idle store store2 a (answer.Senseless senseless.NoCommand)
+  CarriesOut command.Unknown store store2 a = Idle store store2 a (answer.Senseless senseless.NoCommand)
+
+  -- ---- a session
+
+  -- Each command was heard and carried out and its answer told, one after another, from one store to another.
+  abbrev pub Serves : List Turn → EngineStore E H → EngineStore E H → Type 0
+  Serves [] store store2 = store2 ≡ store
+  Serves (t ∷ ts) store store2 = IsHeard t.asked t.heard × ((next : EngineStore E H) × CarriesOut t.asked store next t.answered × Serves ts next store2)
+
+  -- One command was, and nothing else passed.
+  pub record ServesOne (told told2 : Option (List Message)) (store store2 : EngineStore E H) : Type 0 where
+    pub turn : Turn
+    pub heard : IsHeard turn.asked turn.heard
+    pub carried : CarriesOut turn.asked store store2 turn.answered
+    pub passed : Adds told told2 (turn.heard ++ answer_messages turn.answered)
+
+  -- Several were.
+  pub record ServesAll (told told2 : Option (List Message)) (store store2 : EngineStore E H) : Type 0 where
+    pub turns : List Turn
+    pub serves : Serves turns store store2
+    pub passed : Adds told told2 (turn_messages turns)
+
+  -- Several were, and then the session ended so, within one more.
+  pub record ServesUntil (told told2 : Option (List Message)) (store : EngineStore E H) (why : End) : Type 0 where
+    pub last : EngineStore E H
+    pub between : Option (List Message)
+    pub served : ServesAll told between store last
+    pub cut : Passes between told2 (IsCut why)
+
+  -- ---- the store at first
+
+  -- The store of a component: its types and imports are those of the JSON, with no call done yet, no handle alive and no answer of `realloc` marked;
+  -- each call may use what the JSON says, and as much is watched as the caller asked for.
+  pub record Begins (watches_all : Bool) (json : List ℕ) (store : EngineStore E H) : Type 0 where
+    pub tree : Data
+    pub text : IsUtf8 json
+    pub value : read json ≡ Some tree
+    pub play : Play
+    pub script : script_of tree ≡ Some play
+    pub types : store.core.component.types.types ≡ play.types
+    pub imports : store.core.component.imports.items ≡ play.imports
+    pub fuel : store.core.fuel ≡ play.fuel
+    pub turns : store.turns ≡ play.turns
+    pub ledger : store.core.ledger ≡ new_ledger 256 play.handles 0
+    pub memory : play.memory ≤ length store.core.memory
+    pub untrapped : store.trapped ≡ false
+    pub marks : store.core.guest.marks ≡ []
+    pub watched : store.core.guest.whole ≡ watches_all
+
+module _ {E : Type 0} (H : Type 0) (log : E → Option (List Message)) where
+  -- A component was heard, its store began, which was told, and then commands were served in it, the last perhaps in part.
+  pub record IsSession (told told2 : Option (List Message)) (why : End) : Type 0 where
+    pub watches_all : Bool
+    pub json : Vec ℕ Global
+    pub heard : List Message
+    pub is_heard : IsHeard (command.Begin watches_all json) heard
+    pub store : EngineStore E H
+    pub begins : Begins log watches_all json.items store
+    pub empty : Vec ℕ Global
+    pub is_empty : empty.items ≡ []
+    pub between : Option (List Message)
+    pub begun : Adds told between (heard ++ answer_messages (answer.Done empty))
+    pub served : ServesUntil log between told2 store why

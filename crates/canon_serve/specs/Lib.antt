@@ -1,0 +1,5 @@
+pub mod Carries
+pub mod Errors
+pub mod Images
+pub mod Imports
+pub mod Messages

@@ -1,0 +1,67 @@
+-- How commands and answers are spelled, and which messages they are.
+use Rattle.std.specs.Prelude.{List, [], length, nat_eq, ◌++◌, ◌∷◌, ◌≡◌, ◌≤◌, ℕ}
+use Rattle.canon_relay.specs.Channel.{Message, heard, told}
+use Rattle.canon_relay.specs.Wire.{number_at, numbers_bytes}
+use Rattle.canon_serve.specs.Errors.{error_numbers}
+use Rattle.canon_serve.specs.declared.answer.Answer.{Answer}
+use Rattle.canon_serve.specs.declared.answer.Answer.TheVariants as answer
+use Rattle.canon_serve.specs.declared.answer.Senseless.{Senseless}
+use Rattle.canon_serve.specs.declared.answer.Senseless.TheVariants as senseless
+use Rattle.canon_serve.specs.declared.command.Command.{Command}
+use Rattle.canon_serve.specs.declared.command.Command.TheVariants as command
+
+-- ---- a command
+
+-- what a command is, by its numbers: what is asked for, its operand, and its bytes
+abbrev pub IsCommand : ℕ → ℕ → List ℕ → Command → Type 0
+IsCommand what operand bytes command.End = what ≡ 0
+IsCommand what operand bytes (command.Begin watches_all json) = (what ≡ 1) × (watches_all ≡ nat_eq operand 1) × (json.items ≡ bytes)
+IsCommand what operand bytes (command.Call export params) = (what ≡ 2) × (export ≡ operand) × (params.items ≡ bytes)
+IsCommand what operand bytes command.Live = what ≡ 3
+IsCommand what operand bytes command.Marks = what ≡ 4
+IsCommand what operand bytes command.Unknown = 5 ≤ what
+
+-- bytes are a message, unless there are none
+abbrev pub heard_bytes : List ℕ → List Message
+heard_bytes [] = []
+heard_bytes (b ∷ bytes) = heard (b ∷ bytes) ∷ []
+
+abbrev pub told_bytes : List ℕ → List Message
+told_bytes [] = []
+told_bytes (b ∷ bytes) = told (b ∷ bytes) ∷ []
+
+-- the messages that were heard as this command
+pub record IsHeard (asked : Command) (messages : List Message) : Type 0 where
+  pub head : List ℕ
+  pub bytes : List ℕ
+  pub are : messages ≡ heard head ∷ heard_bytes bytes
+  pub count : length bytes ≡ number_at head 24
+  pub is : IsCommand (number_at head 0) (number_at head 8) bytes asked
+
+-- ---- an answer
+
+abbrev pub senseless_numbers : Senseless → List ℕ
+senseless_numbers senseless.NoCommand = 1 ∷ 0 ∷ []
+senseless_numbers senseless.NoExport = 2 ∷ 0 ∷ []
+senseless_numbers (senseless.NoImage place) = 3 ∷ place ∷ []
+senseless_numbers senseless.HasHandle = 4 ∷ 0 ∷ []
+senseless_numbers senseless.NoComponent = 5 ∷ 0 ∷ []
+
+abbrev pub with_place : List ℕ → List ℕ
+with_place (code ∷ place ∷ []) = 7 ∷ 2 ∷ code ∷ 0 ∷ 0 ∷ place ∷ 0 ∷ []
+with_place _ = []
+
+-- its numbers but the last, which is how many bytes it has
+abbrev pub answer_numbers : Answer → List ℕ
+answer_numbers (answer.Done bytes) = 7 ∷ 0 ∷ 0 ∷ 0 ∷ 0 ∷ 0 ∷ 0 ∷ []
+answer_numbers (answer.Refused e) = 7 ∷ 1 ∷ error_numbers e
+answer_numbers (answer.Senseless why) = with_place (senseless_numbers why)
+
+abbrev pub answer_bytes : Answer → List ℕ
+answer_bytes (answer.Done bytes) = bytes.items
+answer_bytes (answer.Refused e) = []
+answer_bytes (answer.Senseless why) = []
+
+-- the messages that tell it
+abbrev pub answer_messages : Answer → List Message
+answer_messages a = told (numbers_bytes (answer_numbers a ++ length (answer_bytes a) ∷ [])) ∷ told_bytes (answer_bytes a)

@@ -1,0 +1,88 @@
+//! What the caller asks for, and how it is heard.
+
+ghost use Rattle.std.specs.Prelude.{◌≡◌, ◌≤◌, ◌^◌, ◌∷◌, [], IfOk, OnErr, length};
+ghost use Rattle.canon_relay.specs.Channel.{Adds};
+ghost use Rattle.canon_relay.specs.Relay.{Any, Passes};
+ghost use Rattle.canon_serve.specs.Messages.{IsCommand, IsHeard, heard_bytes};
+
+use canon_relay::{Channel, number_at};
+use std::alloc::Global;
+
+/// The most bytes of a command, and of an image that is heard.
+pub(crate) const MAX_BYTES: u64 = 1 << 24;
+
+/// What the caller asks for.
+#[derive(Debug, Drop)]
+pub enum Command {
+    /// Ends the session.
+    End,
+    /// Begins it with the component of this JSON. Where all memory is watched, it is also tested which answers of `realloc` are tidy.
+    Begin { watches_all: bool, json: Vec<u8> },
+    /// Calls an export with the parameters of this image.
+    Call { export: u64, params: Vec<u8> },
+    /// Asks how many handles live.
+    Live,
+    /// Asks for the marks of the answers of `realloc` since the last such command.
+    Marks,
+    /// Is none of these.
+    Unknown,
+}
+
+/// Why nothing more is heard.
+#[derive(Clone, Copy, Debug, PartialEq, Eq)]
+pub(crate) enum Unheard {
+    /// The channel failed, or more bytes were to follow than may.
+    Broken,
+    OutOfMemory,
+}
+
+/// Hears a command.
+pub(crate) fn hear_command<P: Channel>(alloc: Global, caller: &mut P) -> Result<Command, Unheard> {
+    let mut head = [0u8; 32];
+    if !caller.hear(&mut head) {
+        return Err(Unheard::Broken);
+    }
+    let bytes = hear_bytes(alloc, caller, number_at(&head, 24))?;
+    let operand = number_at(&head, 8);
+    Ok(command_of(number_at(&head, 0), operand, bytes))
+}
+
+fn command_of(what: u64, operand: u64, bytes: Vec<u8>) -> Command
+    ensures { IsCommand what operand bytes.items result }
+{
+    match what {
+        0 => Command::End,
+        1 => Command::Begin {
+            watches_all: operand == 1,
+            json: bytes,
+        },
+        2 => Command::Call {
+            export: operand,
+            params: bytes,
+        },
+        3 => Command::Live,
+        4 => Command::Marks,
+        _ => Command::Unknown,
+    }
+}
+
+/// Hears so many bytes.
+pub(crate) fn hear_bytes<P: Channel>(
+    alloc: Global,
+    caller: &mut P,
+    len: u64,
+) -> Result<Vec<u8>, Unheard>
+    ensures heard { IfOk result (λ bytes. Adds (P.log caller.old) (P.log caller.new) (heard_bytes bytes.items) × (length bytes.items ≡ len)) }
+    ensures passed { OnErr result (Passes (P.log caller.old) (P.log caller.new) Any) }
+{
+    if len > MAX_BYTES {
+        return Err(Unheard::Broken);
+    }
+    let Ok(mut bytes) = Vec::from_elem(alloc, 0u8, len as usize) else {
+        return Err(Unheard::OutOfMemory);
+    };
+    if len > 0 && !caller.hear(&mut bytes) {
+        return Err(Unheard::Broken);
+    }
+    Ok(bytes)
+}

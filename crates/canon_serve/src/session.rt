@@ -1,0 +1,230 @@
+//! Carries out a command in a store.
+
+ghost use Rattle.std.specs.Prelude.{◌≡◌, ◌++◌, ◌<◌, IfOk, IfSome, IsNone, IsTrue, Ok, OnOk, Some, length, map, true};
+ghost use Rattle.canon_types.specs.Table.{types_of};
+ghost use Rattle.canon_func.specs.Stores.{IsOwned, type_of};
+ghost use Rattle.canon_context.specs.Core.{component_types};
+ghost use Rattle.canon_plan.specs.NoHandle.{has_no_handle};
+ghost use Rattle.canon_relay.specs.Wire.{number_bytes};
+ghost use Rattle.canon_serve.specs.Carries.{CalledBy, CalledOf, Calls, CarriesOut, IsDone, IsReadParams, IsSenseless, TellsCall, WasCalled, mark_byte, named, results_shape, without_marks};
+
+use crate::answer::{Answer, Senseless};
+use crate::command::Command;
+use crate::images::{image_values, read_values};
+use crate::imports::ChannelImports;
+use canon_func::{Error, Func, Store};
+use canon_image::ImageError;
+use canon_memory::{AnswerMark, Watched};
+use canon_plan::has_no_handle;
+use canon_relay::{Channel, Relay, put_number};
+use canon_types::{ExportIndex, InterfaceType, OutOfMemory};
+use canon_value::Val;
+use std::alloc::Global;
+
+/// A store whose code runs in an engine, whose imports are served over a channel, and each of whose answers of `realloc` is tested.
+pub type EngineStore<E, H> = Store<H, Watched<Relay<E>>, ChannelImports>;
+
+/// Carries out a command.
+pub fn carry_out<E: Channel, H: Channel>(
+    alloc: Global,
+    store: &mut EngineStore<E, H>,
+    command: &Command,
+) -> Result<Answer, OutOfMemory>
+    ensures { IfOk result (λ answer. CarriesOut E.log command.now store.old store.new answer) }
+{
+    match command {
+        Command::Call { export, params } => call(alloc, store, *export, params),
+        Command::Live => live(alloc, store),
+        Command::Marks => marks(alloc, store),
+        _ => Ok(Answer::Senseless(Senseless::NoCommand)),
+    }
+}
+
+/// Calls an export with the parameters of an image.
+fn call<E: Channel, H: Channel>(
+    alloc: Global,
+    store: &mut EngineStore<E, H>,
+    export: u64,
+    params: &[u8],
+) -> Result<Answer, OutOfMemory>
+    ensures { IfOk result (λ answer. CalledOf E.log (named E.log store.old export) params.now store.old store.new answer (type_of store.old (named E.log store.old export))) }
+{
+    let Some(func) = func_of(store, export) else {
+        return Ok(Answer::Senseless(Senseless::NoExport));
+    };
+    call_func(alloc, store, &func, params)
+}
+
+/// The function of an export.
+fn func_of<E: Channel, H: Channel>(store: &EngineStore<E, H>, export: u64) -> Option<Func>
+    ensures found { IfSome result (λ f. (f ≡ named E.log store.now export) × IsOwned store.now f) }
+    ensures none { IsNone result → IsNone (type_of store.now (named E.log store.now export)) }
+{
+    if export > 0xffff_ffff {
+        return None;
+    }
+    store.func(ExportIndex::from_u32(export as u32))
+}
+
+/// Calls a function with the parameters of an image.
+fn call_func<E: Channel, H: Channel>(
+    alloc: Global,
+    store: &mut EngineStore<E, H>,
+    func: &Func,
+    params: &[u8],
+) -> Result<Answer, OutOfMemory>
+    requires { IsOwned store.old func.now }
+    ensures { IfOk result (λ answer. IfSome (type_of store.old func.now) (λ t. CalledBy E.log func.now t params.now store.old store.new answer (has_no_handle (results_shape E.log store.old t)))) }
+{
+    if !results_have_images(store, func) {
+        return Ok(Answer::Senseless(Senseless::HasHandle));
+    }
+    match params_of(alloc, store, func, params) {
+        Ok((params, slots)) => call_with(alloc, store, func, &params, slots),
+        Err(error) => senseless(error),
+    }
+}
+
+/// Whether the results of a function reach no handle.
+fn results_have_images<E: Channel, H: Channel>(store: &EngineStore<E, H>, func: &Func) -> bool
+    requires { IsOwned store.now func.now }
+    ensures { IfSome (type_of store.now func.now) (λ t. result ≡ has_no_handle (results_shape E.log store.now t)) }
+{
+    let ty = func.ty(store);
+    let types = store.core().component().types.types();
+    has_no_handle(types, &InterfaceType::Tuple(ty.results))
+}
+
+/// The parameters of an image, and how many results there are.
+fn params_of<E: Channel, H: Channel>(
+    alloc: Global,
+    store: &EngineStore<E, H>,
+    func: &Func,
+    bytes: &[u8],
+) -> Result<(Vec<Val>, usize), ImageError>
+    requires { IsOwned store.now func.now }
+    ensures read { IfSome (type_of store.now func.now) (λ t. IsReadParams E.log store.now t bytes.now result) }
+{
+    let ty = func.ty(store);
+    let types = store.core().component().types.types();
+    let params = read_values(alloc, types, ty.params, bytes)?;
+    Ok((params, types.tuple(ty.results).types.len()))
+}
+
+/// Why there is no value of an image.
+fn senseless(error: ImageError) -> Result<Answer, OutOfMemory>
+    ensures { IfOk result (λ answer. IsSenseless error answer) }
+{
+    match error {
+        ImageError::Truncated(place) | ImageError::Malformed(place) | ImageError::Trailing(place) =>
+            Ok(Answer::Senseless(Senseless::NoImage(place))),
+        ImageError::Resource => Ok(Answer::Senseless(Senseless::HasHandle)),
+        ImageError::NotOfType(_) | ImageError::OutOfMemory => Err(OutOfMemory),
+    }
+}
+
+/// Calls a function with these parameters, and so many slots for its results.
+fn call_with<E: Channel, H: Channel>(
+    alloc: Global,
+    store: &mut EngineStore<E, H>,
+    func: &Func,
+    params: &[Val],
+    slots: usize,
+) -> Result<Answer, OutOfMemory>
+    requires owned { IsOwned store.old func.now }
+    requires slots { IfSome (type_of store.old func.now) (λ t. slots ≡ length (types_of (component_types store.old.core) t.results)) }
+    ensures { IfOk result (λ answer. IfSome (type_of store.old func.now) (λ t. WasCalled E.log func.now t params.now store.old store.new answer)) }
+{
+    let mut results = slots_of(alloc, slots)?;
+    match enter(alloc, store, func, params, &mut results) {
+        Ok(()) => results_of(alloc, store, func, results),
+        Err(error) => Ok(Answer::Refused(error)),
+    }
+}
+
+/// Calls a function, as `Func::call`.
+fn enter<E: Channel, H: Channel>(
+    alloc: Global,
+    store: &mut EngineStore<E, H>,
+    func: &Func,
+    params: &[Val],
+    results: &mut [Val],
+) -> Result<(), Error>
+    requires { IsOwned store.old func.now }
+    ensures { Calls E.log func.now params.now (length results.old) store.old store.new result results.new }
+{
+    func.call(alloc, store, params, results)
+}
+
+/// So many slots for results.
+fn slots_of(alloc: Global, slots: usize) -> Result<Vec<Val>, OutOfMemory>
+    ensures { IfOk result (λ results. length results.items ≡ slots) }
+{
+    let mut results = Vec::new(alloc);
+    for _ in 0..slots {
+        results.push(Val::Bool(false))?;
+    }
+    Ok(results)
+}
+
+/// The answer of a call that gave these results.
+fn results_of<E: Channel, H: Channel>(
+    alloc: Global,
+    store: &EngineStore<E, H>,
+    func: &Func,
+    results: Vec<Val>,
+) -> Result<Answer, OutOfMemory>
+    requires { IsOwned store.now func.now }
+    ensures { IfOk result (λ answer. IfSome (type_of store.now func.now) (λ t. TellsCall (results_shape E.log store.now t) (Ok tt) results.items answer)) }
+{
+    let ty = func.ty(store);
+    let types = store.core().component().types.types();
+    match image_values(alloc, types, ty.results, results) {
+        Ok(bytes) => Ok(Answer::Done(bytes)),
+        Err(_) => Err(OutOfMemory),
+    }
+}
+
+/// How many handles live.
+fn live<E: Channel, H: Channel>(
+    alloc: Global,
+    store: &EngineStore<E, H>,
+) -> Result<Answer, OutOfMemory>
+    ensures { IfOk result (IsDone (number_bytes store.now.core.ledger.handles.counter.live)) }
+{
+    let mut bytes = Vec::new(alloc);
+    put_number(&mut bytes, store.live_handles())?;
+    Ok(Answer::Done(bytes))
+}
+
+/// The marks of the answers of `realloc` since the last time, which are forgotten then.
+fn marks<E: Channel, H: Channel>(
+    alloc: Global,
+    store: &mut EngineStore<E, H>,
+) -> Result<Answer, OutOfMemory>
+    ensures { IfOk result (λ answer. IsDone (map mark_byte store.old.core.guest.marks) answer × (store.new ≡ without_marks E.log store.old)) }
+{
+    let guest = store.core_mut().guest_mut();
+    let bytes = mark_bytes(alloc, guest.marks())?;
+    guest.clear_marks();
+    Ok(Answer::Done(bytes))
+}
+
+/// A byte for each mark.
+fn mark_bytes(alloc: Global, marks: &[AnswerMark]) -> Result<Vec<u8>, OutOfMemory>
+    ensures { IfOk result (λ bytes. bytes.items ≡ map mark_byte marks.now) }
+{
+    let mut bytes = Vec::new(alloc);
+    for mark in marks {
+        bytes.push(mark_byte(*mark))?;
+    }
+    Ok(bytes)
+}
+
+fn mark_byte(mark: AnswerMark) -> u8
+    ensures { result ≡ mark_byte mark }
+{
+    let lawful = if mark.lawful { 1 } else { 0 };
+    let tidy = if mark.tidy { 2 } else { 0 };
+    lawful + tidy
+}
