@@ -13,6 +13,7 @@ needs objcopy binutils
 needs gcc gcc
 needs g++ g++
 [ -z "$missing" ] || { echo "missing: apt-get install$missing" >&2; exit 1; }
+[ "$(wasm2c --version)" = 1.0.32 ] || echo "native.c is for the C that wasm2c 1.0.32 makes; this is $(wasm2c --version)" >&2
 heap=${CANON_HEAP:-$(dirname "$(rt doc)")/c/liblibc_c.a}
 for it in "$lib/libcanon_c.a" "$heap"; do
     [ -f "$it" ] || { echo "missing: $it (rt lib in crates/canon_c makes libcanon_c.a, the kit has liblibc_c.a)" >&2; exit 1; }
@@ -89,4 +90,4 @@ cargo_run() {
 cargo_run test > "$made/out" 2>&1 || { cat "$made/out" >&2; exit 1; }
 echo "Rust, tests: passed"
 cargo_run build --release --features guest --examples
-says "Rust" "$here/rust/canon/examples/expected" "$made/target/release/examples/demo"
+says "Rust, an engine in C" "$here/rust/canon/examples/expected" "$made/target/release/examples/demo"
