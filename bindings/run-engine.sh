@@ -41,7 +41,7 @@ build() {
     mkdir -p "$to"
     flags="-O2 -g -DWASM_RT_MEMCHECK_SIGNAL_HANDLER=0 -I$made $2"
     strict="-std=c11 -Wall -Wextra -Werror"
-    for it in canon native first demo session hostile time; do
+    for it in canon native first demo session threads hostile time; do
         gcc $strict $flags -c $it.c -o "$to/$it.o"
     done
     gcc -std=c99 -pedantic -Wall -Wextra -Werror -fsyntax-only first.c
@@ -53,6 +53,7 @@ build() {
     gcc $flags -o "$to/first" "$to/first.o" "$to/canon.o" $native "$made/libcanon_channel.a" "$heap"
     gcc $flags -o "$to/demo" "$to/demo.o" "$to/canon.o" $native "$made/libcanon_channel.a" "$heap"
     gcc $flags -o "$to/session" "$to/session.o" "$to/canon.o" $native "$made/libcanon_channel.a" "$heap"
+    gcc $flags -o "$to/threads_run" "$to/threads.o" "$to/canon.o" "$made/libcanon_channel.a" "$heap" -pthread
     gcc $flags -o "$to/hostile_run" "$to/hostile.o" "$to/canon.o" "$made/libhostile.a" "$heap"
     gcc $flags -o "$to/piped_run" "$to/demo.o" "$to/canon_piped.o" "$to/piped.o" $native "$lib/libcanon_c.a" "$heap" -pthread
     g++ $flags -o "$to/demo_interp" "$to/demo.o" "$to/canon.o" "$to/interp.o" "$made/libcanon_channel.a" "$heap" -lwabt
@@ -75,6 +76,7 @@ programs() {
     says "$1, the library over descriptors, in a thread" expected env CANON_PIPED=thread "$made/$1/piped_run"
     says "$1, the library over descriptors, in a process" expected env CANON_PIPED=process "$made/$1/piped_run"
     says "$1, a session without a stack of its own" session.expected "$made/$1/session"
+    says "$1, several threads" threads.expected "$made/$1/threads_run"
     says "$1, lies" hostile.expected "$made/$1/hostile_run"
 }
 
