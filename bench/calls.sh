@@ -3,6 +3,8 @@
 # rounds. It is no part of the gate: it proves the tree of a commit (HEAD where none is named) and a program that calls in a folder of
 # its own, which takes as long as a first gate.
 #
+# What is missing: so far the program was only compiled and run without its proof, so `rt run` may want a clause or a lemma more.
+#
 #   bench/calls.sh [COMMIT]
 set -e
 top=$(CDPATH= cd -- "$(dirname -- "$0")/.." && pwd)

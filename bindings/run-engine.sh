@@ -13,6 +13,7 @@ needs objcopy binutils
 needs gcc gcc
 needs g++ g++
 [ -z "$missing" ] || { echo "missing: apt-get install$missing" >&2; exit 1; }
+[ "$(wasm2c --version)" = 1.0.32 ] || echo "native.c is for the C that wasm2c 1.0.32 makes; this is $(wasm2c --version)" >&2
 heap=${CANON_HEAP:-$(dirname "$(rt doc)")/c/liblibc_c.a}
 for it in "$lib/libcanon_c.a" "$heap"; do
     [ -f "$it" ] || { echo "missing: $it (rt lib in crates/canon_c makes libcanon_c.a, the kit has liblibc_c.a)" >&2; exit 1; }
@@ -40,7 +41,7 @@ build() {
     mkdir -p "$to"
     flags="-O2 -g -DWASM_RT_MEMCHECK_SIGNAL_HANDLER=0 -I$made $2"
     strict="-std=c11 -Wall -Wextra -Werror"
-    for it in canon native first demo session hostile time; do
+    for it in canon native first demo session threads hostile time; do
         gcc $strict $flags -c $it.c -o "$to/$it.o"
     done
     gcc -std=c99 -pedantic -Wall -Wextra -Werror -fsyntax-only first.c
@@ -52,6 +53,7 @@ build() {
     gcc $flags -o "$to/first" "$to/first.o" "$to/canon.o" $native "$made/libcanon_channel.a" "$heap"
     gcc $flags -o "$to/demo" "$to/demo.o" "$to/canon.o" $native "$made/libcanon_channel.a" "$heap"
     gcc $flags -o "$to/session" "$to/session.o" "$to/canon.o" $native "$made/libcanon_channel.a" "$heap"
+    gcc $flags -o "$to/threads_run" "$to/threads.o" "$to/canon.o" "$made/libcanon_channel.a" "$heap" -pthread
     gcc $flags -o "$to/hostile_run" "$to/hostile.o" "$to/canon.o" "$made/libhostile.a" "$heap"
     gcc $flags -o "$to/piped_run" "$to/demo.o" "$to/canon_piped.o" "$to/piped.o" $native "$lib/libcanon_c.a" "$heap" -pthread
     g++ $flags -o "$to/demo_interp" "$to/demo.o" "$to/canon.o" "$to/interp.o" "$made/libcanon_channel.a" "$heap" -lwabt
@@ -74,6 +76,7 @@ programs() {
     says "$1, the library over descriptors, in a thread" expected env CANON_PIPED=thread "$made/$1/piped_run"
     says "$1, the library over descriptors, in a process" expected env CANON_PIPED=process "$made/$1/piped_run"
     says "$1, a session without a stack of its own" session.expected "$made/$1/session"
+    says "$1, several threads" threads.expected "$made/$1/threads_run"
     says "$1, lies" hostile.expected "$made/$1/hostile_run"
 }
 
@@ -89,4 +92,4 @@ cargo_run() {
 cargo_run test > "$made/out" 2>&1 || { cat "$made/out" >&2; exit 1; }
 echo "Rust, tests: passed"
 cargo_run build --release --features guest --examples
-says "Rust" "$here/rust/canon/examples/expected" "$made/target/release/examples/demo"
+says "Rust, an engine in C" "$here/rust/canon/examples/expected" "$made/target/release/examples/demo"

@@ -1,5 +1,5 @@
 /* Times calls of guest.c's component: by canon_call, in a session, and of the engine alone with no host side, which writes the parameter into memory and starts
- * the function. Prints the nanoseconds of a call, in the best of ROUNDS rounds of some calls one after another. */
+ * the function. Prints the nanoseconds of a call, in the best of some rounds of calls one after another. */
 #define _POSIX_C_SOURCE 199309L
 #include "../canon.h"
 #include "component.h"
@@ -16,14 +16,15 @@ typedef struct {
   uint32_t export_number;
   size_t len; /* of the text or list, if it has one */
   uint32_t calls; /* of a round */
+  int rounds;
 } subject;
 
 static const subject subjects[] = {
-    {"same(u32, s8) -> bool", SAME, 0, 1000},
-    {"length(string of 16 bytes)", LENGTH, 16, 1000},
-    {"length(string of 1 KiB)", LENGTH, 1024, 500},
-    {"length(string of 1 MiB)", LENGTH, 1048576, 1},
-    {"sum(list<u8> of 1 MiB)", SUM, 1048576, 1},
+    {"same(u32, s8) -> bool", SAME, 0, 100, 1000},
+    {"length(string of 16 bytes)", LENGTH, 16, 100, 1000},
+    {"length(string of 1 KiB)", LENGTH, 1024, 100, 1000},
+    {"length(string of 1 MiB)", LENGTH, 1048576, 1, 100},
+    {"sum(list<u8> of 1 MiB)", SUM, 1048576, 1, 15},
 };
 
 static double now(void) {
@@ -48,8 +49,6 @@ static canon_setup setup_of(void *engine) {
   return setup;
 }
 
-static int rounds = 50;
-
 static double least(double a, double b) { return a < b ? a : b; }
 
 static double by_store(const subject *it) {
@@ -59,7 +58,7 @@ static double by_store(const subject *it) {
   canon_bytes params = image_of(it), results = {0}, marks = {0};
   double best = 1e18;
   if (!s) exit(1);
-  for (int r = 0; r < rounds; r++) {
+  for (int r = 0; r < it->rounds; r++) {
     double from = now();
     for (uint32_t i = 0; i < it->calls; i++)
       if (canon_call(s, it->export_number, params.bytes, params.len, &results, NULL) != CANON_OK) exit(1);
@@ -87,7 +86,7 @@ static bool next(void *data, const canon_answer *last, canon_command *command) {
     s->best = least(s->best, now() - s->from);
     s->calls = 0;
     command->what = CANON_DO_MARKS;
-    return ++s->round < rounds;
+    return ++s->round < s->of->rounds;
   }
   if (s->calls++ == 0) s->from = now();
   command->what = CANON_DO_CALL;
@@ -118,7 +117,7 @@ static double by_engine(const subject *it) {
   double best = 1e18;
   if (!e->instantiate(engine, &m)) exit(1);
   m.len = LEN;
-  for (int r = 0; r < rounds; r++) {
+  for (int r = 0; r < it->rounds; r++) {
     double from = now();
     for (uint32_t i = 0; i < it->calls; i++) {
       uint64_t words[2] = {7, 7};
@@ -139,8 +138,6 @@ static double by_engine(const subject *it) {
 }
 
 int main(void) {
-  const char *asked = getenv("ROUNDS");
-  if (asked) rounds = atoi(asked);
   printf("%-28s %14s %14s %14s\n", "ns a call", "canon_call", "session", "engine alone");
   for (size_t i = 0; i < sizeof subjects / sizeof *subjects; i++) {
     const subject *it = &subjects[i];

@@ -1,3 +1,4 @@
+pub mod Calling
 pub mod Passing
 pub mod Sessions
 pub mod Unlogged

@@ -1,5 +1,5 @@
 -- What a command does in a store whose code runs in an engine.
-use Rattle.std.specs.Prelude.{Bool, Err, IfSome, IsNone, IsUtf8, List, None, Ok, OnErr, OnOk, Option, Result, Some, Vec, [], false, if◌then◌else◌, length, map, slice_get, true, ℕ, ⊤, ◌+◌, ◌*◌, ◌++◌, ◌<◌, ◌∷◌, ◌≡◌, ◌≤◌, ◌⊎◌}
+use Rattle.std.specs.Prelude.{Bool, Err, IfSome, IsNone, IsUtf8, List, None, Ok, OnErr, OnOk, Option, Result, Some, Vec, [], false, if◌then◌else◌, length, map, slice_get, true, ℕ, ◌+◌, ◌++◌, ◌<◌, ◌^◌, ◌∷◌, ◌≡◌, ◌≤◌, ◌⊎◌}
 use Rattle.std.specs.declared.alloc.Global.{Global}
 use Rattle.canon_image_parts.specs.Read.{IsRead}
 use Rattle.canon_image_parts.specs.Written.{IsImaged}
@@ -148,7 +148,11 @@ module _ {E H : Type 0} (log : E → Option (List Message)) where
 
   abbrev pub CalledOf : Named → List ℕ → EngineStore E H → EngineStore E H → Answer → Option TypeFunc → Type 0
   CalledOf f bytes store store2 a (Some t) = CalledBy f t bytes store store2 a (has_no_handle (results_shape store t))
-  CalledOf f bytes store store2 a None = Idle store store2 a (answer.Senseless senseless.NoExport)
+  CalledOf f bytes store store2 a None = ⊥
+
+  -- the component has an export of this number
+  abbrev pub HasExport : EngineStore E H → ℕ → Type 0
+  HasExport store export = (export < 2 ^ 32) × (export < length store.core.component.exports.items)
 
   abbrev pub without_marks : EngineStore E H → EngineStore E H
   without_marks store = record store { core = record store.core { guest = record store.core.guest { marks = [] } } }
@@ -158,10 +162,16 @@ module _ {E H : Type 0} (log : E → Option (List Message)) where
   abbrev pub named : EngineStore E H → ℕ → Named
   named store export = record { store = store.core.id; export = export }
 
+  -- the export of a number was called, or there is none
+  abbrev pub CalledAt : ℕ → List ℕ → EngineStore E H → EngineStore E H → Answer → Type 0
+  CalledAt export bytes store store2 a =
+      (HasExport store export × CalledOf (named store export) bytes store store2 a (type_of store (named store export)))
+      ⊎ ((HasExport store export → ⊥) × Idle store store2 a (answer.Senseless senseless.NoExport))
+
   -- What was answered to a command, and what it left: a call by the export of that number, if there is one; how many handles live; the marks since
   -- the last time, which are forgotten then.
   abbrev pub CarriesOut : Command → EngineStore E H → EngineStore E H → Answer → Type 0
-  CarriesOut (command.Call export params) store store2 a = CalledOf (named store export) params.items store store2 a (type_of store (named store export))
+  CarriesOut (command.Call export params) store store2 a = CalledAt export params.items store store2 a
   CarriesOut command.Live store store2 a = IsDone (number_bytes store.core.ledger.handles.counter.live) a × (store2 ≡ store)
   CarriesOut command.Marks store store2 a = IsDone (map mark_byte store.core.guest.marks) a × (store2 ≡ without_marks store)
   CarriesOut command.End store store2 a = Idle store store2 a (answer.Senseless senseless.NoCommand)

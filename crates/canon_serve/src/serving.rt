@@ -1,6 +1,6 @@
 //! Hears commands and tells what came of them, until the session ends.
 
-ghost use Rattle.std.specs.Prelude.{◌≡◌, ◌≢◌, IfSome, IsNone};
+ghost use Rattle.std.specs.Prelude.{◌≡◌, ◌≢◌, IfSome, IsNone, None, Some, if◌then◌else◌};
 ghost use Rattle.canon_relay.specs.Relay.{Passes};
 ghost use Rattle.canon_serve.specs.Carries.{IsCut, IsSession, ServesOne, ServesUntil};
 
@@ -114,19 +114,19 @@ fn serve_next<E: Channel, H: Channel, P: Channel>(
     ensures one { IsNone result → ServesOne E.log (P.log caller.old) (P.log caller.new) store.old store.new }
     ensures cut { IfSome result (λ why. Passes (P.log caller.old) (P.log caller.new) (IsCut why)) }
 {
-    let command = match hear_command(alloc, caller) {
-        Ok(command) => command,
-        Err(why) => return Some(unheard(why)),
-    };
-    if matches!(command, Command::End) {
-        return Some(End::Asked);
+    match hear_command(alloc, caller) {
+        Ok(Command::End) => Some(End::Asked),
+        Ok(command) => match carry_out(alloc, store, &command) {
+            Ok(answer) => told_end(tell_answer(alloc, caller, &answer)),
+            Err(_) => Some(End::OutOfMemory),
+        },
+        Err(why) => Some(unheard(why)),
     }
-    let Ok(answer) = carry_out(alloc, store, &command) else {
-        return Some(End::OutOfMemory);
-    };
-    if tell_answer(alloc, caller, &answer) {
-        None
-    } else {
-        Some(End::Broken)
-    }
+}
+
+/// How the session ends where an answer wasn't told.
+fn told_end(is_told: bool) -> Option<End>
+    ensures { result ≡ (if is_told then None else Some End.Broken) }
+{
+    if is_told { None } else { Some(End::Broken) }
 }

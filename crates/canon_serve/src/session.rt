@@ -1,12 +1,12 @@
 //! Carries out a command in a store.
 
-ghost use Rattle.std.specs.Prelude.{◌≡◌, ◌++◌, ◌<◌, IfOk, IfSome, IsNone, IsTrue, Ok, OnOk, Some, length, map, true};
+ghost use Rattle.std.specs.Prelude.{◌≡◌, IfOk, IfSome, IsNone, IsSome, Ok, length, map};
 ghost use Rattle.canon_types.specs.Table.{types_of};
 ghost use Rattle.canon_func.specs.Stores.{IsOwned, type_of};
 ghost use Rattle.canon_context.specs.Core.{component_types};
 ghost use Rattle.canon_plan.specs.NoHandle.{has_no_handle};
 ghost use Rattle.canon_relay.specs.Wire.{number_bytes};
-ghost use Rattle.canon_serve.specs.Carries.{CalledBy, CalledOf, Calls, CarriesOut, IsDone, IsReadParams, IsSenseless, TellsCall, WasCalled, mark_byte, named, results_shape, without_marks};
+ghost use Rattle.canon_serve.specs.Carries.{CalledAt, CalledBy, Calls, HasExport, CarriesOut, IsDone, IsReadParams, IsSenseless, TellsCall, WasCalled, mark_byte, named, results_shape, without_marks};
 
 use crate::answer::{Answer, Senseless};
 use crate::command::Command;
@@ -47,7 +47,7 @@ fn call<E: Channel, H: Channel>(
     export: u64,
     params: &[u8],
 ) -> Result<Answer, OutOfMemory>
-    ensures { IfOk result (λ answer. CalledOf E.log (named E.log store.old export) params.now store.old store.new answer (type_of store.old (named E.log store.old export))) }
+    ensures { IfOk result (λ answer. CalledAt E.log export params.now store.old store.new answer) }
 {
     let Some(func) = func_of(store, export) else {
         return Ok(Answer::Senseless(Senseless::NoExport));
@@ -57,13 +57,19 @@ fn call<E: Channel, H: Channel>(
 
 /// The function of an export.
 fn func_of<E: Channel, H: Channel>(store: &EngineStore<E, H>, export: u64) -> Option<Func>
-    ensures found { IfSome result (λ f. (f ≡ named E.log store.now export) × IsOwned store.now f) }
-    ensures none { IsNone result → IsNone (type_of store.now (named E.log store.now export)) }
+    ensures found { IfSome result (λ f. (f ≡ named E.log store.now export) × IsOwned store.now f × HasExport E.log store.now export × IsSome (type_of store.now f)) }
+    ensures none { IsNone result → HasExport E.log store.now export → ⊥ }
 {
     if export > 0xffff_ffff {
         return None;
     }
-    store.func(ExportIndex::from_u32(export as u32))
+    match store.func(ExportIndex::from_u32(export as u32)) {
+        Some(func) => {
+            let _ty = func.ty(store); // it has a type of the table
+            Some(func)
+        }
+        None => None,
+    }
 }
 
 /// Calls a function with the parameters of an image.

@@ -10,7 +10,7 @@ use std::cell::Cell;
 use std::rc::Rc;
 use std::time::{Duration, Instant};
 
-const ROUNDS: u32 = 50;
+const ROUNDS: u32 = 300;
 const SAME: u32 = 5;
 const LENGTH: u32 = 6;
 
@@ -74,10 +74,10 @@ fn main() -> Result<(), Error> {
             "same(u32, s8) -> bool",
             SAME,
             &[Value::U32(7), Value::S8(7)][..],
-            200,
+            100,
         ),
-        ("length(string of 16 bytes)", LENGTH, &text(16)[..], 200),
-        ("length(string of 1 KiB)", LENGTH, &text(1024)[..], 200),
+        ("length(string of 16 bytes)", LENGTH, &text(16)[..], 100),
+        ("length(string of 1 KiB)", LENGTH, &text(1024)[..], 100),
         ("length(string of 1 MiB)", LENGTH, &text(1 << 20)[..], 1),
     ] {
         let (a, b) = (
