@@ -1,0 +1,5 @@
+pub mod Blocks
+pub mod Bytes
+pub mod Doing
+pub mod Guests
+pub mod Passing

@@ -1,0 +1,5 @@
+pub mod Lawful
+pub mod Leaves
+pub mod Moves
+pub mod Passing
+pub mod Replaying
