@@ -5,15 +5,19 @@ use Rattle.canon_memory.specs.declared.event.Event.TheVariants as event
 use Rattle.canon_recording_parts.specs.Format.{Format, also, any_number, as_, block, counted, none, number, then_}
 
 -- words by their number
-abbrev pub words : Format (List ℕ)
-words = counted 4 (any_number 8)
+abbrev pub word_list : Format (List ℕ)
+word_list = counted 4 (any_number 8)
 
--- bytes by their number; they are one field
-abbrev pub bytes : Format (List ℕ)
-bytes = then_ 8 (λ n. ⊤) (λ n. block (λ xs bs. bs ≡ xs) n)
+-- so many bytes, which stand for themselves: one field
+abbrev pub raw : ℕ → Format (List ℕ)
+raw n = block (λ xs bs. bs ≡ xs) n
+
+-- bytes by their number
+abbrev pub byte_list : Format (List ℕ)
+byte_list = then_ 8 (λ n. ⊤) raw
 
 abbrev pub words_and_memory : Format (List ℕ × List ℕ)
-words_and_memory = also words bytes
+words_and_memory = also word_list byte_list
 
 abbrev pub start_event : ℕ × (List ℕ × List ℕ) → Event
 start_event x = event.Start x.0 x.1.0 x.1.1
@@ -44,7 +48,7 @@ tagged imports (suc zero) = as_ ask_event (also (number 4 (λ n. n < imports)) w
 tagged imports (suc (suc zero)) = as_ resume_event words_and_memory
 tagged imports (suc (suc (suc zero))) = as_ return_event words_and_memory
 tagged imports (suc (suc (suc (suc zero)))) = as_ realloc_event request
-tagged imports (suc (suc (suc (suc (suc zero))))) = as_ post_event (also (any_number 4) words)
+tagged imports (suc (suc (suc (suc (suc zero))))) = as_ post_event (also (any_number 4) word_list)
 tagged imports _ = none
 
 -- a tag in one byte, and what stands behind it
@@ -53,17 +57,17 @@ an_event imports = then_ 1 (λ n. n < 6) (tagged imports)
 
 -- the tag of an event; a destructor and a trap have none
 abbrev pub tag_of : Event → ℕ
-tag_of (event.Start func words memory) = 0
-tag_of (event.Ask index words memory) = 1
-tag_of (event.Resume words memory) = 2
-tag_of (event.Return words memory) = 3
+tag_of (event.Start func ws memory) = 0
+tag_of (event.Ask index ws memory) = 1
+tag_of (event.Resume ws memory) = 2
+tag_of (event.Return ws memory) = 3
 tag_of (event.Realloc old old_size align new_size answer) = 4
-tag_of (event.Post func words) = 5
+tag_of (event.Post func ws) = 5
 tag_of _ = 6
 
 -- the event has a tag, and where it is an ask, the import has a number below `imports`
 abbrev pub IsWritten : ℕ → Event → Type 0
-IsWritten imports (event.Ask index words memory) = index < imports
+IsWritten imports (event.Ask index ws memory) = index < imports
 IsWritten imports (event.Dtor func rep) = ⊥
 IsWritten imports (event.Trap asked len) = ⊥
 IsWritten imports _ = ⊤

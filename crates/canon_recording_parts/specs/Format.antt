@@ -84,8 +84,11 @@ each F [] = nothing
 each F (i ∷ is) = before (F i) (each F is)
 
 -- n of them in a row
+abbrev pub times : ℕ → List (Unit {0})
+times n = replicate n tt
+
 abbrev pub row : {A : Type 0} → Format A → ℕ → Format (List A)
-row F n = each (λ (u : Unit {0}). F) (replicate n tt)
+row F n = each (λ u. F) (times n)
 
 -- their number in k bytes, and they
 abbrev pub counted : {A : Type 0} → ℕ → Format A → Format (List A)

@@ -1,7 +1,7 @@
 //! Events read from their bytes, field by field.
 
 ghost use Rattle.std.specs.Prelude.{◌<◌, ◌≤◌, length};
-ghost use Rattle.canon_recording_parts.specs.Events.{an_event, bytes, tagged, words, words_and_memory};
+ghost use Rattle.canon_recording_parts.specs.Events.{an_event, byte_list, tagged, word_list, words_and_memory};
 ghost use Rattle.canon_recording_parts.specs.Format.{any_number, counted, number, row};
 ghost use Rattle.canon_recording_parts.specs.Read.{ReadsTo, seen_as};
 
@@ -191,7 +191,7 @@ fn read_words_and_memory(
 /// Words, by their number.
 fn read_words(alloc: Global, bytes: &[u8], at: &mut u64) -> Result<Words, ReplayError>
     requires inside { at.old ≤ length bytes.now }
-    ensures reads { ReadsTo words bytes.now at.old at.new result }
+    ensures reads { ReadsTo word_list bytes.now at.old at.new result }
 {
     match read_u32(bytes, at) {
         Ok(count) => read_word_row(alloc, bytes, at, count),
@@ -225,7 +225,7 @@ fn read_word_row(
 /// A memory, by its length.
 fn read_memory(alloc: Global, bytes: &[u8], at: &mut u64) -> Result<Bytes, ReplayError>
     requires inside { at.old ≤ length bytes.now }
-    ensures reads { ReadsTo bytes bytes.now at.old at.new result }
+    ensures reads { ReadsTo byte_list bytes.now at.old at.new result }
 {
     match read_bytes(bytes, at) {
         Ok(memory) => match Bytes::from_slice(alloc, memory) {
@@ -239,7 +239,7 @@ fn read_memory(alloc: Global, bytes: &[u8], at: &mut u64) -> Result<Bytes, Repla
 /// Bytes, by their number.
 pub fn read_bytes<'a>(bytes: &'a [u8], at: &mut u64) -> Result<&'a [u8], ReplayError>
     requires inside { at.old ≤ length bytes.now }
-    ensures reads { ReadsTo bytes bytes.now at.old at.new (seen_as (λ b. b.now) result) }
+    ensures reads { ReadsTo byte_list bytes.now at.old at.new (seen_as (λ b. b.now) result) }
 {
     match read_u64(bytes, at) {
         Ok(count) => {

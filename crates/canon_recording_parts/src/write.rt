@@ -1,8 +1,8 @@
 //! Events written as bytes, field by field, at the end of some bytes.
 
-ghost use Rattle.std.specs.Prelude.{All, List, ℕ, ◌≡◌, length};
-ghost use Rattle.canon_recording_parts.specs.Events.{IsWritten, an_event, bytes, request, tag_of, tagged, words, words_and_memory};
-ghost use Rattle.canon_recording_parts.specs.Format.{also, any_number, block, counted, row};
+ghost use Rattle.std.specs.Prelude.{All, ◌≡◌, length};
+ghost use Rattle.canon_recording_parts.specs.Events.{IsWritten, an_event, byte_list, raw, request, tag_of, tagged, word_list, words_and_memory};
+ghost use Rattle.canon_recording_parts.specs.Format.{also, any_number, counted, row};
 ghost use Rattle.canon_recording_parts.specs.Written.{WritesTo};
 
 use crate::ReplayError;
@@ -120,7 +120,7 @@ fn put_words_and_memory(
 }
 
 fn put_post(bytes: &mut Vec<u8>, func: u32, words: &[ValRaw]) -> Result<(), ReplayError>
-    ensures writes { WritesTo (also (any_number 4) words) (func, words.now) bytes.old.items bytes.new.items result }
+    ensures writes { WritesTo (also (any_number 4) word_list) (func, words.now) bytes.old.items bytes.new.items result }
 {
     match put_u32(bytes, func) {
         Ok(()) => put_words(bytes, words),
@@ -160,7 +160,7 @@ fn put_pair(bytes: &mut Vec<u8>, first: u64, second: u64) -> Result<(), ReplayEr
 
 /// Adds words by their number.
 fn put_words(bytes: &mut Vec<u8>, words: &[ValRaw]) -> Result<(), ReplayError>
-    ensures writes { WritesTo words words.now bytes.old.items bytes.new.items result }
+    ensures writes { WritesTo word_list words.now bytes.old.items bytes.new.items result }
 {
     match put_count(bytes, words.len()) {
         Ok(()) => put_word_row(bytes, words),
@@ -182,7 +182,7 @@ fn put_word_row(bytes: &mut Vec<u8>, words: &[ValRaw]) -> Result<(), ReplayError
 
 /// Adds bytes by their number.
 pub fn put_bytes(bytes: &mut Vec<u8>, more: &[u8]) -> Result<(), ReplayError>
-    ensures writes { WritesTo bytes more.now bytes.old.items bytes.new.items result }
+    ensures writes { WritesTo byte_list more.now bytes.old.items bytes.new.items result }
 {
     match put_u64(bytes, more.len() as u64) {
         Ok(()) => append(bytes, more),
@@ -221,7 +221,7 @@ fn put_u64(bytes: &mut Vec<u8>, number: u64) -> Result<(), ReplayError>
 
 /// Adds bytes.
 pub fn append(bytes: &mut Vec<u8>, more: &[u8]) -> Result<(), ReplayError>
-    ensures writes { WritesTo (block {List ℕ} (λ xs bs. bs ≡ xs) (length more.now)) more.now bytes.old.items bytes.new.items result }
+    ensures writes { WritesTo (raw (length more.now)) more.now bytes.old.items bytes.new.items result }
 {
     if more.len() > LIMIT || bytes.len() > LIMIT - more.len() {
         return Err(ReplayError::TooLong);
