@@ -1,13 +1,13 @@
 -- No events' bytes begin those of others, and reading them stops at one place.
-use Rattle.std.proofs.Common.{List, [], ap, refl, suc, sym, zero, ℕ, ◌<◌, ◌∙◌, ◌≡◌}
+use Rattle.std.proofs.Common.{List, [], arith, ap, refl, suc, sym, zero, ℕ, ◌<◌, ◌∙◌, ◌≡◌}
 use Rattle.std.specs.Prelude.{⊤}
 use Rattle.canon_memory.specs.declared.event.Event.{Event}
 use Rattle.canon_memory.specs.declared.event.Event.TheVariants as event
 use Rattle.canon_recording_parts.proofs.Formats.{also_sound, as_sound, counted_sound, none_sound, number_sound, sized_sound, then_sound}
 use Rattle.canon_recording_parts.specs.Format.{IsFormat, also, any_number, counted, number}
-use Rattle.canon_recording_parts.specs.Events.{an_event, ask_event, byte_list, post_event, realloc_event, request, resume_event, return_event, start_event, tag_of, tagged, word_list, words_and_memory}
+use Rattle.canon_recording_parts.specs.Events.{IsWritten, an_event, ask_event, byte_list, post_event, realloc_event, request, resume_event, return_event, start_event, tag_of, tagged, two_numbers, word_list, words_and_memory}
 
-any_sound : (k : ℕ) → IsFormat (any_number k)
+pub any_sound : (k : ℕ) → IsFormat (any_number k)
 any_sound k = number_sound k (λ n. ⊤)
 
 pub words_sound : IsFormat word_list
@@ -29,9 +29,9 @@ numbered_in (event.Return ws memory) = (0, (ws, memory))
 numbered_in (event.Post func ws) = (func, (ws, ws))
 numbered_in _ = (0, ([], []))
 
-abbrev request_in : Event → ℕ × (ℕ × (ℕ × (ℕ × ℕ)))
-request_in (event.Realloc old old_size align new_size answer) = (old, (old_size, (align, (new_size, answer))))
-request_in _ = (0, (0, (0, (0, 0))))
+abbrev request_in : Event → (ℕ × ℕ) × (ℕ × (ℕ × ℕ))
+request_in (event.Realloc old old_size align new_size answer) = ((old, old_size), (align, (new_size, answer)))
+request_in _ = ((0, 0), (0, (0, 0)))
 
 pub start_one : (x y : ℕ × (List ℕ × List ℕ)) → start_event x ≡ start_event y → x ≡ y
 start_one x y e = ap numbered_in e
@@ -45,20 +45,17 @@ resume_one x y e = ap (λ (v : Event). (numbered_in v).1) e
 pub return_one : (x y : List ℕ × List ℕ) → return_event x ≡ return_event y → x ≡ y
 return_one x y e = ap (λ (v : Event). (numbered_in v).1) e
 
-pub realloc_one : (x y : ℕ × (ℕ × (ℕ × (ℕ × ℕ)))) → realloc_event x ≡ realloc_event y → x ≡ y
+pub realloc_one : (x y : (ℕ × ℕ) × (ℕ × (ℕ × ℕ))) → realloc_event x ≡ realloc_event y → x ≡ y
 realloc_one x y e = ap request_in e
 
 pub post_one : (x y : ℕ × List ℕ) → post_event x ≡ post_event y → x ≡ y
 post_one x y e = ap (λ (v : Event). ((numbered_in v).0, (numbered_in v).1.0)) e
 
-pub pair_sound : IsFormat (also (any_number 8) (any_number 8))
+pub pair_sound : IsFormat two_numbers
 pair_sound = also_sound (any_number 8) (any_number 8) (any_sound 8) (any_sound 8)
 
 pub request_sound : IsFormat request
-request_sound =
-    let three = also_sound (any_number 4) (also (any_number 8) (any_number 8)) (any_sound 4) pair_sound in
-    let four = also_sound (any_number 8) (also (any_number 4) (also (any_number 8) (any_number 8))) (any_sound 8) three in
-    also_sound (any_number 8) (also (any_number 8) (also (any_number 4) (also (any_number 8) (any_number 8)))) (any_sound 8) four
+request_sound = also_sound two_numbers (also (any_number 4) two_numbers) pair_sound (also_sound (any_number 4) two_numbers (any_sound 4) pair_sound)
 
 module _ (imports : ℕ) where
   tagged_sound : (n : ℕ) → IsFormat (tagged imports n)
@@ -70,7 +67,7 @@ module _ (imports : ℕ) where
   tagged_sound (suc (suc (suc (suc (suc zero))))) = as_sound post_event (also (any_number 4) word_list) (also_sound (any_number 4) word_list (any_sound 4) words_sound) post_one
   tagged_sound (suc (suc (suc (suc (suc (suc n)))))) = none_sound
 
-  tag_is : (n : ℕ) (e : Event) (xs : List ℕ) → (tagged imports n).writes e xs → tag_of e ≡ n
+  pub tag_is : (n : ℕ) (e : Event) (xs : List ℕ) → (tagged imports n).writes e xs → tag_of e ≡ n
   tag_is zero e xs (x, is, h) = ap tag_of is
   tag_is (suc zero) e xs (x, is, h) = ap tag_of is
   tag_is (suc (suc zero)) e xs (x, is, h) = ap tag_of is
@@ -84,3 +81,13 @@ module _ (imports : ℕ) where
 
   pub events_sound : (k : ℕ) → IsFormat (counted k (an_event imports))
   events_sound k = counted_sound (an_event imports) k event_sound
+
+pub tag_small : (imports : ℕ) (e : Event) → IsWritten imports e → tag_of e < 6
+tag_small imports (event.Start func ws memory) h = omega arith
+tag_small imports (event.Ask index ws memory) h = omega arith
+tag_small imports (event.Resume ws memory) h = omega arith
+tag_small imports (event.Return ws memory) h = omega arith
+tag_small imports (event.Realloc old old_size align new_size answer) h = omega arith
+tag_small imports (event.Post func ws) h = omega arith
+tag_small imports (event.Dtor func rep) h = absurd h
+tag_small imports (event.Trap asked len) h = absurd h

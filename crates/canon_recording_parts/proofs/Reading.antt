@@ -34,6 +34,10 @@ taken bs at n room = record {
   inside = room;
 }
 
+-- a thing that was read ends inside
+pub ok_inside : {A : Type 0} (F : Format A) (bs : List ℕ) (from to : ℕ) (a : A) → ReadsTo F bs from to (Ok a) → to ≤ length bs
+ok_inside F bs from to a (xs, s, h) = s.inside
+
 -- ---- how a reading stops
 
 -- where each stop of one is one of the other, later or at the same place
@@ -82,6 +86,12 @@ module _ {B : Type 0} (k : ℕ) (Good : ℕ → Type 0) (G : ℕ → Format B) (
 
   pub then_stops : (n : ℕ) (e : ReplayError) → ReadsTo (number k Good) bs from mid (Ok n) → ReadsTo (G n) bs mid to (Err e) → ReadsTo (then_ k Good G) bs from at (Err e)
   then_stops n e (xs, s, (good, f)) g = stops_along (G n) (then_ k Good G) bs from mid to at e
+      (λ j p is h. (k + j, omega (arith, is, s.to_is, field_length k n xs [] f), inr (n, drop mid bs, j, good, field_here bs k n from mid xs s f, refl, h))) g
+
+  -- the rest, however it ends
+  pub rest_read : (n : ℕ) (result : Result B ReplayError) → ReadsTo (number k Good) bs from mid (Ok n) → ReadsTo (G n) bs mid to result → ReadsTo (then_ k Good G) bs from to result
+  rest_read n (Ok b) h g = then_read n b h g
+  rest_read n (Err e) (xs, s, (good, f)) g = stops_along (G n) (then_ k Good G) bs from mid to to e
       (λ j p is h. (k + j, omega (arith, is, s.to_is, field_length k n xs [] f), inr (n, drop mid bs, j, good, field_here bs k n from mid xs s f, refl, h))) g
 
 -- ---- a number

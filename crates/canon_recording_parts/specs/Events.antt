@@ -31,15 +31,18 @@ resume_event x = event.Resume x.0 x.1
 abbrev pub return_event : List ℕ × List ℕ → Event
 return_event x = event.Return x.0 x.1
 
-abbrev pub realloc_event : ℕ × (ℕ × (ℕ × (ℕ × ℕ))) → Event
-realloc_event x = event.Realloc x.0 x.1.0 x.1.1.0 x.1.1.1.0 x.1.1.1.1
+abbrev pub realloc_event : (ℕ × ℕ) × (ℕ × (ℕ × ℕ)) → Event
+realloc_event x = event.Realloc x.0.0 x.0.1 x.1.0 x.1.1.0 x.1.1.1
 
 abbrev pub post_event : ℕ × List ℕ → Event
 post_event x = event.Post x.0 x.1
 
--- the four numbers of a request, and its answer
-abbrev pub request : Format (ℕ × (ℕ × (ℕ × (ℕ × ℕ))))
-request = also (any_number 8) (also (any_number 8) (also (any_number 4) (also (any_number 8) (any_number 8))))
+abbrev pub two_numbers : Format (ℕ × ℕ)
+two_numbers = also (any_number 8) (any_number 8)
+
+-- the old address and the old size; the alignment, and the new size and the answer
+abbrev pub request : Format ((ℕ × ℕ) × (ℕ × (ℕ × ℕ)))
+request = also two_numbers (also (any_number 4) two_numbers)
 
 -- What stands behind a tag, of a guest that may ask for imports of numbers below `imports`.
 abbrev pub tagged : ℕ → ℕ → Format Event

@@ -1,8 +1,8 @@
 //! Events read from their bytes, field by field.
 
 ghost use Rattle.std.specs.Prelude.{◌<◌, ◌≤◌, length};
-ghost use Rattle.canon_recording_parts.specs.Events.{an_event, byte_list, tagged, word_list, words_and_memory};
-ghost use Rattle.canon_recording_parts.specs.Format.{any_number, counted, number, row};
+ghost use Rattle.canon_recording_parts.specs.Events.{an_event, byte_list, tagged, two_numbers, word_list, words_and_memory};
+ghost use Rattle.canon_recording_parts.specs.Format.{also, any_number, counted, number, row};
 ghost use Rattle.canon_recording_parts.specs.Read.{ReadsTo, seen_as};
 
 use crate::ReplayError;
@@ -143,18 +143,47 @@ fn read_realloc(bytes: &[u8], at: &mut u64) -> Result<Event, ReplayError>
     requires inside { at.old ≤ length bytes.now }
     ensures reads { ReadsTo (tagged 0 4) bytes.now at.old at.new result }
 {
-    let old = read_u64(bytes, at)?;
-    let old_size = read_u64(bytes, at)?;
-    let align = read_u32(bytes, at)?;
-    let new_size = read_u64(bytes, at)?;
-    let answer = read_u64(bytes, at)?;
-    Ok(Event::Realloc {
-        old,
-        old_size,
-        align,
-        new_size,
-        answer,
-    })
+    match read_pair(bytes, at) {
+        Ok((old, old_size)) => match read_answer(bytes, at) {
+            Ok((align, (new_size, answer))) => Ok(Event::Realloc {
+                old,
+                old_size,
+                align,
+                new_size,
+                answer,
+            }),
+            Err(error) => Err(error),
+        },
+        Err(error) => Err(error),
+    }
+}
+
+/// An alignment, and a new size and an answer.
+fn read_answer(bytes: &[u8], at: &mut u64) -> Result<(u32, (u64, u64)), ReplayError>
+    requires inside { at.old ≤ length bytes.now }
+    ensures reads { ReadsTo (also (any_number 4) two_numbers) bytes.now at.old at.new result }
+{
+    match read_u32(bytes, at) {
+        Ok(align) => match read_pair(bytes, at) {
+            Ok(pair) => Ok((align, pair)),
+            Err(error) => Err(error),
+        },
+        Err(error) => Err(error),
+    }
+}
+
+/// Two numbers of 8 bytes each.
+fn read_pair(bytes: &[u8], at: &mut u64) -> Result<(u64, u64), ReplayError>
+    requires inside { at.old ≤ length bytes.now }
+    ensures reads { ReadsTo two_numbers bytes.now at.old at.new result }
+{
+    match read_u64(bytes, at) {
+        Ok(first) => match read_u64(bytes, at) {
+            Ok(second) => Ok((first, second)),
+            Err(error) => Err(error),
+        },
+        Err(error) => Err(error),
+    }
 }
 
 fn read_post(alloc: Global, bytes: &[u8], at: &mut u64) -> Result<Event, ReplayError>

@@ -1,7 +1,7 @@
 //! Events written as bytes, field by field, at the end of some bytes.
 
 ghost use Rattle.std.specs.Prelude.{All, ◌≡◌, length};
-ghost use Rattle.canon_recording_parts.specs.Events.{IsWritten, an_event, byte_list, raw, request, tag_of, tagged, word_list, words_and_memory};
+ghost use Rattle.canon_recording_parts.specs.Events.{IsWritten, an_event, byte_list, raw, request, tag_of, tagged, two_numbers, word_list, words_and_memory};
 ghost use Rattle.canon_recording_parts.specs.Format.{also, any_number, counted, row};
 ghost use Rattle.canon_recording_parts.specs.Written.{WritesTo};
 
@@ -85,7 +85,7 @@ fn put_tagged(bytes: &mut Vec<u8>, event: &Event, imports: u64) -> Result<(), Re
             align,
             new_size,
             answer,
-        } => put_request(bytes, *old, *old_size, *align, *new_size, *answer),
+        } => put_request(bytes, (*old, *old_size), *align, (*new_size, *answer)),
         Event::Post { func, words } => put_post(bytes, *func, words.as_slice()),
         Event::Dtor { .. } | Event::Trap { .. } => unreachable!(),
     }
@@ -128,32 +128,36 @@ fn put_post(bytes: &mut Vec<u8>, func: u32, words: &[ValRaw]) -> Result<(), Repl
     }
 }
 
-/// Adds the four numbers of a request, and its answer.
+/// Adds an old address and size, an alignment, and a new size and an answer.
 fn put_request(
     bytes: &mut Vec<u8>,
-    old: u64,
-    old_size: u64,
+    old: (u64, u64),
     align: u32,
-    new_size: u64,
-    answer: u64,
+    new: (u64, u64),
 ) -> Result<(), ReplayError>
-    ensures writes { WritesTo request (old, (old_size, (align, (new_size, answer)))) bytes.old.items bytes.new.items result }
+    ensures writes { WritesTo request (old, (align, new)) bytes.old.items bytes.new.items result }
 {
-    match put_pair(bytes, old, old_size) {
-        Ok(()) => match put_u32(bytes, align) {
-            Ok(()) => put_pair(bytes, new_size, answer),
-            Err(error) => Err(error),
-        },
+    match put_pair(bytes, old) {
+        Ok(()) => put_answer(bytes, align, new),
+        Err(error) => Err(error),
+    }
+}
+
+fn put_answer(bytes: &mut Vec<u8>, align: u32, new: (u64, u64)) -> Result<(), ReplayError>
+    ensures writes { WritesTo (also (any_number 4) two_numbers) (align, new) bytes.old.items bytes.new.items result }
+{
+    match put_u32(bytes, align) {
+        Ok(()) => put_pair(bytes, new),
         Err(error) => Err(error),
     }
 }
 
 /// Adds two numbers in 8 bytes each.
-fn put_pair(bytes: &mut Vec<u8>, first: u64, second: u64) -> Result<(), ReplayError>
-    ensures writes { WritesTo (also (any_number 8) (any_number 8)) (first, second) bytes.old.items bytes.new.items result }
+fn put_pair(bytes: &mut Vec<u8>, pair: (u64, u64)) -> Result<(), ReplayError>
+    ensures writes { WritesTo two_numbers pair bytes.old.items bytes.new.items result }
 {
-    match put_u64(bytes, first) {
-        Ok(()) => put_u64(bytes, second),
+    match put_u64(bytes, pair.0) {
+        Ok(()) => put_u64(bytes, pair.1),
         Err(error) => Err(error),
     }
 }
