@@ -1,0 +1,6 @@
+pub mod Bytes
+pub mod Fields
+pub mod Formats
+pub mod Laws
+pub mod Reading
+pub mod Writing

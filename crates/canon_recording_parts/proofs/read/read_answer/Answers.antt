@@ -1,0 +1,14 @@
+use Rattle.std.proofs.Common.{arith, length, take, drop, refl, ap, subst, sym, ◌+◌, ◌-◌, ◌<◌, ◌≤◌, ◌≡◌, ◌∙◌, ℕ}
+use Rattle.canon_recording_parts.specs.Events.{an_event, ask_event, byte_list, post_event, raw, realloc_event, request, resume_event, return_event, start_event, tagged, two_numbers, word_list, words_and_memory}
+use Rattle.canon_recording_parts.specs.Format.{also, any_number, number, row}
+use Rattle.canon_recording_parts.proofs.Reading.{both_read, first_stops, second_stops}
+use Rattle.canon_recording_parts.proofs.read.read_answer.Goals as goal
+
+pub returns-in-Ok-read_pair : goal.returns-in-Ok-read_pair
+returns-in-Ok-read_pair c = record { reads = both_read (any_number 4) two_numbers c.args.bytes.now c.args.at.now c.read_u32.new.at c.read_pair.new.at c.read_pair.new.at c.in-Ok.align c.in-Ok-read_pair.pair c.in-Ok.ensures.reads c.in-Ok-read_pair.ensures.reads }
+
+pub returns-in-Err-read_pair : goal.returns-in-Err-read_pair
+returns-in-Err-read_pair c = record { reads = second_stops (any_number 4) two_numbers c.args.bytes.now c.args.at.now c.read_u32.new.at c.read_pair.new.at c.read_pair.new.at c.in-Ok.align c.in-Err-read_pair.error c.in-Ok.ensures.reads c.in-Err-read_pair.ensures.reads }
+
+pub returns-in-Err : goal.returns-in-Err
+returns-in-Err c = record { reads = first_stops (any_number 4) two_numbers c.args.bytes.now c.args.at.now c.read_u32.new.at c.read_u32.new.at c.read_u32.new.at c.in-Err.error c.in-Err.ensures.reads }

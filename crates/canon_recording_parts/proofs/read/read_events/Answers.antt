@@ -1,0 +1,12 @@
+use Rattle.std.proofs.Common.{arith, length, take, drop, refl, ap, subst, sym, ◌+◌, ◌-◌, ◌<◌, ◌≤◌, ◌≡◌, ◌∙◌, ℕ}
+use Rattle.std.specs.Prelude.{⊤}
+use Rattle.canon_recording_parts.specs.Events.{an_event, ask_event, byte_list, post_event, raw, realloc_event, request, resume_event, return_event, start_event, tagged, two_numbers, word_list, words_and_memory}
+use Rattle.canon_recording_parts.specs.Format.{also, any_number, number, row}
+use Rattle.canon_recording_parts.proofs.Reading.{number_stops, rest_read}
+use Rattle.canon_recording_parts.proofs.read.read_events.Goals as goal
+
+pub returns-in-Ok : goal.returns-in-Ok
+returns-in-Ok c = record { reads = rest_read 4 (λ n. ⊤) (row (an_event c.args.imports)) c.args.bytes.now c.args.at.now c.read_u32.new.at c.read_event_row.new.at c.read_u32.new.at c.in-Ok.count c.read_event_row.result c.in-Ok.ensures.reads c.read_event_row.ensures.reads }
+
+pub returns-in-Err : goal.returns-in-Err
+returns-in-Err c = record { reads = number_stops 4 (λ n. ⊤) (row (an_event c.args.imports)) c.args.bytes.now c.args.at.now c.read_u32.new.at c.read_u32.new.at c.read_u32.new.at c.in-Err.error c.in-Err.ensures.reads }

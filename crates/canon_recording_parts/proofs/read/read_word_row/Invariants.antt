@@ -1,0 +1,10 @@
+use Rattle.canon_recording_parts.specs.Events.{an_event, ask_event, byte_list, post_event, raw, realloc_event, request, resume_event, return_event, start_event, tagged, two_numbers, word_list, words_and_memory}
+use Rattle.canon_recording_parts.specs.Format.{also, any_number, number, row}
+use Rattle.canon_recording_parts.specs.Read.{AreRead}
+use Rattle.canon_recording_parts.proofs.read.read_word_row.Given as goal
+
+-- so many were read
+abbrev pub invariant-loop : goal.invariant-loop
+invariant-loop l = record {
+  read : AreRead (row (any_number 8) l.counter) l.bytes l.fn.at l.at l.words;
+}

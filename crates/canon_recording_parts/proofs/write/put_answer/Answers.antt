@@ -1,0 +1,12 @@
+use Rattle.std.proofs.Common.{arith, length, take, drop, refl, ap, subst, sym, ◌+◌, ◌-◌, ◌<◌, ◌≤◌, ◌≡◌, ◌∙◌, ℕ}
+use Rattle.canon_recording_parts.specs.Events.{an_event, ask_event, byte_list, post_event, raw, realloc_event, request, resume_event, return_event, start_event, tagged, two_numbers, word_list, words_and_memory}
+use Rattle.canon_recording_parts.specs.Format.{also, any_number, number, row}
+use Rattle.canon_recording_parts.proofs.Writing.{first_long, then_written}
+use Rattle.canon_recording_parts.proofs.Laws.{any_sound, pair_sound, words_sound}
+use Rattle.canon_recording_parts.proofs.write.put_answer.Goals as goal
+
+pub returns-in-Ok : goal.returns-in-Ok
+returns-in-Ok c = record { writes = then_written (any_number 4) two_numbers c.args.align c.args.new c.args.bytes.now.items c.put_u32.new.bytes.items c.put_pair.new.bytes.items c.put_pair.new.bytes.items c.put_pair.result (any_sound 4) c.in-Ok.ensures.writes c.put_pair.ensures.writes }
+
+pub returns-in-Err : goal.returns-in-Err
+returns-in-Err c = record { writes = first_long (any_number 4) two_numbers c.args.align c.args.new c.args.bytes.now.items c.put_u32.new.bytes.items c.put_u32.new.bytes.items c.put_u32.new.bytes.items c.in-Err.error c.in-Err.ensures.writes }

@@ -1,0 +1,12 @@
+use Rattle.std.proofs.Common.{arith, length, take, drop, refl, ap, subst, sym, ◌+◌, ◌-◌, ◌<◌, ◌≤◌, ◌≡◌, ◌∙◌, ℕ}
+use Rattle.std.specs.Prelude.{⊤}
+use Rattle.canon_recording_parts.specs.Events.{an_event, ask_event, byte_list, post_event, raw, realloc_event, request, resume_event, return_event, start_event, tagged, two_numbers, word_list, words_and_memory}
+use Rattle.canon_recording_parts.specs.Format.{also, any_number, number, row}
+use Rattle.canon_recording_parts.proofs.Writing.{number_long, numbered_written}
+use Rattle.canon_recording_parts.proofs.write.put_bytes.Goals as goal
+
+pub returns-in-Ok : goal.returns-in-Ok
+returns-in-Ok c = record { writes = numbered_written 8 (λ n. ⊤) raw (length c.args.more.now) c.args.more.now (λ m xs h. sym h.0 ∙ ap length h.1) c.args.bytes.now.items c.put_u64.new.bytes.items c.append.new.bytes.items c.append.result tt c.in-Ok.ensures.writes c.append.ensures.writes }
+
+pub returns-in-Err : goal.returns-in-Err
+returns-in-Err c = record { writes = number_long 8 (λ n. ⊤) raw (length c.args.more.now) c.args.more.now (λ m xs h. sym h.0 ∙ ap length h.1) c.args.bytes.now.items c.put_u64.new.bytes.items c.put_u64.new.bytes.items c.in-Err.error c.in-Err.ensures.writes }
