@@ -16,7 +16,7 @@ use Rattle.canon_memory.specs.declared.guest.Step.{Step}
 use Rattle.canon_memory.specs.Watch.{relisted}
 use Rattle.canon_replay_guest.specs.Lawful.{IsFree, IsLawful}
 use Rattle.canon_replay_guest.specs.Leaves.{Answers, Began, DoesEnd, DoesStep, IsShort, Reallocated, Stepped}
-use Rattle.canon_replay_guest.specs.Moves.{Begins, BeginsCall, CannotBegin, Does, EndsItself, IsAnswer, IsNext, LetsGo, Request, answered, ended, posts, destroys, reallocates, resumes, starts, stepped, trapped}
+use Rattle.canon_replay_guest.specs.Moves.{Begins, Grows, CannotBegin, Does, EndsItself, IsAnswer, IsNext, LetsGo, Request, answered, ended, posts, destroys, reallocates, resumes, starts, stepped, trapped}
 use Rattle.canon_replay_guest.specs.Replaying.{CanGrow, IsOpened, Replaying, events_now, grown, moved, next_event, start_length, stopped, trapped_again, wanted_length}
 use Rattle.canon_replay_guest.specs.declared.stop.Stop.TheVariants as stop
 use Rattle.canon_replay_guest.proofs.Passing.{next_is}
@@ -39,12 +39,12 @@ start_begun g mid m m1 func words b = let (n, o, len, can) = begun g mid m m1 b 
 pub answer_begun : (g mid : Replaying) (m m1 : List ℕ) (c : Call) → Began g m mid m1 (Ok tt) → IsBegun (reallocates c) g m mid m1
 answer_begun g mid m m1 c b = let (n, o, len, can) = begun g mid m m1 b in record { none = n; begins = (o, len, can); short = inr o }
 
-pub resume_begun : (g mid : Replaying) (m : List ℕ) (words : List ℕ) → g.stop ≡ None → mid ≡ g → IsBegun (resumes words) g m mid m
-resume_begun g mid m words n e = record { none = n; begins = (e, refl); short = inl e }
+pub resume_begun : (g mid : Replaying) (m : List ℕ) (words : List ℕ) → g.stop ≡ None → IsOpened g mid → IsBegun (resumes words) g m mid m
+resume_begun g mid m words n o = record { none = n; begins = (o, refl); short = inr o }
 
 -- ---- traps
 
-pub begin_trapped : (q : Request) (g h : Replaying) (m m1 : List ℕ) → BeginsCall q → Began g m h m1 (Err fault.Trap) → Does g (trapped q m (length m1)) h
+pub begin_trapped : (q : Request) (g h : Replaying) (m m1 : List ℕ) → Grows q → Began g m h m1 (Err fault.Trap) → Does g (trapped q m (length m1)) h
 begin_trapped q g h m m1 b (e, inl (some, again)) = inr (some, ap length e, again)
 begin_trapped q g h m m1 b (e, inr (none, (mid, o, cannot, s))) = inl (none, (mid, inl ((b, o, cannot), ap length e, s)))
 
@@ -96,11 +96,14 @@ begin_gives_trap c g h m m1 b le = (begin_trapped (reallocates c) g h m m1 tt b,
 
 -- ---- what it ends itself
 
-pub ends : (q : Request) (g h : Replaying) (m : List ℕ) → g.stop ≡ None → EndsItself q → IsNext (next_event g) q → h ≡ record g { at = g.at + 1 } → DoesEnd q g m h (Ok tt)
-ends q g h m none l n e = (none, l, n, e)
+pub ends : (q : Request) (g mid h : Replaying) (m : List ℕ) → g.stop ≡ None → IsOpened g mid → EndsItself q → IsNext (next_event mid) q → h ≡ record mid { at = mid.at + 1; live = [] } → DoesEnd q g m h (Ok tt)
+ends q g mid h m none o l n e = (none, l, (mid, o, n, e))
 
-pub end_differs : (q : Request) (g h : Replaying) (m : List ℕ) → Begins q g (length m) g (length m) → g.stop ≡ None → ¬ (IsNext (next_event g) q) → h ≡ stopped g stop.Differs → DoesEnd q g m h (Err fault.Trap)
-end_differs q g h m b none n e = inl (none, (g, inr (stop.Differs, b, n, e)))
+pub end_differs : (q : Request) (g mid h : Replaying) (m : List ℕ) (f : GuestFault) → f ≡ fault.Trap → Begins q g (length m) mid (length m) → g.stop ≡ None → ¬ (IsNext (next_event mid) q) → h ≡ stopped mid stop.Differs → DoesEnd q g m h (Err f)
+end_differs q g mid h m f ef b none n e = subst (λ (x : GuestFault). DoesEnd q g m h (Err x)) (sym ef) (inl (none, (mid, inr (stop.Differs, b, n, e))))
+
+pub end_again : (q : Request) (g h : Replaying) (m : List ℕ) (f : GuestFault) → f ≡ fault.Trap → g.stop ≢ None → h ≡ trapped_again g → DoesEnd q g m h (Err f)
+end_again q g h m f ef n e = subst (λ (x : GuestFault). DoesEnd q g m h (Err x)) (sym ef) (again q g h m n e)
 
 -- ---- tests
 
@@ -172,3 +175,14 @@ pub listed_at : (v g : Replaying) (live : List Block) (c : Call) (answer : ℕ) 
 listed_at v g live c answer r b e told ok h =
     ap (λ (l : List Block). record v { at = v.at + 1; live = l }) (was_ok r (live ≡ relisted v.live c answer) (sym told ∙ ok) h)
     ∙ ap (λ (x : Replaying). record x { at = x.at + 1; live = relisted x.live c answer }) e
+
+pub not_destroyed : (o : Option Event) (func rep : ℕ) → ¬ (IsNext o (destroys func rep))
+not_destroyed None func rep n = n
+not_destroyed (Some (event.Start f ws m)) func rep n = n
+not_destroyed (Some (event.Ask k ws m)) func rep n = n
+not_destroyed (Some (event.Resume ws m)) func rep n = n
+not_destroyed (Some (event.Return ws m)) func rep n = n
+not_destroyed (Some (event.Realloc a b c d e)) func rep n = n
+not_destroyed (Some (event.Post f ws)) func rep n = n
+not_destroyed (Some (event.Dtor f r)) func rep n = n
+not_destroyed (Some (event.Trap asked len)) func rep n = n

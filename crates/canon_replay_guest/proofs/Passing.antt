@@ -26,7 +26,7 @@ take_next n [] e h = absurd (cc)
 take_next zero (x ∷ xs) e h = let same : x ≡ e = cc in ap (λ y. y ∷ []) same
 take_next (suc n) (x ∷ xs) e h = ap (λ l. x ∷ l) (take_next n xs e h)
 
-take_whole : (n : ℕ) (xs : List Event) → length xs ≤ n → take n xs ≡ xs
+pub take_whole : (n : ℕ) (xs : List Event) → length xs ≤ n → take n xs ≡ xs
 take_whole zero [] h = refl
 take_whole (suc n) [] h = refl
 take_whole zero (x ∷ xs) h = absurd (omega arith)
@@ -75,9 +75,9 @@ opened_kept g h (inl (over, e)) = record {
 pub begun_kept : (q : Request) (g : Replaying) (len : ℕ) (mid : Replaying) (grown : ℕ) → Begins q g len mid grown → Kept g mid
 begun_kept (starts f ws) g len mid grown b = opened_kept g mid b.0
 begun_kept (reallocates c) g len mid grown b = opened_kept g mid b.0
-begun_kept (resumes ws) g len mid grown b = kept_itself g mid b.0
-begun_kept (posts f ws) g len mid grown b = kept_itself g mid b.0
-begun_kept (destroys f r) g len mid grown b = kept_itself g mid b.0
+begun_kept (resumes ws) g len mid grown b = opened_kept g mid b.0
+begun_kept (posts f ws) g len mid grown b = opened_kept g mid b.0
+begun_kept (destroys f r) g len mid grown b = opened_kept g mid b.0
 
 -- ---- what was passed
 
@@ -116,7 +116,7 @@ alike_itself (event.Post f ws) = refl
 alike_itself (event.Dtor f r) = refl
 alike_itself (event.Trap asked len) = refl
 
-alike_then : (es fs rs ss : List Event) → AllAlike es rs → AllAlike fs ss → AllAlike (es ++ fs) (rs ++ ss)
+pub alike_then : (es fs rs ss : List Event) → AllAlike es rs → AllAlike fs ss → AllAlike (es ++ fs) (rs ++ ss)
 alike_then [] fs rs ss h k = subst (λ l. AllAlike fs (l ++ ss)) (sym h) k
 alike_then (e ∷ es) fs rs ss (r, rest, h, a, more) k = (r, rest ++ ss, ap (λ l. l ++ ss) h, a, alike_then es fs rest ss more k)
 
@@ -210,14 +210,14 @@ answer_passes g mid h c answer live k n e = record {
   marked = refl;
 }
 
-end_passes : (g h : Replaying) (q : Request) (before : List ℕ) → EndsItself q → IsNext (next_event g) q → h ≡ record g { at = g.at + 1 } → PassesOne g h (request_told q before) []
-end_passes g h q before l n e =
-    let (first, is, tells) = next_is (next_event g) q n in
+end_passes : (g mid h : Replaying) (q : Request) (before : List ℕ) → Kept g mid → EndsItself q → IsNext (next_event mid) q → h ≡ record mid { at = mid.at + 1; live = [] } → PassesOne g h (request_told q before) []
+end_passes g mid h q before k l n e =
+    let (first, is, tells) = next_is (next_event mid) q n in
     let by = told_by q before first [] (inr l) tells in
     record {
       next = first ∷ [];
-      same = ap (λ (r : Replaying). r.recorded) e;
-      goes = one_passed g h g.live first is e;
+      same = ap (λ (r : Replaying). r.recorded) e ∙ k.same;
+      goes = one_passed mid h [] first is e ∙ ap (λ l. l ++ first ∷ []) k.passes;
       alike = subst (λ (es : List Event). AllAlike es (first ∷ [])) (append-nil (request_told q before)) by.alike;
       marked = ap (λ (ms : List Mark). ms ++ []) by.none;
     }
@@ -225,7 +225,7 @@ end_passes g h q before l n e =
 pub does_pass : (g h : Replaying) (x : Asked) → IsAnswered x → Does g x h → PassesOne g h (told x) (marks_by x)
 does_pass g h (stepped q before after s) i (n, l, (mid, grown, b, next, step, e)) = step_passes g mid h q before after s (begun_kept q g (length before) mid grown b) l next step.0 e
 does_pass g h (answered c before after answer) i (n, (mid, b, next, lawful, e)) = answer_passes g mid h c answer _ (begun_kept (reallocates c) g before mid after b) next e
-does_pass g h (ended q before) i (n, l, next, e) = end_passes g h q before l next e
+does_pass g h (ended q before) i (n, l, (mid, o, next, e)) = end_passes g mid h q before (opened_kept g mid o) l next e
 does_pass g h (trapped q before after) i d = absurd i
 
 -- a trap passes nothing, and counts

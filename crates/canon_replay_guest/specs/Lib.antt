@@ -1,3 +1,4 @@
+pub mod Following
 pub mod Lawful
 pub mod Leaves
 pub mod Moves

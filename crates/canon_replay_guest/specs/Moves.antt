@@ -37,11 +37,11 @@ abbrev pub IsNext : Option Event → Request → Type 0
 IsNext None q = ⊥
 IsNext (Some e) q = Tells e q
 
--- it may be the first of a call
-abbrev pub BeginsCall : Request → Type 0
-BeginsCall (starts func words) = ⊤
-BeginsCall (reallocates c) = ⊤
-BeginsCall _ = ⊥
+-- memory is grown before it, where it is the first of a call
+abbrev pub Grows : Request → Type 0
+Grows (starts func words) = ⊤
+Grows (reallocates c) = ⊤
+Grows _ = ⊥
 
 abbrev pub LetsGo : Request → Type 0
 LetsGo (starts func words) = ⊤
@@ -97,11 +97,11 @@ len_after (trapped q before after) = after
 
 -- ---- what it does, of these two moments
 
--- A request that may be the first of a call opens it, and memory is grown to the length of its start; any other finds all as it was.
+-- A request opens the next call where this one is over. A start and `realloc` then find memory grown to the length of the call's start.
 abbrev pub Begins : Request → Replaying → ℕ → Replaying → ℕ → Type 0
 Begins (starts func words) g len mid grown = IsOpened g mid × (grown ≡ wanted_length mid len) × CanGrow len grown
 Begins (reallocates c) g len mid grown = IsOpened g mid × (grown ≡ wanted_length mid len) × CanGrow len grown
-Begins q g len mid grown = (mid ≡ g) × (grown ≡ len)
+Begins q g len mid grown = IsOpened g mid × (grown ≡ len)
 
 -- the recorded answer to a request
 abbrev pub IsAnswer : Option Event → Call → ℕ → Type 0
@@ -125,7 +125,7 @@ IsReason stop.Unfit g len q = IsNext (next_event g) q × LetsGo q × ((step : St
 
 -- memory couldn't be given the length of the start
 abbrev pub CannotBegin : Request → Replaying → ℕ → Replaying → Type 0
-CannotBegin q g len mid = BeginsCall q × IsOpened g mid × ¬ (CanGrow len (wanted_length mid len))
+CannotBegin q g len mid = Grows q × IsOpened g mid × ¬ (CanGrow len (wanted_length mid len))
 
 -- It trapped for the first time, for a reason; and once it did, it does so at each call.
 abbrev pub TrapsFirst : Replaying → Request → ℕ → ℕ → Replaying → Type 0
@@ -141,7 +141,7 @@ Does g (stepped q before after step) h = (g.stop ≡ None) × LetsGo q × ((mid 
     × IsNext (next_event mid) q × IsStep (event_after mid) grown step after × (h ≡ record mid { at = mid.at + 2; live = [] }))
 Does g (answered c before after answer) h = (g.stop ≡ None) × ((mid : Replaying) × Begins (reallocates c) g before mid after
     × IsAnswer (next_event mid) c answer × IsLawful mid.live after c answer × (h ≡ record mid { at = mid.at + 1; live = relisted mid.live c answer }))
-Does g (ended q before) h = (g.stop ≡ None) × EndsItself q × IsNext (next_event g) q × (h ≡ record g { at = g.at + 1 })
+Does g (ended q before) h = (g.stop ≡ None) × EndsItself q × ((mid : Replaying) × IsOpened g mid × IsNext (next_event mid) q × (h ≡ record mid { at = mid.at + 1; live = [] }))
 Does g (trapped q before after) h = TrapsFirst g q (length before) after h ⊎ TrapsAgain g (length before) after h
 
 -- ---- calls in a row

@@ -152,7 +152,7 @@ impl ReplayGuest {
         }
     }
 
-    /// Opens a call, where one may begin, and grows memory to the length in which it is started.
+    /// Opens the next call, where this one is over, and grows memory to the length in which it is started.
     fn begin(&mut self, memory: &mut Memory) -> Result<(), GuestFault>
         ensures began { Began self.old memory.old.bytes self.new memory.new.bytes result }
         ensures no_shorter { length memory.old.bytes ≤ length memory.new.bytes }
@@ -275,6 +275,7 @@ impl ReplayGuest {
         if self.stop.is_some() {
             return Err(self.trap_again());
         }
+        self.open();
         if !is_resume(self.next(), words) {
             return Err(self.trap(Stop::Differs));
         }
@@ -310,11 +311,13 @@ impl ReplayGuest {
         if self.stop.is_some() {
             return Err(self.trap_again());
         }
+        self.open();
         if !is_post(self.next(), func, words) {
             return Err(self.trap(Stop::Differs));
         }
         let _count = self.count();
         self.at += 1;
+        self.live.clear();
         Ok(())
     }
 
@@ -326,6 +329,7 @@ impl ReplayGuest {
         if self.stop.is_some() {
             return Err(self.trap_again());
         }
+        self.open();
         Err(self.trap(Stop::Differs))
     }
 }
