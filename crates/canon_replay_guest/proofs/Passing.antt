@@ -8,6 +8,7 @@ use Rattle.canon_memory.specs.declared.guest.Step.{Step}
 use Rattle.canon_memory.specs.declared.guest.Step.TheVariants as step
 use Rattle.canon_memory.specs.Guest.{Mark}
 use Rattle.canon_memory.specs.Journal.{answer_event, step_event}
+use Rattle.canon_replay_guest.specs.Following.{ChainPasses}
 use Rattle.canon_replay_guest.specs.Moves.{Asked, Begins, Chain, Does, EndsItself, IsNext, LetsGo, Request, Tells, answered, destroys, ended, len_after, posts, reallocates, request_told, resumes, starts, stepped, told, trapped}
 use Rattle.canon_replay_guest.specs.declared.stop.Stop.{Stop}
 use Rattle.canon_replay_guest.specs.Passing.{Alike, AllAlike, AreAnswered, IsAnswered, Passes}
@@ -15,7 +16,7 @@ use Rattle.canon_replay_guest.specs.Replaying.{IsOpened, Replaying, event_after,
 
 -- ---- lists
 
-events_taken : (n : ℕ) (xss : List (List Event)) → events_of_calls (suc n) xss ≡ events_of_calls n xss ++ or_none (slice_get xss n)
+pub events_taken : (n : ℕ) (xss : List (List Event)) → events_of_calls (suc n) xss ≡ events_of_calls n xss ++ or_none (slice_get xss n)
 events_taken zero [] = refl
 events_taken (suc n) [] = refl
 events_taken zero (xs ∷ xss) = append-nil xs
@@ -257,7 +258,7 @@ passes_then g mid h es fs a b = record {
 }
 
 -- What calls that didn't trap tell is alike the recorded events that were passed.
-pub chain_passes : (g h : Replaying) (len last : ℕ) (calls : List Asked) → AreAnswered calls → Chain g len calls h last → Passes g h (flat_map told calls)
+pub chain_passes : ChainPasses
 chain_passes g h len last [] a (e, f) = record { next = []; same = ap (λ (k : Replaying). k.recorded) e; goes = ap passed e ∙ sym (append-nil (passed g)); alike = refl }
 chain_passes g h len last (x ∷ calls) (i, a) (mid, b, does, rest) =
     let one = does_pass g mid x i does in

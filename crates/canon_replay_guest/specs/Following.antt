@@ -1,14 +1,15 @@
 -- How far what was told follows what was recorded of a call.
-use Rattle.std.specs.Prelude.{List, None, Option, Some, [], length, slice_get, suc, take, ℕ, ⊤, ◌++◌, ◌+◌, ◌<◌, ◌∷◌, ◌≡◌, ◌≤◌, ◌⊎◌}
+use Rattle.std.specs.Prelude.{List, None, Option, Some, [], flat_map, length, slice_get, suc, take, ℕ, ⊤, ◌++◌, ◌+◌, ◌<◌, ◌∷◌, ◌≡◌, ◌≤◌, ◌⊎◌}
 use Rattle.canon_model.specs.Memory.{Block}
 use Rattle.canon_model.specs.Requests.{Call}
 use Rattle.canon_memory.specs.declared.event.Event.{Event}
 use Rattle.canon_memory.specs.declared.event.Event.TheVariants as event
+use Rattle.canon_memory.specs.Guest.{GuestIn}
 use Rattle.canon_memory.specs.Realloc.{call}
 use Rattle.canon_memory.specs.Watch.{live_along}
 use Rattle.canon_replay_guest.specs.Lawful.{IsLawful}
-use Rattle.canon_replay_guest.specs.Moves.{IsAnswer, IsNext, Request, destroys, posts, reallocates, resumes, starts}
-use Rattle.canon_replay_guest.specs.Passing.{AllAlike}
+use Rattle.canon_replay_guest.specs.Moves.{Asked, Chain, IsAnswer, IsNext, ReplayMoves, Request, destroys, posts, reallocates, resumes, starts, told}
+use Rattle.canon_replay_guest.specs.Passing.{AllAlike, AreAnswered, Passes}
 use Rattle.canon_replay_guest.specs.Replaying.{Replaying, call_events, events_now}
 use Rattle.canon_replay_guest.specs.declared.stop.Stop.{Stop}
 use Rattle.canon_replay_guest.specs.declared.stop.Stop.TheVariants as stop
@@ -69,3 +70,12 @@ Stops k g h len events = (why : Stop) × (h.stop ≡ Some why) × (h.call ≡ k)
 
 abbrev pub Overruns : ℕ → Replaying → Replaying → ℕ → List Event → Type 0
 Overruns k g h len events = (k < h.call) × Leaves stop.Differs (call_events g.recorded k) (length (call_events g.recorded k)) g.live len events
+
+-- From before one of the recorded calls on, whatever is asked of it, it does one of the three.
+abbrev pub MovesFollow : Type 0
+MovesFollow = (k : ℕ) (g h : GuestIn Replaying) (events : List Event) → g.guest.stop ≡ None → k < length g.guest.recorded → IsBefore k g.guest → ReplayMoves g events h
+    → Follows k g.guest h.guest events ⊎ Stops k g.guest h.guest h.len events ⊎ Overruns k g.guest h.guest h.len events
+
+-- What calls that didn't trap tell is alike the recorded events that were passed.
+abbrev pub ChainPasses : Type 0
+ChainPasses = (g h : Replaying) (len last : ℕ) (calls : List Asked) → AreAnswered calls → Chain g len calls h last → Passes g h (flat_map told calls)

@@ -2,9 +2,11 @@
 #![tactic(auto)]
 
 mod guest;
+mod laws;
 mod live;
 mod recorded;
 mod stop;
 
 pub use guest::ReplayGuest;
+pub use laws::{calls_pass, moves_follow};
 pub use stop::Stop;
