@@ -1,5 +1,5 @@
 -- When a recorded answer of `realloc` is given.
-use Rattle.std.specs.Prelude.{List, [], min, ℕ, ◌%◌, ◌+◌, ◌<◌, ◌^◌, ◌∷◌, ◌≡◌, ◌≤◌, ◌⊎◌}
+use Rattle.std.specs.Prelude.{List, [], length, min, take, ℕ, ◌%◌, ◌++◌, ◌+◌, ◌-◌, ◌<◌, ◌^◌, ◌∷◌, ◌≡◌, ◌≤◌, ◌⊎◌}
 use Rattle.std.specs.List.{All}
 use Rattle.canon_model.specs.Memory.{Block, InBlocks}
 use Rattle.canon_model.specs.Requests.{Call}
@@ -28,6 +28,14 @@ IsKept end b = IsNotEmpty b × BlockEndsBy end b
 
 abbrev pub AreKept : ℕ → List Block → Type 0
 AreKept end live = All (IsKept end) live
+
+-- all end at one address or before, and those before the last of the list at another
+abbrev pub AreListed : List Block → ℕ → ℕ → Type 0
+AreListed live end before = AreKept end live × AreKept before (take (length live - 1) live)
+
+-- the block is the last of the list, and starts where those before it end, or after
+abbrev pub EndsIn : List Block → ℕ → Block → Type 0
+EndsIn live before b = (live ≡ take (length live - 1) live ++ b ∷ []) × (before ≤ b.start) × (0 < length live)
 
 -- a block is the old one, or apart from the new one
 abbrev pub IsOther : Block → Block → Block → Type 0

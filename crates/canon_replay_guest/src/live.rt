@@ -4,7 +4,7 @@ ghost use Rattle.std.specs.Prelude.{◌≡◌, ◌+◌, ◌<◌, ◌^◌, ◌↔
 ghost use Rattle.std.specs.List.{All};
 ghost use Rattle.canon_memory.specs.Realloc.{block, call};
 ghost use Rattle.canon_memory.specs.Watch.{BlocksApart, is_block, other_blocks, unless_empty};
-ghost use Rattle.canon_replay_guest.specs.Lawful.{IsNotEmpty, IsOther};
+ghost use Rattle.canon_replay_guest.specs.Lawful.{AreListed, EndsIn, IsNotEmpty, IsOther};
 ghost use Rattle.std.specs.Vec.{vec_len, vec_capacity};
 
 use std::alloc::Global;
@@ -53,20 +53,22 @@ impl LiveBlock {
 #[derive(Drop)]
 pub(crate) struct LiveBlocks {
     blocks: Vec<LiveBlock>,
-    // where the last of them ends, or after
+    // all end here or before
     end: u64,
+    // and here those before the last of the list
+    before: u64,
 }
 
 impl Model for LiveBlocks {
     ghost use Rattle.std.specs.Prelude.{List};
     ghost use Rattle.canon_model.specs.Memory.{Block};
-    ghost use Rattle.canon_replay_guest.specs.Lawful.{AreKept};
+    ghost use Rattle.canon_replay_guest.specs.Lawful.{AreListed};
 
     ghost Value = { List Block };
 
     ghost view = { λ l. l.blocks.items };
 
-    ghost invariant = { λ l. AreKept l.end l.blocks.items };
+    ghost invariant = { λ l. AreListed l.blocks.items l.end l.before };
 }
 
 impl LiveBlocks {
@@ -81,6 +83,7 @@ impl LiveBlocks {
         LiveBlocks {
             blocks: Vec::new(alloc),
             end: 0,
+            before: 0,
         }
     }
 
@@ -90,6 +93,7 @@ impl LiveBlocks {
     {
         self.blocks.clear();
         self.end = 0;
+        self.before = 0;
     }
 
     /// Whether a new block has no address in common with the blocks that live beside the old one.
@@ -102,7 +106,13 @@ impl LiveBlocks {
     {
         let old = LiveBlock::new(old, old_size);
         let new = LiveBlock::new(start, size);
-        start >= self.end || are_free(&self.blocks, old, new)
+        if start >= self.end {
+            return true;
+        }
+        if start >= self.before && ends_in(&self.blocks, self.before, old) {
+            return true;
+        }
+        are_free(&self.blocks, old, new)
     }
 
     /// Lists the new block, unless it is empty, in the place of the old one. Where memory runs out nothing changes.
@@ -125,9 +135,8 @@ impl LiveBlocks {
         }
         let old = LiveBlock::new(old, old_size);
         let new = LiveBlock::new(start, size);
-        give_up(&mut self.blocks, old);
-        list(&mut self.blocks, new);
-        self.end = self.end.max(new.end());
+        give_up(&mut self.blocks, &mut self.end, &mut self.before, old);
+        list(&mut self.blocks, &mut self.end, &mut self.before, new);
         Ok(())
     }
 }
@@ -164,8 +173,34 @@ fn are_free(blocks: &[LiveBlock], old: LiveBlock, new: LiveBlock) -> bool
     true
 }
 
-/// Takes a block out of the list. An empty one isn't in it.
-fn give_up(blocks: &mut Vec<LiveBlock>, old: LiveBlock)
+/// Whether a block is the last of the list and starts where those before it end, or after.
+fn ends_in(blocks: &[LiveBlock], before: u64, old: LiveBlock) -> bool
+    ensures { IsTrue result → EndsIn blocks.now before old }
+{
+    match blocks.last() {
+        Some(last) => is_same(*last, old) && before <= u64::from(old.start),
+        None => false,
+    }
+}
+
+/// Takes a block out of the list. The last one costs no look at the others.
+fn give_up(blocks: &mut Vec<LiveBlock>, end: &mut u64, before: &mut u64, old: LiveBlock)
+    requires { AreListed blocks.old.items end.old before.old }
+    ensures kept { blocks.new.items ≡ other_blocks blocks.old.items old }
+    ensures listed { AreListed blocks.new.items end.new before.new }
+    ensures room { vec_len blocks.old < vec_capacity blocks.old → vec_len blocks.new < vec_capacity blocks.new }
+{
+    if ends_in(blocks, *before, old) {
+        blocks.truncate(blocks.len() - 1);
+        *end = *before;
+    } else {
+        take_out(blocks, old);
+        *before = *end;
+    }
+}
+
+/// The same, wherever it stands. An empty one isn't in the list.
+fn take_out(blocks: &mut Vec<LiveBlock>, old: LiveBlock)
     requires { All IsNotEmpty blocks.old.items }
     ensures kept { blocks.new.items ≡ other_blocks blocks.old.items old }
     ensures room { vec_len blocks.old < vec_capacity blocks.old → vec_len blocks.new < vec_capacity blocks.new }
@@ -176,11 +211,15 @@ fn give_up(blocks: &mut Vec<LiveBlock>, old: LiveBlock)
 }
 
 /// Lists a block, for which there is room, unless it is empty.
-fn list(blocks: &mut Vec<LiveBlock>, new: LiveBlock)
-    requires { vec_len blocks.old < vec_capacity blocks.old }
-    ensures { blocks.new.items ≡ blocks.old.items ++ unless_empty new }
+fn list(blocks: &mut Vec<LiveBlock>, end: &mut u64, before: &mut u64, new: LiveBlock)
+    requires room { vec_len blocks.old < vec_capacity blocks.old }
+    requires listed { AreListed blocks.old.items end.old before.old }
+    ensures added { blocks.new.items ≡ blocks.old.items ++ unless_empty new }
+    ensures listed { AreListed blocks.new.items end.new before.new }
 {
     if new.size > 0 {
         let _ = blocks.push(new);
+        *before = *end;
+        *end = new.end().max(*end);
     }
 }

@@ -1,11 +1,15 @@
-use Rattle.std.proofs.Common.{rules, not}
-use Rattle.std.proofs.lemmas.Fn.{filter_same}
-use Rattle.canon_memory.specs.Watch.{is_block}
-use Rattle.canon_replay_guest.proofs.Blocks.{given_up_none}
+use Rattle.std.proofs.Common.{rules, ◌≡◌, ◌∙◌, ◌-◌, List, length, subst, take}
+use Rattle.canon_model.specs.Memory.{Block}
+use Rattle.canon_replay_guest.specs.Lawful.{EndsIn}
+use Rattle.canon_replay_guest.proofs.Blocks.{kept_out, last_given_up}
 use Rattle.canon_replay_guest.proofs.live.give_up.Goals as goal
 
-pub returns-then-old-gt0-clause-kept : goal.returns-then-old-gt0-clause-kept
-returns-then-old-gt0-clause-kept c = filter_same _ (λ b. not (is_block b c.args.old)) _ (λ x b f' k. search rules) _ _ c.retain.ensures.filtered
+pub returns-then-ends_in-clause-kept : goal.returns-then-ends_in-clause-kept
+returns-then-ends_in-clause-kept c =
+    let xs : List Block = c.args.blocks.now.items in
+    let ends = subst (λ (l : List Block). EndsIn l c.args.before.now c.args.old) c.deref.ensures.value (c.ends_in.ensures c.if-ends_in.true) in
+    let front : c.truncate.new.self.items ≡ take (length xs - 1) xs = search rules in
+    front ∙ last_given_up xs c.args.end.now c.args.before.now c.args.old c.requires ends
 
-pub returns-else-old-gt0-clause-kept : goal.returns-else-old-gt0-clause-kept
-returns-else-old-gt0-clause-kept c = given_up_none c.args.blocks.now.items c.args.old c.requires (search rules)
+pub returns-else-ends_in-clause-listed : goal.returns-else-ends_in-clause-listed
+returns-else-ends_in-clause-listed c = kept_out c.args.end.now c.args.before.now c.args.blocks.now.items c.take_out.new.blocks.items c.args.old c.take_out.ensures.kept c.requires
