@@ -117,8 +117,9 @@ module _ (live : List Block) (end before : ℕ) (o : Block) (listed : AreListed 
 pub listed_more : (end before end2 : ℕ) (live ys : List Block) (new : Block) → ys ≡ live ++ new ∷ [] → AreListed live end before → 0 < new.size → end ≤ end2 → new.start + new.size ≤ end2 → AreListed ys end2 end
 listed_more end before end2 live ys new e listed some le le2 =
     let longer : length ys ≡ length live + 1 = ap length e ∙ length-append live (new ∷ []) in
-    let front : take (length ys - 1) ys ≡ live = ap₂ (λ (n : ℕ) (l : List Block). take n l) (omega (arith, longer)) e ∙ take-append_seam live (new ∷ []) in
-    (All-same (IsKept end2) ys (live ++ new ∷ []) e (All-append (IsKept end2) live (new ∷ [])
-    (All-weaker (IsKept end) (IsKept end2) (λ b k. let l = k.1 in (k.0, omega (arith, l, le))) live listed.0)
-    (All-cons (IsKept end2) new [] (some, le2) (All-nil (IsKept end2)))),
-    subst (λ (l : List Block). AreKept end l) (sym front) listed.0)
+    let front : take (length ys - 1) ys ≡ live = ap₂ (λ (n : ℕ) (l : List Block). take n l) (omega (arith, longer)) e ∙ take-append_seam live (new ∷ []) in (
+      All-same (IsKept end2) ys (live ++ new ∷ []) e (All-append (IsKept end2) live (new ∷ [])
+          (All-weaker (IsKept end) (IsKept end2) (λ b k. let l = k.1 in (k.0, omega (arith, l, le))) live listed.0)
+          (All-cons (IsKept end2) new [] (some, le2) (All-nil (IsKept end2)))),
+      subst (λ (l : List Block). AreKept end l) (sym front) listed.0,
+    )

@@ -85,8 +85,10 @@ module _ (live : List Block) (m : List ℕ) (n : ℕ) (after : List ℕ) (c : Ca
       (λ other.
       let has = Contains-get_or live k d lt in
       let differs : b ≡ old_block c → ⊥ = λ e. both_ways _ other (same_from b (old_block c) e) in
-      inr (λ i p q. law.free i (b, has, differs, p) q,
-      λ j low. out (b.start + j) (outside (b.start + j) (λ q. law.free (b.start + j) (b, has, differs, inl (omega arith, omega (arith, low))) q))))
+      inr (
+        λ i p q. law.free i (b, has, differs, p) q,
+        λ j low. out (b.start + j) (outside (b.start + j) (λ q. law.free (b.start + j) (b, has, differs, inl (omega arith, omega (arith, low))) q)),
+      ))
       (cases_Bool (is_block b (old_block c)))
 
   holds : LawHolds live m after c answer

@@ -62,8 +62,18 @@ again q g h m n e = inr (n, refl, e)
 pub steps : (q : Request) (g mid h : Replaying) (m m1 m2 : List ℕ) (r : Result Step GuestFault) → IsBegun q g m mid m1 → IsNext (next_event mid) q → LetsGo q → Stepped mid m1 h m2 r → DoesStep q g m h m2 r
 steps q g mid h m m1 m2 (Ok s) b n l (step, e) = (b.none, l, (mid, length m1, b.begins, n, step, e))
 steps q g mid h m m1 m2 (Err fault.Trap) b n l ((same, never), e) =
-    inl (b.none, (mid, inr (stop.Unfit, subst (λ (k : ℕ). Begins q g (length m) mid k) (ap length (sym same)) b.begins,
-    (n, l, λ s left step. never s left (step.0, subst (λ (k : ℕ). CanGrow k (length left)) (ap length same) step.1)), e)))
+    inl (
+      b.none,
+      (
+        mid,
+        inr (
+          stop.Unfit,
+          subst (λ (k : ℕ). Begins q g (length m) mid k) (ap length (sym same)) b.begins,
+          (n, l, λ s left step. never s left (step.0, subst (λ (k : ℕ). CanGrow k (length left)) (ap length same) step.1)),
+          e,
+        ),
+      ),
+    )
 steps q g mid h m m1 m2 (Err fault.OutOfMemory) b n l e = (mid, b.short, e)
 
 -- ---- answers
@@ -84,9 +94,10 @@ gives c g mid h m m1 m2 (Err fault.Trap) b (same, inl (never, e)) =
     (subst (λ (k : ℕ). Does g (trapped (reallocates c) m k) h) (ap length (sym same)) (differs (reallocates c) g mid h m m1 f never e), subst (λ (k : ℕ). length m ≤ k) (ap length (sym same)) can.0)
 gives c g mid h m m1 m2 (Err fault.Trap) b (same, inr (answer, is, never, e)) =
     let f = answer_begun g mid m m1 c b in
-    let can = f.begins.2 in
-    (subst (λ (k : ℕ). Does g (trapped (reallocates c) m k) h) (ap length (sym same)) (inl (f.none, (mid, inr (stop.Unlawful, f.begins, (c, answer, refl, is, never), e)))),
-    subst (λ (k : ℕ). length m ≤ k) (ap length (sym same)) can.0)
+    let can = f.begins.2 in (
+      subst (λ (k : ℕ). Does g (trapped (reallocates c) m k) h) (ap length (sym same)) (inl (f.none, (mid, inr (stop.Unlawful, f.begins, (c, answer, refl, is, never), e)))),
+      subst (λ (k : ℕ). length m ≤ k) (ap length (sym same)) can.0,
+    )
 gives c g mid h m m1 m2 (Err fault.OutOfMemory) b (same, e) =
     let f = answer_begun g mid m m1 c b in
     ((mid, f.short, e), subst (λ (k : ℕ). length m ≤ k) (ap length (sym same)) f.begins.2.0)

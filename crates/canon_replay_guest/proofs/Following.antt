@@ -304,16 +304,21 @@ module _ (k : ℕ) (s : Replaying) (few : k < length s.recorded) where
     place_of m n same e at = ap₂ (λ (r : List (List Event)) (i : ℕ). slice_get (call_events r i) m.at) same e ∙ ap (λ (i : ℕ). slice_get its i) (sym at)
 
     stops : (h : Replaying) (len : ℕ) (es : List Event) → Stopped h len es → Stops k s h len es
-    stops h len es x = (x.why, x.stop, x.call, record {
-      followed = x.left.followed;
-      made = x.left.made;
-      rest = x.left.rest;
-      is = x.left.is;
-      alike = subst (λ (n : ℕ). AllAlike x.left.followed (take n its)) (sym x.at) (next_at x.m x.left.followed x.left.passes x.its_call);
-      request = x.left.request;
-      of = x.left.of;
-      left = subst (λ (o : Option Event). IsLeftBy x.why o (live_along s.live x.left.followed) len x.left.request) (place_of x.m h.at x.left.passes.same x.its_call x.at) x.left.left;
-    })
+    stops h len es x = (
+      x.why,
+      x.stop,
+      x.call,
+      record {
+        followed = x.left.followed;
+        made = x.left.made;
+        rest = x.left.rest;
+        is = x.left.is;
+        alike = subst (λ (n : ℕ). AllAlike x.left.followed (take n its)) (sym x.at) (next_at x.m x.left.followed x.left.passes x.its_call);
+        request = x.left.request;
+        of = x.left.of;
+        left = subst (λ (o : Option Event). IsLeftBy x.why o (live_along s.live x.left.followed) len x.left.request) (place_of x.m h.at x.left.passes.same x.its_call x.at) x.left.left;
+      },
+    )
 
     whole_at : (m : Replaying) → m.recorded ≡ s.recorded → m.call ≡ k → length (events_now m) ≤ m.at → take m.at its ≡ take (length its) its
     whole_at m same e all =
@@ -321,16 +326,19 @@ module _ (k : ℕ) (s : Replaying) (few : k < length s.recorded) where
         take_whole m.at its le ∙ sym (take_whole (length its) its (omega arith))
 
     overruns : (h : Replaying) (len : ℕ) (es : List Event) → Overrun h len es → Overruns k s h len es
-    overruns h len es x = (x.past, record {
-      followed = x.left.followed;
-      made = x.left.made;
-      rest = x.left.rest;
-      is = x.left.is;
-      alike = subst (λ (l : List Event). AllAlike x.left.followed l) (whole_at x.m x.left.passes.same x.its_call x.all) (next_at x.m x.left.followed x.left.passes x.its_call);
-      request = x.left.request;
-      of = x.left.of;
-      left = subst (λ (o : Option Event). ¬ (IsNext o x.left.request)) (sym (slice_get_past its (length its) (omega arith))) (λ n. n);
-    })
+    overruns h len es x = (
+      x.past,
+      record {
+        followed = x.left.followed;
+        made = x.left.made;
+        rest = x.left.rest;
+        is = x.left.is;
+        alike = subst (λ (l : List Event). AllAlike x.left.followed l) (whole_at x.m x.left.passes.same x.its_call x.all) (next_at x.m x.left.followed x.left.passes x.its_call);
+        request = x.left.request;
+        of = x.left.of;
+        left = subst (λ (o : Option Event). ¬ (IsNext o x.left.request)) (sym (slice_get_past its (length its) (omega arith))) (λ n. n);
+      },
+    )
 
     done : (h : Replaying) (len : ℕ) (es : List Event) → Done h len es → Follows k s h es ⊎ Stops k s h len es ⊎ Overruns k s h len es
     done h len es (inl go) = inl (follows h es go)

@@ -247,12 +247,7 @@ impl ReplayGuest {
     }
 
     /// Starts, if that is recorded, and makes the recorded step.
-    fn run(
-        &mut self,
-        memory: &mut Memory,
-        func: u32,
-        words: &[ValRaw],
-    ) -> Result<Step, GuestFault>
+    fn run(&mut self, memory: &mut Memory, func: u32, words: &[ValRaw]) -> Result<Step, GuestFault>
         ensures does { DoesStep (starts func words.now) self.old memory.old.bytes self.new memory.new.bytes result }
         ensures no_shorter { length memory.old.bytes ≤ length memory.new.bytes }
         ensures later { IsLater self.old self.new }

@@ -49,11 +49,13 @@ pub(crate) fn is_start(event: Option<&Event>, func: u32, words: &[ValRaw]) -> bo
     ensures { IsTrue result ↔ IsNext (option_map (λ e. e.now) event.entry) (starts func words.now) }
 {
     match event {
-        Some(Event::Start {
-            func: recorded,
-            words: with,
-            ..
-        }) => *recorded == func && same_words(with.as_slice(), words),
+        Some(
+            Event::Start {
+                func: recorded,
+                words: with,
+                ..
+            },
+        ) => *recorded == func && same_words(with.as_slice(), words),
         _ => false,
     }
 }
@@ -73,10 +75,12 @@ pub(crate) fn is_post(event: Option<&Event>, func: u32, words: &[ValRaw]) -> boo
     ensures { IsTrue result ↔ IsNext (option_map (λ e. e.now) event.entry) (posts func words.now) }
 {
     match event {
-        Some(Event::Post {
-            func: recorded,
-            words: with,
-        }) => *recorded == func && same_words(with.as_slice(), words),
+        Some(
+            Event::Post {
+                func: recorded,
+                words: with,
+            },
+        ) => *recorded == func && same_words(with.as_slice(), words),
         _ => false,
     }
 }
@@ -92,13 +96,15 @@ pub(crate) fn answer_of(
     ensures { MatchOption result (¬ (IsNext (option_map (λ e. e.now) event.entry) (reallocates (call old old_size align new_size)))) (λ answer. IsAnswer (option_map (λ e. e.now) event.entry) (call old old_size align new_size) answer) }
 {
     match event {
-        Some(Event::Realloc {
-            old: o,
-            old_size: os,
-            align: a,
-            new_size: ns,
-            answer,
-        }) if *o == old && *os == old_size && *a == align && *ns == new_size => Some(*answer),
+        Some(
+            Event::Realloc {
+                old: o,
+                old_size: os,
+                align: a,
+                new_size: ns,
+                answer,
+            },
+        ) if *o == old && *os == old_size && *a == align && *ns == new_size => Some(*answer),
         _ => None,
     }
 }
@@ -114,16 +120,23 @@ pub(crate) fn take_step(
     ensures width { memory.new.wide ≡ memory.old.wide }
 {
     match event {
-        Some(Event::Return { words, memory: after }) => {
+        Some(
+            Event::Return {
+                words,
+                memory: after,
+            },
+        ) => {
             let words = copy_words(alloc, words)?;
             put(memory, after.as_slice())?;
             Ok(Step::Return(words))
         }
-        Some(Event::Ask {
-            index,
-            words,
-            memory: after,
-        }) => {
+        Some(
+            Event::Ask {
+                index,
+                words,
+                memory: after,
+            },
+        ) => {
             let words = copy_words(alloc, words)?;
             put(memory, after.as_slice())?;
             Ok(Step::Import {
@@ -183,5 +196,7 @@ pub(crate) fn copy_kept(memory: &mut Memory, old: u64, answer: u64, kept: u64)
     let _len = memory.len();
     let from = old as usize;
     let end = (old + kept) as usize;
-    memory.as_slice_mut().copy_within(from..end, answer as usize);
+    memory
+        .as_slice_mut()
+        .copy_within(from..end, answer as usize);
 }

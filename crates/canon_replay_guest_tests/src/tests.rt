@@ -1,7 +1,9 @@
 //! One recorded call, replayed: what is answered where each request is the recorded one, and each way in which it isn't. One function owns the
 //! memory and the guest and lends them to another, which tells what they answer.
 
-use canon_memory::{Bytes, Event, Events, Guest, GuestFault, Memory, MemoryError, Step, ValRaw, Words};
+use canon_memory::{
+    Bytes, Event, Events, Guest, GuestFault, Memory, MemoryError, Step, ValRaw, Words,
+};
 use canon_replay_guest::{ReplayGuest, Stop};
 use std::alloc::Global;
 
@@ -86,11 +88,11 @@ fn unlawful_events(alloc: Global) -> Option<Events> {
 }
 
 /// What something answers of an empty memory and of a guest to which these events of one call were recorded.
-fn with_guest<R, E: FnOnce(Global) -> Option<Events>, F: FnOnce(&mut Memory, &mut ReplayGuest) -> R>(
-    alloc: Global,
-    events: E,
-    ask: F,
-) -> Option<R>
+fn with_guest<
+    R,
+    E: FnOnce(Global) -> Option<Events>,
+    F: FnOnce(&mut Memory, &mut ReplayGuest) -> R,
+>(alloc: Global, events: E, ask: F) -> Option<R>
     requires events { E.IsAlwaysCallable events }
     requires ask { F.IsAlwaysCallable ask }
 {
@@ -183,7 +185,9 @@ fn in_a_block(memory: &mut Memory, guest: &mut ReplayGuest) -> (Option<Stop>, u6
 
 #[test]
 fn an_unlawful_answer_is_not_given(rt: HostRuntime) {
-    assert!(&rt; with_guest(rt.alloc(), unlawful_events, in_a_block) == Some((Some(Stop::Unlawful), 0, 1)));
+    assert!(&rt;
+        with_guest(rt.alloc(), unlawful_events, in_a_block) == Some((Some(Stop::Unlawful), 0, 1))
+    );
 }
 
 fn in_a_longer_memory(memory: &mut Memory, guest: &mut ReplayGuest) -> (Option<Stop>, u64, u64) {
@@ -194,5 +198,8 @@ fn in_a_longer_memory(memory: &mut Memory, guest: &mut ReplayGuest) -> (Option<S
 
 #[test]
 fn a_memory_that_is_longer_than_the_recorded_one_is_none_of_its_run(rt: HostRuntime) {
-    assert!(&rt; with_guest(rt.alloc(), events_of_call, in_a_longer_memory) == Some((Some(Stop::Unfit), 0, 0)));
+    assert!(&rt;
+        with_guest(rt.alloc(), events_of_call, in_a_longer_memory)
+            == Some((Some(Stop::Unfit), 0, 0))
+    );
 }
