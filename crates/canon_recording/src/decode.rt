@@ -18,7 +18,7 @@ use canon_memory::Events;
 use canon_recording_parts::{read_below, read_bytes, read_events, read_u32};
 use canon_types::{ComponentTypes, InterfaceType, TypeFunc, TypeTupleIndex};
 use canon_val::Val;
-use canon_value::Component;
+use canon_context::Component;
 use std::alloc::Global;
 
 /// The recording of a component whose bytes these are. Answers `BadRecording` at the first field that is cut off or spells nothing, the

@@ -16,7 +16,7 @@ use canon_image::{ImageError, image};
 use canon_recording_parts::{append, put_bytes, put_count, put_events, put_u32};
 use canon_types::{ComponentTypes, InterfaceType, TypeFunc, TypeTupleIndex};
 use canon_val::Val;
-use canon_value::Component;
+use canon_context::Component;
 use std::alloc::Global;
 
 /// The bytes of a recording of a component. Answers `TooLong` where they would be more than 1,073,741,824.

@@ -7,7 +7,7 @@ ghost use Rattle.canon_recording.specs.Fits.{IsRecordable};
 ghost use Rattle.canon_recording.specs.Recordings.{exports_of, imports_of};
 
 use canon_types::TypeFunc;
-use canon_value::{Component, Import};
+use canon_context::{Component, Import};
 
 /// The type of an export.
 pub(crate) fn export_type(c: &Component, export: u32) -> TypeFunc

@@ -9,7 +9,7 @@ ghost use Rattle.canon_recording.specs.Stages.{LeadsTo, after_asks, after_before
 
 use crate::Recorded;
 use canon_memory::{Event, ValRaw};
-use canon_value::Component;
+use canon_context::Component;
 
 /// The most bytes that a memory has.
 const MAX_LEN: u64 = 1 << 32;

@@ -1,6 +1,6 @@
 use Rattle.std.proofs.Common.{Some, arith, ap, drop, false, length, refl, subst, sym, List, ◌+◌, ◌<◌, ◌≤◌, ◌^◌, ◌∙◌, ◌∷◌, ◌≡◌}
 use Rattle.std.specs.Prelude.{◌↔◌, [], IsTrue}
-use Rattle.std.proofs.Common.{le-leb, leb-le}
+use Rattle.std.proofs.lemmas.Bool.{le-leb, leb-true}
 use Rattle.canon_func.specs.Runs.{Grows, IsOneRun, last_len}
 use Rattle.canon_recording.specs.Stages.{IsLeft, LeadsTo, len_in}
 use Rattle.canon_recording.proofs.Staging.{first_grows, grows_first, iff_then, left_at, none, none_left}
@@ -24,7 +24,7 @@ returns c =
     let l = c.loop-event in
     let is = none_left a.events.now l.event-index c.loop-event-test.false in
     let before = subst (λ es. Grows a.len a.events.now (2 ^ 32) ↔ Grows l.last es (2 ^ 32)) is l.invariant.same in
-    (λ h. before.1 (leb-le l.last (2 ^ 32) h), λ h. le-leb l.last (2 ^ 32) (before.0 h))
+    (λ h. before.1 (leb-true l.last (2 ^ 32) h), λ h. le-leb l.last (2 ^ 32) (before.0 h))
 
 pub returns-then-len_in-last : goal.returns-then-len_in-last
 returns-then-len_in-last c =

@@ -1,6 +1,6 @@
 use Rattle.std.proofs.Common.{Some, arith, ap, drop, false, length, refl, subst, sym, List, ◌+◌, ◌<◌, ◌≤◌, ◌^◌, ◌∙◌, ◌∷◌, ◌≡◌}
 use Rattle.std.specs.Prelude.{◌↔◌, [], IsTrue}
-use Rattle.std.proofs.Common.{le-leb, leb-le}
+use Rattle.std.proofs.lemmas.Bool.{le-leb, leb-true}
 use Rattle.canon_func.specs.Runs.{Grows, IsOneRun, last_len}
 use Rattle.canon_recording.specs.Stages.{IsLeft, LeadsTo, len_in}
 use Rattle.canon_recording.proofs.Staging.{last_first, left_at, none_left}
