@@ -1,1 +1,5 @@
+pub mod Laws
+pub mod Playing
+pub mod Rows
 pub mod Staging
+pub mod Values

@@ -223,7 +223,8 @@ pub(crate) fn first_no_run(c: &Component, calls: &[Recorded]) -> Option<u32>
     ensures first { IfSome result (IsNoRunAt c.now 0 (recorded_calls calls.now)) }
 {
     let mut len = 0;
-    for (k, call) in calls.iter().enumerate() {
+    for k in 0..calls.len() {
+        let call = &calls[k];
         if !is_run_from(c, len, call) {
             return Some(k as u32);
         }
