@@ -9,6 +9,9 @@ use Rattle.canon_recording_parts.specs.Format.{IsFormat, also, as_, counted, exa
 use Rattle.canon_recording.proofs.Values.{values_sound}
 use Rattle.canon_recording.specs.Recordings.{Functions, RecordedCall, ServedAsk, a_call, an_ask, ask_of, call_of, letters, passed, recording_format, values, what_was_done}
 
+pub calls_one : (x y : Unit {0} × List RecordedCall) → x.1 ≡ y.1 → x ≡ y
+calls_one x y e = ap (λ (l : List RecordedCall). (tt, l)) e
+
 module _ (exports imports : Functions) where
   pub passed_sound : (fs : Functions) (n : ℕ) → IsFormat (passed false fs n)
   passed_sound fs n = also_sound (values false (fs.params n)) (values false (fs.results n)) (values_sound (fs.params n)) (values_sound (fs.results n))
@@ -42,9 +45,6 @@ module _ (exports imports : Functions) where
   call_sound = then_sound 4 (λ n. n < exports.count) (λ n. as_ (call_of false n) (also (passed false exports n) (what_was_done false exports imports)))
       (λ n h. as_sound (call_of false n) (also (passed false exports n) (what_was_done false exports imports)) (call_body_sound n) (call_one n))
       (λ n m c xs ys h k. sym (call_number n c xs h) ∙ call_number m c ys k)
-
-  pub calls_one : (x y : Unit {0} × List RecordedCall) → x.1 ≡ y.1 → x ≡ y
-  calls_one x y e = ap (λ (l : List RecordedCall). (tt, l)) e
 
   pub recording_sound : IsFormat (recording_format false exports imports)
   recording_sound = as_sound (λ (x : Unit {0} × List RecordedCall). x.1) (also (exactly letters) (counted 4 (a_call false exports imports)))

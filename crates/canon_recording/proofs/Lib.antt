@@ -1,3 +1,4 @@
+pub mod BlockKinds
 pub mod Laws
 pub mod Playing
 pub mod Rows

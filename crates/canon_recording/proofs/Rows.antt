@@ -4,8 +4,9 @@ use Rattle.std.specs.Prelude.{slice_index_or}
 use Rattle.std.proofs.lemmas.List.{take_more}
 use Rattle.std.proofs.lemmas.List.Elements.{All-head, All-tail}
 use Rattle.canon_recording_parts.proofs.Reading.{row_go_on}
-use Rattle.canon_recording_parts.proofs.Writing.{each_added, each_long, row_added, row_all, row_long}
-use Rattle.canon_recording_parts.specs.Format.{Format, IsFormat, each, row}
+use Rattle.canon_recording_parts.proofs.Writing.{each_added, each_long, long_along, row_added, row_all, row_long}
+use Rattle.canon_recording_parts.specs.Format.{Format, IsFormat, each, exactly, row}
+use Rattle.canon_recording_parts.specs.Events.{raw}
 use Rattle.canon_recording_parts.specs.Read.{AreRead, ReadsTo}
 use Rattle.canon_recording_parts.specs.Written.{IsAdded, WritesTo}
 use Rattle.canon_recording_parts.specs.declared.error.ReplayError.{ReplayError}
@@ -78,3 +79,8 @@ take_all [] zero h = refl
 take_all [] (suc n) h = refl
 take_all (x ∷ xs) zero h = absurd (omega (arith, h))
 take_all (x ∷ xs) (suc n) h = ap (λ l. x ∷ l) (take_all xs n (omega (arith, h)))
+
+-- these very bytes were written
+pub exact : (xs old new : List ℕ) (result : Result (Unit {0}) ReplayError) → WritesTo (raw (length xs)) xs old new result → WritesTo (exactly xs) tt old new result
+exact xs old new (Ok done) h = record { xs = h.xs; is = h.is; written = h.written.1; few = h.few }
+exact xs old new (Err e) h = long_along (raw (length xs)) (exactly xs) xs tt old old new new e (λ ys w. (ys, (ap length w, w), omega arith)) h

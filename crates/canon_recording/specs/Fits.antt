@@ -43,10 +43,10 @@ pub record AreGiven (ms : Members) (vs : List Val) : Type 0 where
   pub are : AreOf ms vs
 
 -- the number is that of one of the functions, and the values are of its types
-pub record IsOf (functions : Functions) (n : ℕ) (params results : List Val) : Type 0 where
+pub record IsOf (functions : Functions) (n : ℕ) (given answered : List Val) : Type 0 where
   pub known : n < functions.count
-  pub params : AreOf (functions.params n) params
-  pub results : AreOf (functions.results n) results
+  pub params : AreOf (functions.params n) given
+  pub results : AreOf (functions.results n) answered
 
 abbrev pub IsAskOf : Functions → ServedAsk → Type 0
 IsAskOf imports s = IsOf imports s.import s.params s.results

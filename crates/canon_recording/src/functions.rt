@@ -34,3 +34,17 @@ pub(crate) fn import_type(c: &Component, import: u32) -> TypeFunc
         _ => unreachable!(),
     }
 }
+
+/// How many imports a component has.
+pub(crate) fn import_count(c: &Component) -> u64
+    ensures { result ≡ (imports_of c.now).count }
+{
+    c.imports.len() as u64
+}
+
+/// How many exports it has.
+pub(crate) fn export_count(c: &Component) -> u64
+    ensures { result ≡ (exports_of c.now).count }
+{
+    c.exports.len() as u64
+}
