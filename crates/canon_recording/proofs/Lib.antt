@@ -1,4 +1,5 @@
 pub mod BlockKinds
+pub mod Deciding
 pub mod Laws
 pub mod Playing
 pub mod Rows

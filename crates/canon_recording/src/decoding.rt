@@ -44,10 +44,11 @@ fn read_whole(alloc: Global, c: &Component, bytes: &[u8]) -> Result<Vec<Recorded
     requires recordable { IsRecordable c.now }
     ensures is { IsReadWhole c.now bytes.now (seen_as (λ calls. recorded_calls calls.items) result) }
 {
+    let len = bytes.len() as u64;
     let mut at = 0;
     match read_recording(alloc, c, bytes, &mut at) {
         Ok(calls) => {
-            if at < bytes.len() as u64 {
+            if at < len {
                 return Err(ReplayError::BadRecording(at));
             }
             Ok(calls)
@@ -78,11 +79,16 @@ fn read_letters(bytes: &[u8], at: &mut u64) -> Result<(), ReplayError>
     requires inside { at.old ≤ length bytes.now }
     ensures reads { ReadsTo (exactly letters) bytes.now at.old at.new result }
 {
+    let letters = 0x3152_4E43; // the lowest byte first
     let start = *at;
     match read_u32(bytes, at) {
-        // CNR1, the lowest byte first.
-        Ok(0x3152_4E43) => Ok(()),
-        Ok(_) => Err(ReplayError::BadRecording(start)),
+        Ok(number) => {
+            if number == letters {
+                Ok(())
+            } else {
+                Err(ReplayError::BadRecording(start))
+            }
+        }
         Err(error) => Err(error),
     }
 }
