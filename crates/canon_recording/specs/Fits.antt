@@ -1,13 +1,13 @@
 -- Which components may be recorded, and which recordings are of a component.
 use Rattle.std.specs.Prelude.{All, List, [], false, slice_get, suc, zero, length, ℕ, ⊤, ◌<◌, ◌^◌, ◌≡◌, ◌∷◌}
-use Rattle.canon_model.specs.Shape.{Members}
-use Rattle.canon_model.specs.Tree.{Trees}
+use Rattle.canon_model.specs.Shape.{Members, Shape}
+use Rattle.canon_model.specs.Tree.{Tree, Trees}
 use Rattle.canon_context.specs.Quiet.{have_block}
 use Rattle.canon_context.specs.declared.component.Component.{Component}
 use Rattle.canon_context.specs.declared.component.Import.{Import}
 use Rattle.canon_context.specs.declared.component.Import.TheVariants as import
 use Rattle.canon_plan.specs.NoHandle.{HaveNoHandle}
-use Rattle.canon_val.specs.Value.{HaveTrees}
+use Rattle.canon_val.specs.Value.{HasTree, HaveTrees}
 use Rattle.canon_val.specs.declared.val.Val.{Val}
 use Rattle.canon_func.specs.Runs.{Grows, IsOneRun, last_len}
 use Rattle.canon_func.specs.Stores.{Callee, callee_in}
@@ -33,18 +33,30 @@ pub record IsRecordable (c : Component) : Type 0 where
 abbrev pub AreOf : Members → List Val → Type 0
 AreOf ms vs = (ts : Trees) × HaveTrees ms vs ts
 
+-- a value is of the type
+abbrev pub IsValueOf : Shape → Val → Type 0
+IsValueOf s v = (t : Tree) × HasTree s v t
+
+-- they are, and the types reach no handle
+pub record AreGiven (ms : Members) (vs : List Val) : Type 0 where
+  pub no_handle : HaveNoHandle ms
+  pub are : AreOf ms vs
+
 -- the number is that of one of the functions, and the values are of its types
-pub record IsOf (functions : Functions) (n : ℕ) (params results : List Val) : Type 0 where
+pub record IsOf (functions : Functions) (n : ℕ) (given answered : List Val) : Type 0 where
   pub known : n < functions.count
-  pub params : AreOf (functions.params n) params
-  pub results : AreOf (functions.results n) results
+  pub params : AreOf (functions.params n) given
+  pub results : AreOf (functions.results n) answered
+
+abbrev pub IsAskOf : Functions → ServedAsk → Type 0
+IsAskOf imports s = IsOf imports s.import s.params s.results
 
 -- the call is one of a component with these functions
 pub record IsCallOf (exports imports : Functions) (call : RecordedCall) : Type 0 where
   pub its : IsOf exports call.export call.params call.results
   pub few : length call.events < 2 ^ 32
   pub asks : All (IsWritten imports.count) call.events
-  pub served : All (λ (s : ServedAsk). IsOf imports s.import s.params s.results) call.served
+  pub served : All (IsAskOf imports) call.served
 
 abbrev pub callee_of_call : Component → RecordedCall → Callee
 callee_of_call c call = callee_in c (slice_get c.exports.items call.export)

@@ -1,5 +1,6 @@
 -- Recordings of calls, and the bytes that they are written as.
-use Rattle.std.specs.Prelude.{Bool, List, None, Option, Some, codes, length, map, slice_get, ℕ, ⊤, ◌<◌, ◌≡◌}
+use Rattle.std.specs.Prelude.{Bool, List, None, Option, Some, Vec, codes, false, length, map, slice_get, true, ℕ, ⊤, ◌<◌, ◌≡◌}
+use Rattle.std.specs.declared.alloc.Global.{Global}
 use Rattle.canon_model.specs.Image.{Image}
 use Rattle.canon_model.specs.Shape.{Members, Shape, member, no_members}
 use Rattle.canon_model.specs.Tree.{Tree}
@@ -81,6 +82,9 @@ imports_of c = record {
 abbrev pub Spells : Bool → Shape → Val → List ℕ → Type 0
 Spells lifted s v bs = (t : Tree) × HasTreeAs lifted s v t × Image s t bs
 
+abbrev pub letters : List ℕ
+letters = codes "CNR1"
+
 module _ (lifted : Bool) where
   -- an image behind its length, as one field
   abbrev pub value : Shape → Format Val
@@ -95,13 +99,17 @@ module _ (lifted : Bool) where
   abbrev pub ask_of : ℕ → List Val × List Val → ServedAsk
   ask_of n x = record { import = n; params = x.0; results = x.1 }
 
-  abbrev pub call_of : ℕ → List Val × (List Val × (List Event × List ServedAsk)) → RecordedCall
-  call_of n x = record { export = n; params = x.0; results = x.1.0; events = x.1.1.0; served = x.1.1.1 }
+  abbrev pub call_of : ℕ → (List Val × List Val) × (List Event × List ServedAsk) → RecordedCall
+  call_of n x = record { export = n; params = x.0.0; results = x.0.1; events = x.1.0; served = x.1.1 }
+
+  -- the parameters and the results of a function
+  abbrev pub passed : Functions → ℕ → Format (List Val × List Val)
+  passed functions n = also (values (functions.params n)) (values (functions.results n))
 
   module _ (exports imports : Functions) where
     -- an ask of an import that there is
     abbrev pub an_ask : Format ServedAsk
-    an_ask = then_ 4 (λ n. n < imports.count) (λ n. as_ (ask_of n) (also (values (imports.params n)) (values (imports.results n))))
+    an_ask = then_ 4 (λ n. n < imports.count) (λ n. as_ (ask_of n) (passed imports n))
 
     -- a guest's events, and which asks were served
     abbrev pub what_was_done : Format (List Event × List ServedAsk)
@@ -109,11 +117,18 @@ module _ (lifted : Bool) where
 
     -- a call of an export that there is
     abbrev pub a_call : Format RecordedCall
-    a_call = then_ 4 (λ n. n < exports.count) (λ n. as_ (call_of n) (also (values (exports.params n)) (also (values (exports.results n)) what_was_done)))
+    a_call = then_ 4 (λ n. n < exports.count) (λ n. as_ (call_of n) (also (passed exports n) what_was_done))
 
     -- the letters CNR1, how many calls there are, and they
     abbrev pub recording_format : Format (List RecordedCall)
-    recording_format = as_ (λ x. x.1) (also (exactly (codes "CNR1")) (counted 4 a_call))
+    recording_format = as_ (λ x. x.1) (also (exactly letters) (counted 4 a_call))
+
+-- what two vectors of values hold; and what events and asks
+abbrev pub passed_in : Vec Val Global × Vec Val Global → List Val × List Val
+passed_in x = (x.0.items, x.1.items)
+
+abbrev pub done_in : List Event × Vec Served Global → List Event × List ServedAsk
+done_in x = (x.0, served_asks x.1.items)
 
 -- the bytes of recordings of a component: as they are written, and as they are read
 abbrev pub recording : Component → Format (List RecordedCall)

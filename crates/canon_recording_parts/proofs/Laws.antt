@@ -1,5 +1,5 @@
 -- No events' bytes begin those of others, and reading them stops at one place.
-use Rattle.std.proofs.Common.{List, [], arith, ap, refl, suc, sym, zero, ℕ, ◌<◌, ◌∙◌, ◌≡◌}
+use Rattle.std.proofs.Common.{List, [], arith, ap, suc, sym, zero, ℕ, ◌<◌, ◌∙◌, ◌≡◌}
 use Rattle.std.specs.Prelude.{⊤}
 use Rattle.canon_memory.specs.declared.event.Event.{Event}
 use Rattle.canon_memory.specs.declared.event.Event.TheVariants as event

@@ -3,4 +3,5 @@ pub mod Fields
 pub mod Formats
 pub mod Laws
 pub mod Reading
+pub mod Tagged
 pub mod Writing

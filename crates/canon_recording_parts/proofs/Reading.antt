@@ -5,12 +5,12 @@ use Rattle.std.proofs.lemmas.Bool.{cases_lt}
 use Rattle.std.proofs.lemmas.List.{get_or-take, get_or_past, take-append-drop}
 use Rattle.canon_lowering.specs.Storing.{narrow}
 use Rattle.canon_model.specs.Image.{IsField, le_bytes}
-use Rattle.canon_model.specs.Memory.{bytes_in, le_number, num}
+use Rattle.canon_model.specs.Memory.{bytes_in, num}
 use Rattle.canon_recording_parts.proofs.Bytes.{le_number_bytes}
 use Rattle.canon_recording_parts.proofs.Fields.{field_length, field_then}
-use Rattle.canon_recording_parts.specs.Format.{Format, also, any_number, as_, block, counted, each, number, row, then_, times}
+use Rattle.canon_recording_parts.specs.Format.{Format, also, any_number, as_, block, each, number, row, then_, times}
 use Rattle.canon_recording_parts.specs.Events.{byte_list, raw}
-use Rattle.canon_recording_parts.specs.Read.{AreRead, ReadsTo, Spans, seen_as}
+use Rattle.canon_recording_parts.specs.Read.{AreRead, ReadsTo, Spans}
 use Rattle.canon_recording_parts.specs.declared.error.ReplayError.{ReplayError}
 use Rattle.canon_recording_parts.specs.declared.error.ReplayError.TheVariants as error
 

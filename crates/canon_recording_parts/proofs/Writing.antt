@@ -1,5 +1,5 @@
 -- What writing adds, one format after another.
-use Rattle.std.proofs.Common.{Err, List, Ok, Result, [], append-nil, append_assoc, ap, ap₂, arith, div-one, drop, length, length-append, refl, subst, subst₂, suc, sym, take, w32, w64, zero, ℕ, ◌%◌, ◌+◌, ◌++◌, ◌-◌, ◌<◌, ◌^◌, ◌∙◌, ◌∷◌, ◌≡◌, ◌≤◌}
+use Rattle.std.proofs.Common.{Err, List, Ok, Result, [], append-nil, append_assoc, ap, arith, div-one, drop, length, length-append, refl, subst, subst₂, suc, sym, take, w32, w64, zero, ℕ, ◌%◌, ◌+◌, ◌++◌, ◌-◌, ◌<◌, ◌^◌, ◌∙◌, ◌∷◌, ◌≡◌, ◌≤◌}
 use Rattle.std.specs.Prelude.{slice_index_or, ⊤}
 use Rattle.std.specs.Int.{to_le_bytes}
 use Rattle.std.proofs.lemmas.List.{take_more}
@@ -7,7 +7,7 @@ use Rattle.canon_model.specs.Image.{IsField, le_bytes}
 use Rattle.canon_recording_parts.proofs.Bytes.{low_first}
 use Rattle.canon_recording_parts.proofs.Fields.{field_length, field_then}
 use Rattle.canon_recording_parts.proofs.Reading.{each_more, times_more, times_split}
-use Rattle.canon_recording_parts.specs.Format.{Format, IsFormat, also, any_number, as_, block, each, nothing, row, then_, times}
+use Rattle.canon_recording_parts.specs.Format.{Format, IsFormat, also, any_number, as_, block, each, nothing, number, row, then_, times}
 use Rattle.canon_recording_parts.specs.Events.{byte_list, raw}
 use Rattle.canon_recording_parts.specs.Written.{IsAdded, WritesTo}
 use Rattle.canon_recording_parts.specs.declared.error.ReplayError.{ReplayError}
@@ -108,6 +108,15 @@ module _ (old new : List ℕ) (result : Result (Unit {0}) ReplayError) where
 
   pub number_8 : (n : ℕ) (xs : List ℕ) → n < 2 ^ 64 → xs ≡ to_le_bytes w64 n → WritesTo (raw (length xs)) xs old new result → WritesTo (any_number 8) n old new result
   number_8 n xs small is h = number_written 8 n xs small (is ∙ to_le_8 n) h
+
+-- a number that is good
+module _ {B : Type 0} (k : ℕ) (Good : ℕ → Type 0) (G : Format B) (n : ℕ) (b : B) (old new : List ℕ) where
+  pub number_known : (result : Result (Unit {0}) ReplayError) → Good n → WritesTo (also (any_number k) G) (n, b) old new result → WritesTo (also (number k Good) G) (n, b) old new result
+  number_known (Ok done) good h =
+      let (xs, ys, e, (t, f), g) = h.written in
+      record { xs = h.xs; is = h.is; written = (xs, ys, e, (good, f), g); few = h.few }
+  number_known (Err e) good h = long_along (also (any_number k) G) (also (number k Good) G) (n, b) (n, b) old old new new e
+      (λ ys w. let (x1, x2, xe, (t, f), g) = w in (ys, (x1, x2, xe, (tt, f), g), omega arith)) h
 
 -- no count has more than 4 bytes
 pub many_long : (n : ℕ) (old new : List ℕ) → 2 ^ 32 ≤ n → WritesTo (any_number 4) n old new (Err error.TooLong)

@@ -76,7 +76,10 @@ fn put_tagged(bytes: &mut Vec<u8>, event: &Event, imports: u64) -> Result<(), Re
             words,
             memory,
         } => put_numbered(bytes, *index, words.as_slice(), memory.as_slice()),
-        Event::Resume { words, memory } | Event::Return { words, memory } => {
+        Event::Resume { words, memory } => {
+            put_words_and_memory(bytes, words.as_slice(), memory.as_slice())
+        }
+        Event::Return { words, memory } => {
             put_words_and_memory(bytes, words.as_slice(), memory.as_slice())
         }
         Event::Realloc {

@@ -1,9 +1,9 @@
-use Rattle.std.proofs.Common.{arith, length, take, drop, refl, ap, subst, sym, ◌+◌, ◌-◌, ◌<◌, ◌≤◌, ◌≡◌, ◌∙◌, ℕ}
+use Rattle.std.proofs.Common.{arith, length, take, drop, subst, sym, ◌+◌, ◌-◌, ◌≤◌, ◌≡◌}
 use Rattle.std.specs.Prelude.{⊤}
 use Rattle.std.proofs.Common.{Ok}
 use Rattle.canon_recording_parts.specs.Read.{ReadsTo}
-use Rattle.canon_recording_parts.specs.Events.{an_event, ask_event, byte_list, post_event, raw, realloc_event, request, resume_event, return_event, start_event, tagged, two_numbers, word_list, words_and_memory}
-use Rattle.canon_recording_parts.specs.Format.{also, any_number, number, row}
+use Rattle.canon_recording_parts.specs.Events.{byte_list, raw}
+use Rattle.canon_recording_parts.specs.Format.{any_number}
 use Rattle.canon_recording_parts.proofs.Reading.{block_read, block_short, number_stops, ok_inside}
 use Rattle.canon_recording_parts.proofs.read.read_bytes.Goals as goal
 

@@ -1,8 +1,6 @@
-use Rattle.std.proofs.Common.{arith, length, take, drop, refl, ap, subst, sym, ◌+◌, ◌-◌, ◌<◌, ◌≤◌, ◌≡◌, ◌∙◌, ℕ}
-use Rattle.std.specs.Prelude.{⊤}
+use Rattle.std.proofs.Common.{arith, ◌<◌}
 use Rattle.canon_recording_parts.specs.declared.error.ReplayError.TheVariants as error
-use Rattle.canon_recording_parts.specs.Events.{an_event, ask_event, byte_list, post_event, raw, realloc_event, request, resume_event, return_event, start_event, tagged, two_numbers, word_list, words_and_memory}
-use Rattle.canon_recording_parts.specs.Format.{also, any_number, number, row}
+use Rattle.canon_recording_parts.specs.Events.{tagged}
 use Rattle.canon_recording_parts.proofs.Reading.{number_bad, number_cut, number_good, number_stops, rest_read}
 use Rattle.canon_recording_parts.proofs.read.read_event.Goals as goal
 

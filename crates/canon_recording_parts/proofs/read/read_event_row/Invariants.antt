@@ -1,5 +1,5 @@
-use Rattle.canon_recording_parts.specs.Events.{an_event, ask_event, byte_list, post_event, raw, realloc_event, request, resume_event, return_event, start_event, tagged, two_numbers, word_list, words_and_memory}
-use Rattle.canon_recording_parts.specs.Format.{also, any_number, number, row}
+use Rattle.canon_recording_parts.specs.Events.{an_event}
+use Rattle.canon_recording_parts.specs.Format.{row}
 use Rattle.canon_recording_parts.specs.Read.{AreRead}
 use Rattle.canon_recording_parts.proofs.read.read_event_row.Given as goal
 

@@ -1,6 +1,5 @@
-use Rattle.std.proofs.Common.{arith, length, take, drop, refl, ap, subst, sym, ◌+◌, ◌-◌, ◌<◌, ◌≤◌, ◌≡◌, ◌∙◌, ℕ}
-use Rattle.canon_recording_parts.specs.Events.{an_event, ask_event, byte_list, post_event, raw, realloc_event, request, resume_event, return_event, start_event, tagged, two_numbers, word_list, words_and_memory}
-use Rattle.canon_recording_parts.specs.Format.{also, any_number, number, row}
+use Rattle.canon_recording_parts.specs.Events.{realloc_event, two_numbers}
+use Rattle.canon_recording_parts.specs.Format.{also, any_number}
 use Rattle.canon_recording_parts.proofs.Reading.{both_read, first_stops, second_stops, named, named_stops}
 use Rattle.canon_recording_parts.proofs.read.read_realloc.Goals as goal
 

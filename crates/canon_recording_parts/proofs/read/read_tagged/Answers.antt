@@ -1,8 +1,8 @@
-use Rattle.std.proofs.Common.{arith, length, take, drop, refl, ap, subst, sym, ◌+◌, ◌-◌, ◌<◌, ◌≤◌, ◌≡◌, ◌∙◌, ℕ}
+use Rattle.std.proofs.Common.{arith, subst, sym, ◌≡◌}
 use Rattle.canon_recording_parts.specs.Read.{ReadsTo}
 use Rattle.std.proofs.Common.{Ok, Err}
 use Rattle.canon_memory.specs.declared.event.Event.TheVariants as event
-use Rattle.canon_recording_parts.specs.Events.{an_event, ask_event, byte_list, post_event, raw, realloc_event, request, resume_event, return_event, start_event, tagged, two_numbers, word_list, words_and_memory}
+use Rattle.canon_recording_parts.specs.Events.{resume_event, return_event, tagged, words_and_memory}
 use Rattle.canon_recording_parts.proofs.Reading.{named, named_stops}
 use Rattle.canon_recording_parts.proofs.read.read_tagged.Goals as goal
 

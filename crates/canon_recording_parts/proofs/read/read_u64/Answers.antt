@@ -1,5 +1,5 @@
 use Rattle.std.proofs.Common.{arith}
-use Rattle.canon_recording_parts.proofs.Reading.{number_read, number_short}
+use Rattle.canon_recording_parts.proofs.Reading.{number_read}
 use Rattle.canon_recording_parts.proofs.read.read_u64.Goals as goal
 
 pub returns : goal.returns

@@ -1,8 +1,7 @@
-use Rattle.std.proofs.Common.{arith, length, take, drop, refl, ap, subst, sym, ◌+◌, ◌-◌, ◌<◌, ◌≤◌, ◌≡◌, ◌∙◌, ℕ}
+use Rattle.std.proofs.Common.{arith, subst, sym, ◌+◌}
 use Rattle.std.proofs.Common.{[], ◌++◌, ◌∷◌}
 use Rattle.canon_recording_parts.specs.Read.{AreRead}
-use Rattle.canon_recording_parts.specs.Events.{an_event, ask_event, byte_list, post_event, raw, realloc_event, request, resume_event, return_event, start_event, tagged, two_numbers, word_list, words_and_memory}
-use Rattle.canon_recording_parts.specs.Format.{also, any_number, number, row}
+use Rattle.canon_recording_parts.specs.Format.{any_number, row}
 use Rattle.canon_recording_parts.proofs.Reading.{row_begin, row_done, row_go_on, row_stop}
 use Rattle.canon_recording_parts.proofs.read.read_word_row.Goals as goal
 

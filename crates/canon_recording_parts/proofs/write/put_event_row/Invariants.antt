@@ -1,6 +1,6 @@
 use Rattle.std.proofs.Common.{take}
-use Rattle.canon_recording_parts.specs.Events.{an_event, ask_event, byte_list, post_event, raw, realloc_event, request, resume_event, return_event, start_event, tagged, two_numbers, word_list, words_and_memory}
-use Rattle.canon_recording_parts.specs.Format.{also, any_number, number, row}
+use Rattle.canon_recording_parts.specs.Events.{an_event}
+use Rattle.canon_recording_parts.specs.Format.{row}
 use Rattle.canon_recording_parts.specs.Written.{IsAdded}
 use Rattle.canon_recording_parts.proofs.write.put_event_row.Given as goal
 

@@ -1,8 +1,6 @@
-use Rattle.std.proofs.Common.{arith, length, take, drop, refl, ap, subst, sym, ◌+◌, ◌-◌, ◌<◌, ◌≤◌, ◌≡◌, ◌∙◌, ℕ}
-use Rattle.canon_recording_parts.specs.Events.{an_event, ask_event, byte_list, post_event, raw, realloc_event, request, resume_event, return_event, start_event, tagged, two_numbers, word_list, words_and_memory}
-use Rattle.canon_recording_parts.specs.Format.{also, any_number, number, row}
+use Rattle.canon_recording_parts.specs.Events.{byte_list, word_list}
 use Rattle.canon_recording_parts.proofs.Writing.{first_long, then_written}
-use Rattle.canon_recording_parts.proofs.Laws.{any_sound, pair_sound, words_sound}
+use Rattle.canon_recording_parts.proofs.Laws.{words_sound}
 use Rattle.canon_recording_parts.proofs.write.put_words_and_memory.Goals as goal
 
 pub returns-in-Ok : goal.returns-in-Ok
