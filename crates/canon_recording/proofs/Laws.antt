@@ -1,0 +1,51 @@
+-- No recording's bytes begin another's, reading them stops at one place, and a recording is written in one way.
+use Rattle.std.proofs.Common.{Bool, List, ap, ap₂, false, refl, sym, ℕ, ◌<◌, ◌∙◌, ◌≡◌}
+use Rattle.canon_memory.specs.declared.event.Event.{Event}
+use Rattle.canon_val.specs.declared.val.Val.{Val}
+use Rattle.canon_recording_parts.proofs.Formats.{also_sound, as_sound, counted_sound, exactly_sound, then_sound}
+use Rattle.canon_recording_parts.proofs.Laws.{event_sound}
+use Rattle.canon_recording_parts.specs.Events.{an_event}
+use Rattle.canon_recording_parts.specs.Format.{IsFormat, also, as_, counted, exactly}
+use Rattle.canon_recording.proofs.Values.{values_sound}
+use Rattle.canon_recording.specs.Recordings.{Functions, RecordedCall, ServedAsk, a_call, an_ask, ask_of, call_of, letters, passed, recording_format, values, what_was_done}
+
+pub calls_one : (x y : Unit {0} × List RecordedCall) → x.1 ≡ y.1 → x ≡ y
+calls_one x y e = ap (λ (l : List RecordedCall). (tt, l)) e
+
+module _ (exports imports : Functions) where
+  pub passed_sound : (fs : Functions) (n : ℕ) → IsFormat (passed false fs n)
+  passed_sound fs n = also_sound (values false (fs.params n)) (values false (fs.results n)) (values_sound (fs.params n)) (values_sound (fs.results n))
+
+  pub ask_one : (n : ℕ) (x y : List Val × List Val) → ask_of false n x ≡ ask_of false n y → x ≡ y
+  ask_one n x y e = ap (λ (s : ServedAsk). (s.params, s.results)) e
+
+  pub call_one : (n : ℕ) (x y : (List Val × List Val) × (List Event × List ServedAsk)) → call_of false n x ≡ call_of false n y → x ≡ y
+  call_one n x y e = ap (λ (c : RecordedCall). ((c.params, c.results), (c.events, c.served))) e
+
+  pub ask_number : (n : ℕ) (s : ServedAsk) (xs : List ℕ) → (as_ (ask_of false n) (passed false imports n)).writes s xs → s.import ≡ n
+  ask_number n s xs (x, e, h) = ap (λ (s : ServedAsk). s.import) e
+
+  pub call_number : (n : ℕ) (c : RecordedCall) (xs : List ℕ) → (as_ (call_of false n) (also (passed false exports n) (what_was_done false exports imports))).writes c xs → c.export ≡ n
+  call_number n c xs (x, e, h) = ap (λ (c : RecordedCall). c.export) e
+
+  pub an_ask_sound : IsFormat (an_ask false exports imports)
+  an_ask_sound = then_sound 4 (λ n. n < imports.count) (λ n. as_ (ask_of false n) (passed false imports n)) (λ n h. as_sound (ask_of false n) (passed false imports n) (passed_sound imports n) (ask_one n))
+      (λ n m s xs ys h k. sym (ask_number n s xs h) ∙ ask_number m s ys k)
+
+  pub events_sound : IsFormat (counted 4 (an_event imports.count))
+  events_sound = counted_sound (an_event imports.count) 4 (event_sound imports.count)
+
+  pub done_sound : IsFormat (what_was_done false exports imports)
+  done_sound = also_sound (counted 4 (an_event imports.count)) (counted 4 (an_ask false exports imports)) events_sound (counted_sound (an_ask false exports imports) 4 an_ask_sound)
+
+  pub call_body_sound : (n : ℕ) → IsFormat (also (passed false exports n) (what_was_done false exports imports))
+  call_body_sound n = also_sound (passed false exports n) (what_was_done false exports imports) (passed_sound exports n) done_sound
+
+  pub call_sound : IsFormat (a_call false exports imports)
+  call_sound = then_sound 4 (λ n. n < exports.count) (λ n. as_ (call_of false n) (also (passed false exports n) (what_was_done false exports imports)))
+      (λ n h. as_sound (call_of false n) (also (passed false exports n) (what_was_done false exports imports)) (call_body_sound n) (call_one n))
+      (λ n m c xs ys h k. sym (call_number n c xs h) ∙ call_number m c ys k)
+
+  pub recording_sound : IsFormat (recording_format false exports imports)
+  recording_sound = as_sound (λ (x : Unit {0} × List RecordedCall). x.1) (also (exactly letters) (counted 4 (a_call false exports imports)))
+      (also_sound (exactly letters) (counted 4 (a_call false exports imports)) (exactly_sound letters) (counted_sound (a_call false exports imports) 4 call_sound)) calls_one

@@ -1,0 +1,7 @@
+pub mod BlockKinds
+pub mod Deciding
+pub mod Laws
+pub mod Playing
+pub mod Rows
+pub mod Staging
+pub mod Values

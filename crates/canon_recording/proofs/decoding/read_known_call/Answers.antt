@@ -1,0 +1,20 @@
+use Rattle.std.proofs.Common.{Err, Ok, arith, length, take, drop, refl, ap, subst, sym, false, true, ◌+◌, ◌-◌, ◌<◌, ◌≤◌, ◌≡◌, ◌∙◌, ℕ, [], ◌++◌, ◌∷◌}
+use Rattle.std.specs.Prelude.{slice_index_or, ⊤}
+use Rattle.canon_recording_parts.specs.Format.{also, any_number, as_, counted, each, exactly, number, row, then_}
+use Rattle.canon_recording_parts.specs.Events.{an_event, raw}
+use Rattle.canon_recording_parts.specs.Written.{IsAdded, WritesTo}
+use Rattle.canon_recording_parts.specs.Read.{AreRead, ReadsTo}
+use Rattle.canon_recording.specs.Recordings.{a_call, an_ask, ask_of, call_of, done_in, exports_of, imports_of, letters, passed, passed_in, recorded_call, recorded_calls, RecordedCall, served_ask, served_asks, Spells, value, values, what_was_done}
+use Rattle.canon_recording.specs.Fits.{AreGiven, IsAskOf, IsCallOf, IsOf, IsValueOf}
+use Rattle.canon_types.specs.Table.{members_of, param_members, result_members, shape_of, tuple_members, types_of}
+use Rattle.canon_recording_parts.proofs.Reading.{both_read, first_stops, second_stops}
+use Rattle.canon_recording.proofs.decoding.read_known_call.Goals as goal
+
+pub returns-in-Ok-read_done : goal.returns-in-Ok-read_done
+returns-in-Ok-read_done c = record { reads = both_read (passed true (exports_of c.args.c.now) c.args.export) (what_was_done true (exports_of c.args.c.now) (imports_of c.args.c.now)) c.args.bytes.now c.args.at.now c.read_export.new.at c.read_done.new.at c.read_done.new.at (passed_in c.in-Ok.passed) (done_in c.in-Ok-read_done.done) c.in-Ok.ensures.reads c.in-Ok-read_done.ensures.reads }
+
+pub returns-in-Err-read_done : goal.returns-in-Err-read_done
+returns-in-Err-read_done c = record { reads = second_stops (passed true (exports_of c.args.c.now) c.args.export) (what_was_done true (exports_of c.args.c.now) (imports_of c.args.c.now)) c.args.bytes.now c.args.at.now c.read_export.new.at c.read_done.new.at c.read_done.new.at (passed_in c.in-Ok.passed) c.in-Err-read_done.error c.in-Ok.ensures.reads c.in-Err-read_done.ensures.reads }
+
+pub returns-in-Err : goal.returns-in-Err
+returns-in-Err c = record { reads = first_stops (passed true (exports_of c.args.c.now) c.args.export) (what_was_done true (exports_of c.args.c.now) (imports_of c.args.c.now)) c.args.bytes.now c.args.at.now c.read_export.new.at c.read_export.new.at c.read_export.new.at c.in-Err.error c.in-Err.ensures.reads }

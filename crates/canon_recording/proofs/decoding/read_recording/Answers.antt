@@ -1,0 +1,26 @@
+use Rattle.std.proofs.Common.{Err, Ok, arith, length, take, drop, refl, ap, subst, sym, false, true, ◌+◌, ◌-◌, ◌<◌, ◌≤◌, ◌≡◌, ◌∙◌, ℕ, [], ◌++◌, ◌∷◌}
+use Rattle.std.specs.Prelude.{slice_index_or, ⊤}
+use Rattle.std.proofs.Common.{All, List}
+use Rattle.std.specs.Prelude.{Vec}
+use Rattle.canon_types.specs.Table.{Knows}
+use Rattle.canon_plan.specs.NoHandle.{HaveNoHandle}
+use Rattle.canon_recording_parts.specs.Read.{seen_as}
+use Rattle.canon_recording_parts.specs.Format.{also, any_number, as_, counted, each, exactly, number, row, then_}
+use Rattle.canon_recording_parts.specs.Events.{an_event, raw}
+use Rattle.canon_recording_parts.specs.Written.{IsAdded, WritesTo}
+use Rattle.canon_recording_parts.specs.Read.{AreRead, ReadsTo}
+use Rattle.canon_recording.specs.Recordings.{a_call, an_ask, ask_of, call_of, done_in, exports_of, imports_of, letters, passed, passed_in, recorded_call, recorded_calls, RecordedCall, served_ask, served_asks, Spells, value, values, what_was_done}
+use Rattle.canon_recording.specs.Fits.{AreGiven, IsAskOf, IsCallOf, IsOf, IsValueOf}
+use Rattle.canon_types.specs.Table.{members_of, param_members, result_members, shape_of, tuple_members, types_of}
+use Rattle.canon_recording_parts.proofs.Reading.{first_stops, named_stops}
+use Rattle.canon_recording.proofs.Deciding.{behind_letters}
+use Rattle.canon_recording.proofs.decoding.read_recording.Goals as goal
+
+pub returns-in-Ok : goal.returns-in-Ok
+returns-in-Ok c = record { reads = behind_letters (counted 4 (a_call true (exports_of c.args.c.now) (imports_of c.args.c.now))) c.args.bytes.now c.args.at.now c.read_letters.new.at c.read_calls.new.at (seen_as (λ calls. recorded_calls calls.items) c.read_calls.result) c.in-Ok.ensures.reads c.read_calls.ensures.reads }
+
+pub returns-in-Err : goal.returns-in-Err
+returns-in-Err c = record {
+  reads = named_stops (λ (x : Unit {0} × List RecordedCall). x.1) (also (exactly letters) (counted 4 (a_call true (exports_of c.args.c.now) (imports_of c.args.c.now)))) c.args.bytes.now c.args.at.now c.read_letters.new.at c.read_letters.new.at c.in-Err.error
+      (first_stops (exactly letters) (counted 4 (a_call true (exports_of c.args.c.now) (imports_of c.args.c.now))) c.args.bytes.now c.args.at.now c.read_letters.new.at c.read_letters.new.at c.read_letters.new.at c.in-Err.error c.in-Err.ensures.reads);
+}

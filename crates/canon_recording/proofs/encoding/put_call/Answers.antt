@@ -1,0 +1,20 @@
+use Rattle.std.proofs.Common.{Err, Ok, arith, length, take, drop, refl, ap, subst, sym, false, true, ◌+◌, ◌-◌, ◌<◌, ◌≤◌, ◌≡◌, ◌∙◌, ℕ, [], ◌++◌, ◌∷◌}
+use Rattle.std.specs.Prelude.{slice_index_or, ⊤}
+use Rattle.canon_recording_parts.specs.Format.{also, any_number, as_, counted, each, exactly, number, row, then_}
+use Rattle.canon_recording_parts.specs.Events.{an_event, raw}
+use Rattle.canon_recording_parts.specs.Written.{IsAdded, WritesTo}
+use Rattle.canon_recording_parts.specs.Read.{AreRead, ReadsTo}
+use Rattle.canon_recording.specs.Recordings.{a_call, an_ask, ask_of, call_of, done_in, exports_of, imports_of, letters, passed, passed_in, recorded_call, recorded_calls, RecordedCall, served_ask, served_asks, Spells, value, values, what_was_done}
+use Rattle.canon_recording.specs.Fits.{AreGiven, IsAskOf, IsCallOf, IsOf, IsValueOf}
+use Rattle.canon_types.specs.Table.{members_of, param_members, result_members, shape_of, tuple_members, types_of}
+use Rattle.canon_recording_parts.proofs.Writing.{named_written, number_long, numbered_written}
+use Rattle.canon_recording.proofs.Laws.{call_number, call_one}
+use Rattle.canon_recording.proofs.encoding.put_call.Goals as goal
+
+pub returns-in-Ok : goal.returns-in-Ok
+returns-in-Ok c =
+    let parts = named_written (call_of false c.args.call.now.export) (also (passed false (exports_of c.args.c.now) c.args.call.now.export) (what_was_done false (exports_of c.args.c.now) (imports_of c.args.c.now))) (call_one (exports_of c.args.c.now) (imports_of c.args.c.now) c.args.call.now.export) ((c.args.call.now.params.items, c.args.call.now.results.items), (c.args.call.now.events, served_asks c.args.call.now.served.items)) c.put_u32.new.bytes.items c.put_known_call.new.bytes.items c.put_known_call.result c.put_known_call.ensures.writes in
+    record { writes = numbered_written 4 (λ n. n < (exports_of c.args.c.now).count) (λ n. as_ (call_of false n) (also (passed false (exports_of c.args.c.now) n) (what_was_done false (exports_of c.args.c.now) (imports_of c.args.c.now)))) c.args.call.now.export (recorded_call c.args.call.now) (λ m xs h. sym (call_number (exports_of c.args.c.now) (imports_of c.args.c.now) m (recorded_call c.args.call.now) xs h)) c.args.bytes.now.items c.put_u32.new.bytes.items c.put_known_call.new.bytes.items c.put_known_call.result c.requires.of.its.known c.in-Ok.ensures.writes parts }
+
+pub returns-in-Err : goal.returns-in-Err
+returns-in-Err c = record { writes = number_long 4 (λ n. n < (exports_of c.args.c.now).count) (λ n. as_ (call_of false n) (also (passed false (exports_of c.args.c.now) n) (what_was_done false (exports_of c.args.c.now) (imports_of c.args.c.now)))) c.args.call.now.export (recorded_call c.args.call.now) (λ m xs h. sym (call_number (exports_of c.args.c.now) (imports_of c.args.c.now) m (recorded_call c.args.call.now) xs h)) c.args.bytes.now.items c.put_u32.new.bytes.items c.put_u32.new.bytes.items c.in-Err.error c.in-Err.ensures.writes }

@@ -1,0 +1,20 @@
+use Rattle.std.proofs.Common.{Err, Ok, arith, length, take, drop, refl, ap, subst, sym, false, true, ◌+◌, ◌-◌, ◌<◌, ◌≤◌, ◌≡◌, ◌∙◌, ℕ, [], ◌++◌, ◌∷◌}
+use Rattle.std.specs.Prelude.{slice_index_or, ⊤}
+use Rattle.std.proofs.Common.{subst₂}
+use Rattle.canon_recording_parts.specs.Format.{also, any_number, as_, counted, each, exactly, number, row, then_}
+use Rattle.canon_recording_parts.specs.Events.{an_event, raw}
+use Rattle.canon_recording_parts.specs.Written.{IsAdded, WritesTo}
+use Rattle.canon_recording_parts.specs.Read.{AreRead, ReadsTo}
+use Rattle.canon_recording.specs.Recordings.{a_call, an_ask, ask_of, call_of, done_in, exports_of, imports_of, letters, passed, passed_in, recorded_call, recorded_calls, RecordedCall, served_ask, served_asks, Spells, value, values, what_was_done}
+use Rattle.canon_recording.specs.Fits.{AreGiven, IsAskOf, IsCallOf, IsOf, IsValueOf}
+use Rattle.canon_types.specs.Table.{members_of, param_members, result_members, shape_of, tuple_members, types_of}
+use Rattle.canon_recording.proofs.encoding.put_export.Goals as goal
+
+pub put_passed-requires-clause-params : goal.put_passed-requires-clause-params
+put_passed-requires-clause-params c = subst (λ ms. AreGiven ms c.args.params.now) c.export_type-func.ensures.params (record { no_handle = (c.requires.recordable.exports c.args.export c.requires.of.known).0; are = c.requires.of.params })
+
+pub put_passed-requires-clause-results : goal.put_passed-requires-clause-results
+put_passed-requires-clause-results c = subst (λ ms. AreGiven ms c.args.results.now) c.export_type-func.ensures.results (record { no_handle = (c.requires.recordable.exports c.args.export c.requires.of.known).1; are = c.requires.of.results })
+
+pub returns : goal.returns
+returns c = record { writes = subst₂ (λ ms ns. WritesTo (also (values false ms) (values false ns)) (c.args.params.now, c.args.results.now) c.args.bytes.now.items c.put_passed.new.bytes.items c.put_passed.result) (sym c.export_type-func.ensures.params) (sym c.export_type-func.ensures.results) c.put_passed.ensures.writes }

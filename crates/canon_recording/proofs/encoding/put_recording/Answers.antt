@@ -1,0 +1,27 @@
+use Rattle.std.proofs.Common.{Err, Ok, arith, length, take, drop, refl, ap, subst, sym, false, true, ◌+◌, ◌-◌, ◌<◌, ◌≤◌, ◌≡◌, ◌∙◌, ℕ, [], ◌++◌, ◌∷◌}
+use Rattle.std.specs.Prelude.{slice_index_or, ⊤}
+use Rattle.std.proofs.Common.{List}
+use Rattle.canon_recording_parts.specs.Format.{also, any_number, as_, counted, each, exactly, number, row, then_}
+use Rattle.canon_recording_parts.specs.Events.{an_event, raw}
+use Rattle.canon_recording_parts.specs.Written.{IsAdded, WritesTo}
+use Rattle.canon_recording_parts.specs.Read.{AreRead, ReadsTo}
+use Rattle.canon_recording.specs.Recordings.{a_call, an_ask, ask_of, call_of, done_in, exports_of, imports_of, letters, passed, passed_in, recorded_call, recorded_calls, RecordedCall, served_ask, served_asks, Spells, value, values, what_was_done}
+use Rattle.canon_recording.specs.Fits.{AreGiven, IsAskOf, IsCallOf, IsOf, IsValueOf}
+use Rattle.canon_types.specs.Table.{members_of, param_members, result_members, shape_of, tuple_members, types_of}
+use Rattle.canon_recording_parts.proofs.Writing.{first_long, named_written, then_written}
+use Rattle.canon_recording_parts.proofs.Formats.{exactly_sound}
+use Rattle.canon_recording.proofs.Laws.{calls_one}
+use Rattle.canon_recording.proofs.Rows.{exact}
+use Rattle.canon_recording.proofs.encoding.put_recording.Goals as goal
+
+pub returns-in-Ok : goal.returns-in-Ok
+returns-in-Ok c =
+    let letters_in = exact letters c.args.bytes.now.items c.append.new.bytes.items (Ok tt) c.in-Ok.ensures.writes in
+    let all = then_written (exactly letters) (counted 4 (a_call false (exports_of c.args.c.now) (imports_of c.args.c.now))) tt (recorded_calls c.args.calls.now) c.args.bytes.now.items c.append.new.bytes.items c.put_calls.new.bytes.items c.put_calls.new.bytes.items c.put_calls.result (exactly_sound letters) letters_in c.put_calls.ensures.writes in
+    record { writes = named_written (λ (x : Unit {0} × List RecordedCall). x.1) (also (exactly letters) (counted 4 (a_call false (exports_of c.args.c.now) (imports_of c.args.c.now)))) calls_one (tt, recorded_calls c.args.calls.now) c.args.bytes.now.items c.put_calls.new.bytes.items c.put_calls.result all }
+
+pub returns-in-Err : goal.returns-in-Err
+returns-in-Err c =
+    let letters_in = exact letters c.args.bytes.now.items c.append.new.bytes.items (Err c.in-Err.error) c.in-Err.ensures.writes in
+    let all = first_long (exactly letters) (counted 4 (a_call false (exports_of c.args.c.now) (imports_of c.args.c.now))) tt (recorded_calls c.args.calls.now) c.args.bytes.now.items c.append.new.bytes.items c.append.new.bytes.items c.append.new.bytes.items c.in-Err.error letters_in in
+    record { writes = named_written (λ (x : Unit {0} × List RecordedCall). x.1) (also (exactly letters) (counted 4 (a_call false (exports_of c.args.c.now) (imports_of c.args.c.now)))) calls_one (tt, recorded_calls c.args.calls.now) c.args.bytes.now.items c.append.new.bytes.items (Err c.in-Err.error) all }

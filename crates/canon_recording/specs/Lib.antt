@@ -1,0 +1,4 @@
+pub mod Recordings
+pub mod Fits
+pub mod Stages
+pub mod Coded

@@ -1,0 +1,14 @@
+//! Recordings of calls, as bytes and back: what may be recorded, which recordings are of a component, and their bytes.
+#![tactic(auto)]
+
+mod blocks;
+mod decoding;
+mod encoding;
+mod functions;
+mod recording;
+mod runs;
+
+pub use canon_recording_parts::ReplayError;
+pub use decoding::decode;
+pub use encoding::encode;
+pub use recording::{Recorded, Recording, Served};

@@ -1,0 +1,7 @@
+pub mod Bytes
+pub mod Fields
+pub mod Formats
+pub mod Laws
+pub mod Reading
+pub mod Tagged
+pub mod Writing

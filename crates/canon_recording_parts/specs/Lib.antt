@@ -1,0 +1,4 @@
+pub mod Events
+pub mod Format
+pub mod Read
+pub mod Written

@@ -1,0 +1,6 @@
+pub mod Blocks
+pub mod Bytes
+pub mod Doing
+pub mod Following
+pub mod Guests
+pub mod Passing

@@ -1,0 +1,6 @@
+pub mod Following
+pub mod Lawful
+pub mod Leaves
+pub mod Moves
+pub mod Passing
+pub mod Replaying
