@@ -6,7 +6,7 @@ ghost use Rattle.canon_types.specs.Table.{HasTuple, IsOver, Knows, members_of, p
 ghost use Rattle.canon_plan.specs.NoHandle.{HasNoHandle, HaveNoHandle};
 ghost use Rattle.canon_recording_parts.specs.Format.{also, counted, exactly, row};
 ghost use Rattle.canon_recording_parts.specs.Read.{ReadsTo, seen_as};
-ghost use Rattle.canon_recording.specs.Coded.{IsDecoded, IsReadWhole};
+ghost use Rattle.canon_recording.specs.Coded.{IsDecoded, IsReadWhole, told_as};
 ghost use Rattle.canon_recording.specs.Fits.{IsRecordable};
 ghost use Rattle.canon_recording.specs.Recordings.{a_call, an_ask, exports_of, imports_of, letters, passed, passed_in, read_recording, recorded_call, recorded_calls, served_ask, served_asks, value, values, what_was_done, done_in};
 
@@ -150,12 +150,12 @@ fn read_call(
 {
     match read_below(bytes, at, export_count(c)) {
         Ok(export) => match read_known_call(alloc, c, export, bytes, at) {
-            Ok(((params, results), (events, served))) => Ok(Recorded {
+            Ok((passed, done)) => Ok(Recorded {
                 export,
-                params,
-                events,
-                served,
-                results,
+                params: passed.0,
+                events: done.0,
+                served: done.1,
+                results: passed.1,
             }),
             Err(error) => Err(error),
         },
@@ -394,10 +394,22 @@ fn read_value(
     match read_bytes(bytes, at) {
         Ok(image) => match read_image(alloc, types, ty, image) {
             Ok(val) => Ok(val),
-            Err(ImageError::OutOfMemory) => Err(ReplayError::OutOfMemory),
-            Err(_) => Err(ReplayError::BadRecording(*at - image.len() as u64)),
+            Err(error) => {
+                let start = (*at).saturating_sub(image.len() as u64);
+                Err(told_as(error, start))
+            }
         },
         Err(error) => Err(error),
+    }
+}
+
+/// How an image is told that can't be read, by where it begins.
+fn told_as(error: ImageError, start: u64) -> ReplayError
+    ensures { result ≡ told_as start error }
+{
+    match error {
+        ImageError::OutOfMemory => ReplayError::OutOfMemory,
+        _ => ReplayError::BadRecording(start),
     }
 }
 
