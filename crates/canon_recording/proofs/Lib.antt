@@ -3,5 +3,6 @@ pub mod Deciding
 pub mod Laws
 pub mod Playing
 pub mod Rows
+pub mod Sound
 pub mod Staging
 pub mod Values
