@@ -9,7 +9,7 @@ use Rattle.canon_recording_parts.proofs.Formats.{also_sound, as_sound, before_so
 use Rattle.canon_recording_parts.proofs.Laws.{event_sound}
 use Rattle.canon_recording_parts.specs.Events.{an_event}
 use Rattle.canon_recording_parts.specs.Format.{IsFormat, also, as_, counted, exactly}
-use Rattle.canon_recording.proofs.Laws.{calls_one}
+use Rattle.canon_recording.proofs.Written.{calls_one}
 use Rattle.canon_recording.proofs.Values.{spelled_once}
 use Rattle.canon_recording.specs.Laws.{RecordingsAreApart}
 use Rattle.canon_recording.specs.Recordings.{Functions, RecordedCall, ServedAsk, Spells, a_call, an_ask, ask_of, call_of, exports_of, imports_of, letters, passed, recording_format, value, values, what_was_done}

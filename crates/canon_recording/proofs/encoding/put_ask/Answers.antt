@@ -8,7 +8,7 @@ use Rattle.canon_recording.specs.Recordings.{a_call, an_ask, ask_of, call_of, do
 use Rattle.canon_recording.specs.Fits.{AreGiven, IsAskOf, IsCallOf, IsOf, IsValueOf}
 use Rattle.canon_types.specs.Table.{members_of, param_members, result_members, shape_of, tuple_members, types_of}
 use Rattle.canon_recording_parts.proofs.Writing.{named_written, number_long, numbered_written}
-use Rattle.canon_recording.proofs.Laws.{ask_number, ask_one}
+use Rattle.canon_recording.proofs.Written.{ask_number, ask_one}
 use Rattle.canon_recording.proofs.encoding.put_ask.Goals as goal
 
 pub returns-in-Ok : goal.returns-in-Ok

@@ -9,7 +9,7 @@ use Rattle.canon_recording.specs.Fits.{AreGiven, IsAskOf, IsCallOf, IsOf, IsValu
 use Rattle.canon_types.specs.Table.{members_of, param_members, result_members, shape_of, tuple_members, types_of}
 use Rattle.canon_recording_parts.proofs.Writing.{none_added}
 use Rattle.canon_recording.proofs.Rows.{all_at, seen_added, seen_all, seen_long}
-use Rattle.canon_recording.proofs.Laws.{an_ask_sound, call_sound}
+use Rattle.canon_recording.proofs.Written.{an_ask_sound, call_sound}
 use Rattle.canon_recording.proofs.encoding.put_call_row.Goals as goal
 
 pub loop-call-init : goal.loop-call-init

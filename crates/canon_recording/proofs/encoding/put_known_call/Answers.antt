@@ -8,7 +8,7 @@ use Rattle.canon_recording.specs.Recordings.{a_call, an_ask, ask_of, call_of, do
 use Rattle.canon_recording.specs.Fits.{AreGiven, IsAskOf, IsCallOf, IsOf, IsValueOf}
 use Rattle.canon_types.specs.Table.{members_of, param_members, result_members, shape_of, tuple_members, types_of}
 use Rattle.canon_recording_parts.proofs.Writing.{first_long, then_written}
-use Rattle.canon_recording.proofs.Laws.{passed_sound}
+use Rattle.canon_recording.proofs.Written.{passed_sound}
 use Rattle.canon_recording.proofs.encoding.put_known_call.Goals as goal
 
 pub returns-in-Ok : goal.returns-in-Ok

@@ -10,7 +10,7 @@ use Rattle.canon_recording.specs.Fits.{AreGiven, IsAskOf, IsCallOf, IsOf, IsValu
 use Rattle.canon_types.specs.Table.{members_of, param_members, result_members, shape_of, tuple_members, types_of}
 use Rattle.canon_recording_parts.proofs.Writing.{first_long, named_written, then_written}
 use Rattle.canon_recording_parts.proofs.Formats.{exactly_sound}
-use Rattle.canon_recording.proofs.Laws.{calls_one}
+use Rattle.canon_recording.proofs.Written.{calls_one}
 use Rattle.canon_recording.proofs.Rows.{exact}
 use Rattle.canon_recording.proofs.encoding.put_recording.Goals as goal
 
