@@ -103,14 +103,20 @@ module _ (post : Option ℕ) where
           let rest : List Event = events_in turns ++ event.Return r.returned r.after ∷ posts post r.returned in
           let p = first_is e (event.Ask t.index t.words t.memory) events ((events_of t.answers None ++ event.Resume t.resumed_words t.resumed_memory ∷ events_in turns) ++ event.Return r.returned r.after ∷ posts post r.returned) is in
           let split = append_assoc (events_of t.answers None) (event.Resume t.resumed_words t.resumed_memory ∷ events_in turns) (event.Return r.returned r.after ∷ posts post r.returned) in
-          inl (t.index, t.words, t.memory, p.0, record {
-            answers = t.answers;
-            words = t.resumed_words;
-            memory = t.resumed_memory;
-            rest = rest;
-            is = p.1 ∙ split;
-            runs = record { turns = turns; returned = r.returned; after = r.after; is = refl };
-          })
+          inl (
+            t.index,
+            t.words,
+            t.memory,
+            p.0,
+            record {
+              answers = t.answers;
+              words = t.resumed_words;
+              memory = t.resumed_memory;
+              rest = rest;
+              is = p.1 ∙ split;
+              runs = record { turns = turns; returned = r.returned; after = r.after; is = refl };
+            },
+          )
 
   asked : (index : ℕ) (words memory : List ℕ) (events : List Event) → IsServedOn post events → RunsOn post (event.Ask index words memory ∷ events)
   asked index words memory events s = record {

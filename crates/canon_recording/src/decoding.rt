@@ -13,12 +13,12 @@ ghost use Rattle.canon_recording.specs.Recordings.{a_call, an_ask, exports_of, i
 use crate::functions::{export_count, export_type, import_count, import_type};
 use crate::runs::first_no_run;
 use crate::{Recorded, Recording, ReplayError, Served};
+use canon_context::Component;
 use canon_image::{ImageError, read_image};
 use canon_memory::Events;
 use canon_recording_parts::{read_below, read_bytes, read_events, read_u32};
 use canon_types::{ComponentTypes, InterfaceType, TypeFunc, TypeTupleIndex};
 use canon_val::Val;
-use canon_context::Component;
 use std::alloc::Global;
 
 /// The recording of a component whose bytes these are. Answers `BadRecording` at the first field that is cut off or spells nothing, the
@@ -252,12 +252,7 @@ fn read_ask_row(
 }
 
 /// An ask: its import, its parameters and its results.
-fn read_ask(
-    alloc: Global,
-    c: &Component,
-    bytes: &[u8],
-    at: &mut u64,
-) -> Result<Served, ReplayError>
+fn read_ask(alloc: Global, c: &Component, bytes: &[u8], at: &mut u64) -> Result<Served, ReplayError>
     requires sound { IsComponent c.now }
     requires recordable { IsRecordable c.now }
     requires inside { at.old ≤ length bytes.now }

@@ -12,11 +12,11 @@ ghost use Rattle.canon_recording.specs.Recordings.{a_call, an_ask, calls_in, exp
 
 use crate::functions::{export_type, import_count, import_type};
 use crate::{Recorded, Recording, ReplayError, Served};
+use canon_context::Component;
 use canon_image::image;
 use canon_recording_parts::{append, put_bytes, put_count, put_events, put_u32};
 use canon_types::{ComponentTypes, InterfaceType, TypeFunc, TypeTupleIndex};
 use canon_val::Val;
-use canon_context::Component;
 use std::alloc::Global;
 
 /// The bytes of a recording of a component. Answers `TooLong` where they would be more than 1,073,741,824.

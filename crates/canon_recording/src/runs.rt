@@ -9,8 +9,8 @@ ghost use Rattle.canon_func.specs.Runs.{Grows, IsOneRun, last_len};
 ghost use Rattle.canon_recording.specs.Stages.{LeadsTo, after_asks, after_before, after_runs, is_end, len_in, returned_after};
 
 use crate::Recorded;
-use canon_memory::{Event, ValRaw};
 use canon_context::Component;
+use canon_memory::{Event, ValRaw};
 
 /// The most bytes that a memory has.
 const MAX_LEN: u64 = 1 << 32;
@@ -125,12 +125,7 @@ fn after_asks(event: &Event) -> Option<Stage>
 }
 
 /// After an event of a guest that returned these words.
-fn after_returned(
-    event: &Event,
-    func: u32,
-    post: Option<u32>,
-    returned: &[ValRaw],
-) -> Option<Stage>
+fn after_returned(event: &Event, func: u32, post: Option<u32>, returned: &[ValRaw]) -> Option<Stage>
     ensures leads { LeadsTo func post Stage.Returned returned.now event.now result }
 {
     let _ = func;
