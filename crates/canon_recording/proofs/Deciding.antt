@@ -1,8 +1,7 @@
 -- What reading all bytes gives.
-use Rattle.std.proofs.Common.{All, Err, List, Ok, Result, [], append-nil, ap, arith, drop, inl, inr, length, length-append, length-drop, refl, subst, suc, sym, true, zero, ℕ, ◌+◌, ◌++◌, ◌<◌, ◌∙◌, ◌∷◌, ◌≡◌, ◌≤◌, ◌-◌, ◌^◌}
-use Rattle.std.specs.Prelude.{⊤}
+use Rattle.std.proofs.Common.{All, Err, List, Ok, Result, [], append-nil, ap, arith, drop, inl, inr, length, length-append, length-drop, refl, subst, suc, sym, true, zero, ℕ, ◌++◌, ◌<◌, ◌∙◌, ◌∷◌, ◌≡◌, ◌≤◌, ◌-◌, ◌^◌}
 use Rattle.std.proofs.lemmas.List.Elements.{All-cons, All-nil}
-use Rattle.canon_model.specs.Image.{IsField, le_bytes}
+use Rattle.canon_model.specs.Image.{IsField}
 use Rattle.canon_context.specs.declared.component.Component.{Component}
 use Rattle.canon_recording_parts.proofs.Fields.{append_parts, field_length, field_once}
 use Rattle.canon_model.specs.Shape.{Shape}
@@ -14,10 +13,10 @@ use Rattle.canon_recording_parts.specs.Events.{byte_list}
 use Rattle.canon_recording.specs.Coded.{told_as}
 use Rattle.canon_recording_parts.proofs.Reading.{block_bad, both_read, named, named_stops, second_stops, stops_along}
 use Rattle.canon_recording_parts.specs.Format.{Format, also, any_number, as_, each, exactly, times}
-use Rattle.canon_recording_parts.specs.Read.{ReadsTo, Spans}
+use Rattle.canon_recording_parts.specs.Read.{ReadsTo}
 use Rattle.canon_recording_parts.specs.declared.error.ReplayError.{ReplayError}
 use Rattle.canon_recording_parts.specs.declared.error.ReplayError.TheVariants as error
-use Rattle.canon_recording.specs.Coded.{IsFollowed, IsReadWhole}
+use Rattle.canon_recording.specs.Coded.{IsReadWhole}
 use Rattle.canon_recording.specs.Recordings.{Functions, RecordedCall, Spells, a_call, letters, read_recording, recorded_call, recorded_calls, recording_format, value}
 use Rattle.canon_recording.specs.declared.recording.Recorded.{Recorded}
 use Rattle.canon_recording.proofs.Rows.{map_length}

@@ -1,11 +1,8 @@
 -- Which calls are runs of their exports.
-use Rattle.std.proofs.Common.{All, Bool, List, None, Option, Some, [], ap, arith, drop, false, length, map, refl, subst, suc, sym, true, zero, ℕ, ◌&&◌, ◌+◌, ◌<◌, ◌^◌, ◌∙◌, ◌∷◌, ◌≡◌}
-use Rattle.std.specs.Prelude.{IsTrue, slice_get, slice_index_or, ◌↔◌}
+use Rattle.std.proofs.Common.{List, [], ap, arith, drop, length, map, refl, subst, suc, sym, zero, ℕ, ◌+◌, ◌<◌, ◌∙◌, ◌∷◌, ◌≡◌}
+use Rattle.std.specs.Prelude.{slice_index_or}
 use Rattle.canon_context.specs.declared.component.Component.{Component}
-use Rattle.canon_context.specs.declared.component.Export.{Export}
-use Rattle.canon_indices.specs.declared.options.CanonicalOptions.{CanonicalOptions}
-use Rattle.canon_func.specs.Runs.{Grows, IsOneRun, last_len}
-use Rattle.canon_func.specs.Stores.{callee_in, post_in}
+use Rattle.canon_func.specs.Runs.{last_len}
 use Rattle.canon_recording.specs.Fits.{AreRuns, IsNoRunAt, IsRunFrom}
 use Rattle.canon_recording.specs.Recordings.{RecordedCall}
 

@@ -2,7 +2,6 @@
 use Rattle.std.proofs.Common.{Bool, List, ap, false, sym, true, ℕ, ◌<◌, ◌∙◌, ◌≡◌}
 use Rattle.canon_model.specs.Shape.{Members, Shape, member, no_members}
 use Rattle.canon_memory.specs.declared.event.Event.{Event}
-use Rattle.canon_context.specs.declared.component.Component.{Component}
 use Rattle.canon_val.specs.declared.val.Val.{Val}
 use Rattle.canon_value_parts.proofs.LiftedValues.{unlifted}
 use Rattle.canon_recording_parts.proofs.Formats.{also_sound, as_sound, before_sound, counted_sound, exactly_sound, nothing_sound, sized_sound, then_sound}
