@@ -4,5 +4,6 @@ pub mod Playing
 pub mod Rows
 pub mod Sound
 pub mod Staging
+pub mod Telling
 pub mod Values
 pub mod Written

@@ -25,7 +25,7 @@ module _ (lifted : Bool) where
   values_sound no_members = nothing_sound
   values_sound (member name s ms) = before_sound (value lifted s) (values lifted ms) (value_sound s) (values_sound ms)
 
-  passed_sound : (fs : Functions) (n : ℕ) → IsFormat (passed lifted fs n)
+  pub passed_sound : (fs : Functions) (n : ℕ) → IsFormat (passed lifted fs n)
   passed_sound fs n = also_sound (values lifted (fs.params n)) (values lifted (fs.results n)) (values_sound (fs.params n)) (values_sound (fs.results n))
 
   ask_one : (n : ℕ) (x y : List Val × List Val) → ask_of lifted n x ≡ ask_of lifted n y → x ≡ y
@@ -51,7 +51,7 @@ module _ (lifted : Bool) where
     call_body_sound : (n : ℕ) → IsFormat (also (passed lifted exports n) (what_was_done lifted exports imports))
     call_body_sound n = also_sound (passed lifted exports n) (what_was_done lifted exports imports) (passed_sound exports n) done_sound
 
-    call_sound : IsFormat (a_call lifted exports imports)
+    pub call_sound : IsFormat (a_call lifted exports imports)
     call_sound = then_sound 4 (λ n. n < exports.count) (λ n. as_ (call_of lifted n) (also (passed lifted exports n) (what_was_done lifted exports imports)))
         (λ n h. as_sound (call_of lifted n) (also (passed lifted exports n) (what_was_done lifted exports imports)) (call_body_sound n) (call_one n))
         (λ n m c xs ys h k. sym (call_number n c xs h) ∙ call_number m c ys k)

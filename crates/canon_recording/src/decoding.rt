@@ -6,7 +6,7 @@ ghost use Rattle.canon_types.specs.Table.{HasTuple, IsOver, Knows, members_of, p
 ghost use Rattle.canon_plan.specs.NoHandle.{HasNoHandle, HaveNoHandle};
 ghost use Rattle.canon_recording_parts.specs.Format.{also, counted, exactly, row};
 ghost use Rattle.canon_recording_parts.specs.Read.{ReadsTo, seen_as};
-ghost use Rattle.canon_recording.specs.Coded.{IsDecoded, IsReadWhole, told_as};
+ghost use Rattle.canon_recording.specs.Coded.{IsDecoded, IsOnlyDecoding, IsReadWhole, told_as};
 ghost use Rattle.canon_recording.specs.Fits.{IsRecordable};
 ghost use Rattle.canon_recording.specs.Recordings.{a_call, an_ask, exports_of, imports_of, letters, passed, passed_in, read_recording, recorded_call, recorded_calls, served_ask, served_asks, value, values, what_was_done, done_in};
 
@@ -25,6 +25,16 @@ use std::alloc::Global;
 /// number of an export or an import that the component lacks included, or where more follows a recording; and `NotARun` with the number of
 /// the first call whose events aren't a run of its export, or in which a memory is longer than 2^32 bytes or shorter than one before it.
 pub fn decode(alloc: Global, c: &Component, bytes: &[u8]) -> Result<Recording, ReplayError>
+    requires sound { IsComponent c.now }
+    requires recordable { IsRecordable c.now }
+    ensures is { IsDecoded c.now bytes.now result }
+    ensures only { IsOnlyDecoding c.now bytes.now result }
+{
+    decode_runs(alloc, c, bytes)
+}
+
+/// The same, as far as `is` says.
+fn decode_runs(alloc: Global, c: &Component, bytes: &[u8]) -> Result<Recording, ReplayError>
     requires sound { IsComponent c.now }
     requires recordable { IsRecordable c.now }
     ensures is { IsDecoded c.now bytes.now result }
