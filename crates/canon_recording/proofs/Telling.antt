@@ -1,22 +1,21 @@
 -- Bytes tell what was written: the same events, and calls of the same exports with the same events. So one answer of `decode` comes exactly where its cause stands.
-use Rattle.std.proofs.Common.{Err, List, Ok, Result, [], append-nil, ap, ap₂, arith, length, length-append, map, refl, subst, suc, sym, true, zero, ℕ, ◌++◌, ◌<◌, ◌^◌, ◌∙◌, ◌∷◌, ◌≡◌, ◌⊎◌, inl, inr}
+use Rattle.std.proofs.Common.{Err, List, Ok, Result, [], append-nil, ap, ap₂, arith, length, map, refl, subst, suc, sym, true, zero, ℕ, ◌<◌, ◌∙◌, ◌∷◌, ◌≡◌, ◌⊎◌, inl, inr}
 use Rattle.std.specs.Prelude.{⊤}
 use Rattle.canon_memory.specs.declared.event.Event.{Event}
 use Rattle.canon_context.specs.declared.component.Component.{Component}
-use Rattle.canon_model.specs.Image.{IsField}
 use Rattle.canon_func.specs.Runs.{last_len}
 use Rattle.canon_recording_parts.proofs.Fields.{field_once}
 use Rattle.canon_recording_parts.proofs.Formats.{exactly_sound}
-use Rattle.canon_recording_parts.proofs.Laws.{any_sound, both_sound, event_sound, events_sound, pair_sound, words_sound}
+use Rattle.canon_recording_parts.proofs.Laws.{any_sound, event_sound, events_sound, pair_sound, words_sound}
 use Rattle.canon_recording_parts.proofs.Formats.{number_sound}
 use Rattle.canon_recording_parts.specs.Events.{an_event, ask_event, byte_list, post_event, raw, realloc_event, request, resume_event, return_event, start_event, tagged, two_numbers, word_list, words_and_memory}
-use Rattle.canon_recording_parts.specs.Format.{Format, IsFormat, also, any_number, as_, counted, each, exactly, number, prepend, row, then_, times}
+use Rattle.canon_recording_parts.specs.Format.{Format, IsFormat, also, any_number, as_, counted, each, number, row, then_, times}
 use Rattle.canon_recording_parts.specs.declared.error.ReplayError.{ReplayError}
 use Rattle.canon_recording_parts.specs.declared.error.ReplayError.TheVariants as error
 use Rattle.canon_recording.proofs.Sound.{call_sound, format_sound, passed_sound}
 use Rattle.canon_recording.specs.Coded.{IsDecoded, IsFollowed, IsSameDecoding}
 use Rattle.canon_recording.specs.Fits.{AreRuns, IsNoRunAt, IsRunFrom}
-use Rattle.canon_recording.specs.Recordings.{Functions, RecordedCall, a_call, an_ask, call_of, calls_in, exports_of, imports_of, letters, passed, read_recording, recording_format, what_was_done}
+use Rattle.canon_recording.specs.Recordings.{Functions, RecordedCall, a_call, calls_in, exports_of, imports_of, letters, passed, read_recording, recording_format}
 use Rattle.canon_recording.specs.declared.recording.Recording.{Recording}
 
 -- ---- one thing has these bytes
