@@ -1,17 +1,23 @@
 -- What reading all bytes gives.
-use Rattle.std.proofs.Common.{All, Err, List, Ok, Result, [], append-nil, ap, arith, drop, inl, inr, length, length-append, length-drop, refl, subst, suc, sym, zero, ℕ, ◌+◌, ◌++◌, ◌<◌, ◌∙◌, ◌∷◌, ◌≡◌, ◌≤◌, ◌-◌, ◌^◌}
-use Rattle.std.specs.Prelude.{⊤}
+use Rattle.std.proofs.Common.{All, Err, List, Ok, Result, [], append-nil, ap, arith, drop, inl, inr, length, length-append, length-drop, refl, subst, suc, sym, true, zero, ℕ, ◌++◌, ◌<◌, ◌∙◌, ◌∷◌, ◌≡◌, ◌≤◌, ◌-◌, ◌^◌}
 use Rattle.std.proofs.lemmas.List.Elements.{All-cons, All-nil}
-use Rattle.canon_model.specs.Image.{IsField, le_bytes}
+use Rattle.canon_model.specs.Image.{IsField}
 use Rattle.canon_context.specs.declared.component.Component.{Component}
 use Rattle.canon_recording_parts.proofs.Fields.{append_parts, field_length, field_once}
-use Rattle.canon_recording_parts.proofs.Reading.{both_read, named, named_stops, second_stops, stops_along}
+use Rattle.canon_model.specs.Shape.{Shape}
+use Rattle.canon_plan.specs.NoHandle.{HasNoHandle}
+use Rattle.canon_image_parts.specs.Read.{IsOnlyReading}
+use Rattle.canon_image_parts.specs.declared.error.ImageError.{ImageError}
+use Rattle.canon_image_parts.specs.declared.error.ImageError.TheVariants as image
+use Rattle.canon_recording_parts.specs.Events.{byte_list}
+use Rattle.canon_recording.specs.Coded.{told_as}
+use Rattle.canon_recording_parts.proofs.Reading.{block_bad, both_read, named, named_stops, second_stops, stops_along}
 use Rattle.canon_recording_parts.specs.Format.{Format, also, any_number, as_, each, exactly, times}
-use Rattle.canon_recording_parts.specs.Read.{ReadsTo, Spans}
+use Rattle.canon_recording_parts.specs.Read.{ReadsTo}
 use Rattle.canon_recording_parts.specs.declared.error.ReplayError.{ReplayError}
 use Rattle.canon_recording_parts.specs.declared.error.ReplayError.TheVariants as error
-use Rattle.canon_recording.specs.Coded.{IsFollowed, IsReadWhole}
-use Rattle.canon_recording.specs.Recordings.{Functions, RecordedCall, a_call, letters, read_recording, recorded_call, recorded_calls, recording_format}
+use Rattle.canon_recording.specs.Coded.{IsReadWhole}
+use Rattle.canon_recording.specs.Recordings.{Functions, RecordedCall, Spells, a_call, letters, read_recording, recorded_call, recorded_calls, recording_format, value}
 use Rattle.canon_recording.specs.declared.recording.Recorded.{Recorded}
 use Rattle.canon_recording.proofs.Rows.{map_length}
 use Rattle.canon_recording_parts.proofs.Formats.{row_count}
@@ -56,7 +62,7 @@ whole_read c bs to calls end (xs, s, h) = subst (λ l. (read_recording c).writes
     none_past (x ∷ xs) (suc n) h = none_past xs n (omega (arith, h))
 
 pub more_follow : (c : Component) (bs : List ℕ) (to : ℕ) (calls : List RecordedCall) → to < length bs → ReadsTo (read_recording c) bs 0 to (Ok calls) → IsReadWhole c bs (Err (error.BadRecording to))
-more_follow c bs to calls more (xs, s, h) = inr (calls, xs, drop to bs, s.is, h, s.to_is, omega (arith, more, length-drop to bs))
+more_follow c bs to calls more (xs, s, h) = inr (calls, xs, drop to bs, s.is, h, omega (arith, s.to_is), omega (arith, more, length-drop to bs))
 
 pub stopped : (c : Component) (bs : List ℕ) (to : ℕ) (e : ReplayError) → ReadsTo (read_recording c) bs 0 to (Err e) → IsReadWhole c bs (Err e)
 stopped c bs to (error.BadRecording p) (j, is, s) =
@@ -84,3 +90,13 @@ module _ (exports imports : Functions) where
   pub written_few : (calls : List Recorded) (bs : List ℕ) → (recording_format true exports imports).writes (recorded_calls calls) bs → length calls < 2 ^ 32
   written_few calls bs (x, e, (xs, ys, be, h, (n, rest, t, f, g))) =
       omega (arith, f.fits, map_length recorded_call calls, ap length e, row_count (a_call true exports imports) n x.1 rest g)
+
+-- ---- an image that is none
+
+pub bad_image : (s : Shape) (bs : List ℕ) (from to at : ℕ) (ys : List ℕ) (e : ImageError) → HasNoHandle s → IsOnlyReading s ys (Err e) → ReadsTo byte_list bs from to (Ok ys) → ReadsTo (value true s) bs from at (Err (told_as (to - length ys) e))
+bad_image s bs from to at ys image.OutOfMemory free only h = tt
+bad_image s bs from to at ys image.Resource free only h = block_bad (Spells true s) bs from to at ys (λ v spelled. let (t, lifted, is) = spelled in only (Ok v) (free, (t, is, lifted))) h
+bad_image s bs from to at ys (image.NotOfType f) free only h = block_bad (Spells true s) bs from to at ys (λ v spelled. let (t, lifted, is) = spelled in only (Ok v) (free, (t, is, lifted))) h
+bad_image s bs from to at ys (image.Truncated p) free only h = block_bad (Spells true s) bs from to at ys (λ v spelled. let (t, lifted, is) = spelled in only (Ok v) (free, (t, is, lifted))) h
+bad_image s bs from to at ys (image.Malformed p) free only h = block_bad (Spells true s) bs from to at ys (λ v spelled. let (t, lifted, is) = spelled in only (Ok v) (free, (t, is, lifted))) h
+bad_image s bs from to at ys (image.Trailing p) free only h = block_bad (Spells true s) bs from to at ys (λ v spelled. let (t, lifted, is) = spelled in only (Ok v) (free, (t, is, lifted))) h

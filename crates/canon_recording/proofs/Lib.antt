@@ -1,7 +1,9 @@
 pub mod BlockKinds
 pub mod Deciding
-pub mod Laws
 pub mod Playing
 pub mod Rows
+pub mod Sound
 pub mod Staging
+pub mod Telling
 pub mod Values
+pub mod Written

@@ -1,32 +1,10 @@
 -- Which calls are runs of their exports.
-use Rattle.std.proofs.Common.{All, Bool, List, None, Option, Some, [], ap, arith, drop, false, length, map, refl, subst, suc, sym, true, zero, ℕ, ◌&&◌, ◌+◌, ◌<◌, ◌^◌, ◌∙◌, ◌∷◌, ◌≡◌}
-use Rattle.std.specs.Prelude.{IsTrue, slice_get, slice_index_or, ◌↔◌}
+use Rattle.std.proofs.Common.{List, [], ap, arith, drop, length, map, refl, subst, suc, sym, zero, ℕ, ◌+◌, ◌<◌, ◌∙◌, ◌∷◌, ◌≡◌}
+use Rattle.std.specs.Prelude.{slice_index_or}
 use Rattle.canon_context.specs.declared.component.Component.{Component}
-use Rattle.canon_context.specs.declared.component.Export.{Export}
-use Rattle.canon_indices.specs.declared.options.CanonicalOptions.{CanonicalOptions}
-use Rattle.canon_func.specs.Runs.{Grows, IsOneRun, last_len}
-use Rattle.canon_func.specs.Stores.{callee_in, post_in}
+use Rattle.canon_func.specs.Runs.{last_len}
 use Rattle.canon_recording.specs.Fits.{AreRuns, IsNoRunAt, IsRunFrom}
 use Rattle.canon_recording.specs.Recordings.{RecordedCall}
-
-pub got : {A : Type 0} (xs : List A) (n : ℕ) (a : A) → n < length xs → slice_index_or xs n a ≡ a → slice_get xs n ≡ Some a
-got [] n a h e = absurd (omega (arith, h))
-got (x ∷ xs) zero a h e = ap (λ i. Some i) e
-got (x ∷ xs) (suc n) a h e = got xs n a (omega (arith, h)) e
-
-both : (a b : Bool) (P Q : Type 0) → IsTrue a ↔ P → IsTrue b ↔ Q → IsTrue (a && b) ↔ (P × Q)
-both true b P Q f g = (λ h. (f.0 refl, g.0 h), λ p. g.1 p.1)
-both false b P Q f g = (λ h. (f.0 h, absurd (no h)), λ p. f.1 p.0)
-  where
-    no : ¬ IsTrue false
-    no e = cc
-
-pub run_from : (c : Component) (len : ℕ) (call : RecordedCall) (e : Export) (o : CanonicalOptions) (a b : Bool) → slice_get c.exports.items call.export ≡ Some e → slice_get c.options.items e.options ≡ Some o
-    → IsTrue a ↔ IsOneRun e.func o.post_return call.events → IsTrue b ↔ Grows len call.events (2 ^ 32) → IsTrue (a && b) ↔ IsRunFrom c len call
-run_from c len call e o a b ee oe f g =
-    let is = both a b (IsOneRun e.func o.post_return call.events) (Grows len call.events (2 ^ 32)) f g in
-    let with_options = subst (λ (x : Option CanonicalOptions). IsTrue (a && b) ↔ (IsOneRun e.func (post_in x) call.events × Grows len call.events (2 ^ 32))) (sym oe) is in
-    subst (λ (x : Option Export). IsTrue (a && b) ↔ (IsOneRun (callee_in c x).func (callee_in c x).post call.events × Grows len call.events (2 ^ 32))) (sym ee) with_options
 
 -- after some calls that are runs
 pub record AreSoFar (c : Component) (calls : List RecordedCall) (k len : ℕ) : Type 0 where

@@ -1,5 +1,5 @@
 -- Rows of values, of asks and of calls.
-use Rattle.std.proofs.Common.{All, Err, List, Ok, Result, [], ap, ap₂, arith, drop, length, map, refl, subst, subst₂, suc, sym, take, zero, ℕ, ◌+◌, ◌++◌, ◌-◌, ◌<◌, ◌≤◌, ◌∙◌, ◌∷◌, ◌≡◌}
+use Rattle.std.proofs.Common.{All, Err, List, Ok, Result, [], ap, arith, drop, length, map, refl, subst, subst₂, suc, sym, take, zero, ℕ, ◌+◌, ◌++◌, ◌<◌, ◌≤◌, ◌∙◌, ◌∷◌, ◌≡◌}
 use Rattle.std.specs.Prelude.{slice_index_or}
 use Rattle.std.proofs.lemmas.List.{take_more}
 use Rattle.std.proofs.lemmas.List.Elements.{All-head, All-tail}

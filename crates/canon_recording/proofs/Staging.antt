@@ -1,6 +1,6 @@
 -- Each event leads from a stage to the next, and no other does.
-use Rattle.std.proofs.Common.{List, None, Option, Some, [], append_assoc, ap, ap₂, Bool, arith, drop, false, inl, inr, length, nat_eq, refl, subst, suc, sym, true, true≢false, zero, ℕ, ◌+◌, ◌++◌, ◌<◌, ◌≤◌, ◌∙◌, ◌∷◌, ◌≡◌, ◌^◌}
-use Rattle.std.specs.Prelude.{IsTrue, slice_index_or, if◌then◌else◌, ◌↔◌, ⊤, ◌⊎◌}
+use Rattle.std.proofs.Common.{List, None, Option, Some, [], append_assoc, ap, ap₂, Bool, arith, drop, false, inl, inr, length, nat_eq, refl, subst, suc, sym, true, true≢false, zero, ℕ, ◌+◌, ◌++◌, ◌<◌, ◌≤◌, ◌∙◌, ◌∷◌, ◌≡◌}
+use Rattle.std.specs.Prelude.{IsTrue, slice_index_or, if◌then◌else◌, ◌↔◌, ◌⊎◌}
 use Rattle.std.proofs.lemmas.Bool.{eqb-false, eqb-true}
 use lib.Pointwise.{pointwise}
 use Rattle.std.specs.Cmp.Lexicographic.{other_text, same_text}
@@ -8,8 +8,8 @@ use Rattle.canon_lowering.specs.Lowering.{Answer, events_of}
 use Rattle.canon_model.specs.Requests.{Call}
 use Rattle.canon_memory.specs.declared.event.Event.{Event}
 use Rattle.canon_memory.specs.declared.event.Event.TheVariants as event
-use Rattle.canon_func.specs.Runs.{AskTurn, Each, Grows, IsOneRun, IsRealloc, IsRun, events_in, last_len, posts}
-use Rattle.canon_recording.specs.Stages.{IsLeft, IsServedOn, LeadsTo, RunsOn, after_asks, after_before, after_runs, is_end, len_in, returned_after}
+use Rattle.canon_func.specs.Runs.{AskTurn, Each, Grows, IsOneRun, IsRealloc, events_in, last_len, posts}
+use Rattle.canon_recording.specs.Stages.{IsLeft, IsServedOn, LeadsTo, RunsOn, after_asks, after_before, after_runs, is_end, len_in}
 use Rattle.canon_recording.specs.declared.runs.Stage.{Stage}
 use Rattle.canon_recording.specs.declared.runs.Stage.TheVariants as stage
 
@@ -103,14 +103,20 @@ module _ (post : Option ℕ) where
           let rest : List Event = events_in turns ++ event.Return r.returned r.after ∷ posts post r.returned in
           let p = first_is e (event.Ask t.index t.words t.memory) events ((events_of t.answers None ++ event.Resume t.resumed_words t.resumed_memory ∷ events_in turns) ++ event.Return r.returned r.after ∷ posts post r.returned) is in
           let split = append_assoc (events_of t.answers None) (event.Resume t.resumed_words t.resumed_memory ∷ events_in turns) (event.Return r.returned r.after ∷ posts post r.returned) in
-          inl (t.index, t.words, t.memory, p.0, record {
-            answers = t.answers;
-            words = t.resumed_words;
-            memory = t.resumed_memory;
-            rest = rest;
-            is = p.1 ∙ split;
-            runs = record { turns = turns; returned = r.returned; after = r.after; is = refl };
-          })
+          inl (
+            t.index,
+            t.words,
+            t.memory,
+            p.0,
+            record {
+              answers = t.answers;
+              words = t.resumed_words;
+              memory = t.resumed_memory;
+              rest = rest;
+              is = p.1 ∙ split;
+              runs = record { turns = turns; returned = r.returned; after = r.after; is = refl };
+            },
+          )
 
   asked : (index : ℕ) (words memory : List ℕ) (events : List Event) → IsServedOn post events → RunsOn post (event.Ask index words memory ∷ events)
   asked index words memory events s = record {

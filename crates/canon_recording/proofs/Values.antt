@@ -1,14 +1,13 @@
 -- The images of values, in a row.
-use Rattle.std.proofs.Common.{All, Bool, Err, List, Ok, Option, Result, [], ap, ap₂, arith, drop, false, inl, length, refl, subst, subst₂, suc, sym, take, true, zero, ℕ, ◌&&◌, ◌+◌, ◌<◌, ◌∙◌, ◌∷◌, ◌≡◌}
-use Rattle.std.specs.Prelude.{IsTrue, slice_index_or, ⊤}
+use Rattle.std.proofs.Common.{All, Bool, List, [], ap, arith, false, inl, length, refl, subst, subst₂, suc, sym, true, zero, ℕ, ◌&&◌, ◌<◌, ◌∙◌, ◌∷◌, ◌≡◌}
+use Rattle.std.specs.Prelude.{IsTrue, slice_index_or}
 use Rattle.std.proofs.lemmas.List.Elements.{All-head, All-tail}
 use Rattle.canon_model.proofs.Images.{image_bytes}
-use Rattle.canon_model.specs.Image.{Image}
 use Rattle.canon_model.specs.Same.{Carried, CarriedTrees}
 use Rattle.canon_model.specs.Shape.{Members, Shape, member, no_members}
 use Rattle.canon_model.specs.Text.{utf8}
 use Rattle.canon_model.specs.Tree.{Tree, no_trees, tree}
-use Rattle.canon_types.specs.Table.{Knows, TypeTable, all_shapes, members_in, members_of, shape_in, shape_of}
+use Rattle.canon_types.specs.Table.{Knows, TypeTable, members_of, shape_of}
 use Rattle.canon_types.specs.declared.types.InterfaceType.{InterfaceType}
 use Rattle.canon_plan.specs.NoHandle.{HasNoHandle, HaveNoHandle, has_no_handle, have_no_handle}
 use Rattle.canon_context.specs.declared.fault.Fault.{Fault}
@@ -16,10 +15,10 @@ use Rattle.canon_context.specs.declared.fault.Fault.TheVariants as fault
 use Rattle.canon_value_parts.specs.Fails.{BlamesValue, FailsAt, Failure, IsTypeFailure, field_name, mismatch, payload_expected, payload_not_expected, unknown_case, unknown_flag, wrong_length}
 use Rattle.canon_value_parts.proofs.OneValue.{trees_one}
 use Rattle.canon_value_parts.proofs.Values.{failure_excludes}
-use Rattle.canon_val.specs.Value.{HasTree, HasTreeAs, HaveTreesAs, IsLiftedFrom}
+use Rattle.canon_val.specs.Value.{HasTree}
 use Rattle.canon_val.specs.declared.val.Val.{Val}
 use Rattle.canon_image_parts.specs.Written.{IsTypeFault}
-use Rattle.canon_recording_parts.proofs.Formats.{before_sound, each_sound, nothing_sound, sized_sound}
+use Rattle.canon_recording_parts.proofs.Formats.{before_sound, nothing_sound, sized_sound}
 use Rattle.canon_recording_parts.specs.Format.{Format, IsFormat, before, each}
 use Rattle.canon_recording.specs.Fits.{AreGiven, AreOf, IsValueOf}
 use Rattle.canon_recording.specs.Recordings.{Spells, value, values}

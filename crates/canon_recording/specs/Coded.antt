@@ -2,11 +2,18 @@
 use Rattle.std.specs.Prelude.{Err, List, Ok, Result, Vec, length, ℕ, ⊤, ◌++◌, ◌<◌, ◌^◌, ◌≡◌, ◌≤◌, ◌⊎◌}
 use Rattle.std.specs.declared.alloc.Global.{Global}
 use Rattle.canon_context.specs.declared.component.Component.{Component}
+use Rattle.canon_image_parts.specs.declared.error.ImageError.{ImageError}
+use Rattle.canon_image_parts.specs.declared.error.ImageError.TheVariants as image
 use Rattle.canon_recording_parts.specs.declared.error.ReplayError.{ReplayError}
 use Rattle.canon_recording_parts.specs.declared.error.ReplayError.TheVariants as error
 use Rattle.canon_recording.specs.Fits.{AreRuns, IsNoRunAt}
 use Rattle.canon_recording.specs.Recordings.{RecordedCall, calls_in, read_recording, recording}
 use Rattle.canon_recording.specs.declared.recording.Recording.{Recording}
+
+-- how an image is told that can't be read, where it begins at place p
+abbrev pub told_as : ℕ → ImageError → ReplayError
+told_as p image.OutOfMemory = error.OutOfMemory
+told_as p _ = error.BadRecording p
 
 -- `encode` of these calls answers so: they are written in at most 2^30 bytes, or each way to write them has more
 abbrev pub IsEncoded : Component → List RecordedCall → Result (Vec ℕ Global) ReplayError → Type 0

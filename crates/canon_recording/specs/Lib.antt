@@ -1,4 +1,5 @@
-pub mod Recordings
-pub mod Fits
-pub mod Stages
 pub mod Coded
+pub mod Fits
+pub mod Laws
+pub mod Recordings
+pub mod Stages

@@ -1,5 +1,5 @@
 -- Recordings of calls, and the bytes that they are written as.
-use Rattle.std.specs.Prelude.{Bool, List, None, Option, Some, Vec, codes, false, length, map, slice_get, true, ℕ, ⊤, ◌<◌, ◌≡◌}
+use Rattle.std.specs.Prelude.{Bool, List, None, Option, Some, Vec, codes, false, length, map, slice_get, true, ℕ, ⊤, ◌<◌}
 use Rattle.std.specs.declared.alloc.Global.{Global}
 use Rattle.canon_model.specs.Image.{Image}
 use Rattle.canon_model.specs.Shape.{Members, Shape, member, no_members}

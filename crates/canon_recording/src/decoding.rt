@@ -6,25 +6,35 @@ ghost use Rattle.canon_types.specs.Table.{HasTuple, IsOver, Knows, members_of, p
 ghost use Rattle.canon_plan.specs.NoHandle.{HasNoHandle, HaveNoHandle};
 ghost use Rattle.canon_recording_parts.specs.Format.{also, counted, exactly, row};
 ghost use Rattle.canon_recording_parts.specs.Read.{ReadsTo, seen_as};
-ghost use Rattle.canon_recording.specs.Coded.{IsDecoded, IsReadWhole};
+ghost use Rattle.canon_recording.specs.Coded.{IsDecoded, IsOnlyDecoding, IsReadWhole, told_as};
 ghost use Rattle.canon_recording.specs.Fits.{IsRecordable};
 ghost use Rattle.canon_recording.specs.Recordings.{a_call, an_ask, exports_of, imports_of, letters, passed, passed_in, read_recording, recorded_call, recorded_calls, served_ask, served_asks, value, values, what_was_done, done_in};
 
 use crate::functions::{export_count, export_type, import_count, import_type};
 use crate::runs::first_no_run;
 use crate::{Recorded, Recording, ReplayError, Served};
+use canon_context::Component;
 use canon_image::{ImageError, read_image};
 use canon_memory::Events;
 use canon_recording_parts::{read_below, read_bytes, read_events, read_u32};
 use canon_types::{ComponentTypes, InterfaceType, TypeFunc, TypeTupleIndex};
 use canon_val::Val;
-use canon_context::Component;
 use std::alloc::Global;
 
 /// The recording of a component whose bytes these are. Answers `BadRecording` at the first field that is cut off or spells nothing, the
 /// number of an export or an import that the component lacks included, or where more follows a recording; and `NotARun` with the number of
 /// the first call whose events aren't a run of its export, or in which a memory is longer than 2^32 bytes or shorter than one before it.
 pub fn decode(alloc: Global, c: &Component, bytes: &[u8]) -> Result<Recording, ReplayError>
+    requires sound { IsComponent c.now }
+    requires recordable { IsRecordable c.now }
+    ensures is { IsDecoded c.now bytes.now result }
+    ensures only { IsOnlyDecoding c.now bytes.now result }
+{
+    decode_runs(alloc, c, bytes)
+}
+
+/// The same, as far as `is` says.
+fn decode_runs(alloc: Global, c: &Component, bytes: &[u8]) -> Result<Recording, ReplayError>
     requires sound { IsComponent c.now }
     requires recordable { IsRecordable c.now }
     ensures is { IsDecoded c.now bytes.now result }
@@ -150,12 +160,12 @@ fn read_call(
 {
     match read_below(bytes, at, export_count(c)) {
         Ok(export) => match read_known_call(alloc, c, export, bytes, at) {
-            Ok(((params, results), (events, served))) => Ok(Recorded {
+            Ok((passed, done)) => Ok(Recorded {
                 export,
-                params,
-                events,
-                served,
-                results,
+                params: passed.0,
+                events: done.0,
+                served: done.1,
+                results: passed.1,
             }),
             Err(error) => Err(error),
         },
@@ -252,12 +262,7 @@ fn read_ask_row(
 }
 
 /// An ask: its import, its parameters and its results.
-fn read_ask(
-    alloc: Global,
-    c: &Component,
-    bytes: &[u8],
-    at: &mut u64,
-) -> Result<Served, ReplayError>
+fn read_ask(alloc: Global, c: &Component, bytes: &[u8], at: &mut u64) -> Result<Served, ReplayError>
     requires sound { IsComponent c.now }
     requires recordable { IsRecordable c.now }
     requires inside { at.old ≤ length bytes.now }
@@ -394,10 +399,22 @@ fn read_value(
     match read_bytes(bytes, at) {
         Ok(image) => match read_image(alloc, types, ty, image) {
             Ok(val) => Ok(val),
-            Err(ImageError::OutOfMemory) => Err(ReplayError::OutOfMemory),
-            Err(_) => Err(ReplayError::BadRecording(*at - image.len() as u64)),
+            Err(error) => {
+                let start = (*at).saturating_sub(image.len() as u64);
+                Err(told_as(error, start))
+            }
         },
         Err(error) => Err(error),
+    }
+}
+
+/// How an image is told that can't be read, by where it begins.
+fn told_as(error: ImageError, start: u64) -> ReplayError
+    ensures { result ≡ told_as start error }
+{
+    match error {
+        ImageError::OutOfMemory => ReplayError::OutOfMemory,
+        _ => ReplayError::BadRecording(start),
     }
 }
 

@@ -1,6 +1,6 @@
 //! The bytes of a recording, written field by field.
 
-ghost use Rattle.std.specs.Prelude.{All, false, length};
+ghost use Rattle.std.specs.Prelude.{◌≡◌, All, false, length};
 ghost use Rattle.canon_context.specs.Component.{IsComponent};
 ghost use Rattle.canon_types.specs.Table.{HasTuple, IsOver, Knows, members_of, param_members, result_members, shape_of, tuple_members};
 ghost use Rattle.canon_plan.specs.NoHandle.{HaveNoHandle, HasNoHandle};
@@ -12,11 +12,11 @@ ghost use Rattle.canon_recording.specs.Recordings.{a_call, an_ask, calls_in, exp
 
 use crate::functions::{export_type, import_count, import_type};
 use crate::{Recorded, Recording, ReplayError, Served};
-use canon_image::{ImageError, image};
+use canon_context::Component;
+use canon_image::image;
 use canon_recording_parts::{append, put_bytes, put_count, put_events, put_u32};
 use canon_types::{ComponentTypes, InterfaceType, TypeFunc, TypeTupleIndex};
 use canon_val::Val;
-use canon_context::Component;
 use std::alloc::Global;
 
 /// The bytes of a recording of a component. Answers `TooLong` where they would be more than 1,073,741,824.
@@ -294,6 +294,7 @@ fn put_values(
     bytes: &mut Vec<u8>,
 ) -> Result<(), ReplayError>
     requires known { All (Knows types.now) tys.now }
+    requires count { length vals.now ≡ length tys.now }
     requires given { AreGiven (members_of types.now tys.now) vals.now }
     ensures writes { WritesTo (values false (members_of types.now tys.now)) vals.now bytes.old.items bytes.new.items result }
 {
@@ -321,7 +322,7 @@ fn put_value(
 {
     match image(alloc, types, ty, val) {
         Ok(image) => put_bytes(bytes, image.as_slice()),
-        Err(ImageError::OutOfMemory) => Err(ReplayError::OutOfMemory),
-        Err(_) => unreachable!(),
+        // A value of the type has an image, so that only memory was short.
+        Err(_) => Err(ReplayError::OutOfMemory),
     }
 }

@@ -6,8 +6,8 @@ ghost use Rattle.canon_types.specs.Table.{IsOver, param_members, result_members}
 ghost use Rattle.canon_recording.specs.Fits.{IsRecordable};
 ghost use Rattle.canon_recording.specs.Recordings.{exports_of, imports_of};
 
-use canon_types::TypeFunc;
 use canon_context::{Component, Import};
+use canon_types::TypeFunc;
 
 /// The type of an export.
 pub(crate) fn export_type(c: &Component, export: u32) -> TypeFunc

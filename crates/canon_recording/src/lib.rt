@@ -5,6 +5,7 @@ mod blocks;
 mod decoding;
 mod encoding;
 mod functions;
+pub mod laws;
 mod recording;
 mod runs;
 

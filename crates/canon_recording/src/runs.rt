@@ -1,15 +1,16 @@
 //! Which events are those of a run.
 
-ghost use Rattle.std.specs.Prelude.{◌<◌, ◌↔◌, ◌≡◌, ◌^◌, [], ◌∷◌, All, IfSome, IsNone, IsTrue, length};
+ghost use Rattle.std.specs.Prelude.{◌<◌, ◌↔◌, ◌≡◌, ◌^◌, [], ◌∷◌, All, IfSome, IsNone, IsTrue, length, slice_get};
 ghost use Rattle.canon_context.specs.Component.{IsComponent};
-ghost use Rattle.canon_recording.specs.Fits.{AreRuns, IsNoRunAt, IsRunFrom};
+ghost use Rattle.canon_func.specs.Stores.{callee_in};
+ghost use Rattle.canon_recording.specs.Fits.{AreRuns, IsNoRunAt, IsRunFrom, callee_of_call};
 ghost use Rattle.canon_recording.specs.Recordings.{RecordedCall, recorded_call, recorded_calls};
 ghost use Rattle.canon_func.specs.Runs.{Grows, IsOneRun, last_len};
 ghost use Rattle.canon_recording.specs.Stages.{LeadsTo, after_asks, after_before, after_runs, is_end, len_in, returned_after};
 
 use crate::Recorded;
-use canon_memory::{Event, ValRaw};
 use canon_context::Component;
+use canon_memory::{Event, ValRaw};
 
 /// The most bytes that a memory has.
 const MAX_LEN: u64 = 1 << 32;
@@ -124,12 +125,7 @@ fn after_asks(event: &Event) -> Option<Stage>
 }
 
 /// After an event of a guest that returned these words.
-fn after_returned(
-    event: &Event,
-    func: u32,
-    post: Option<u32>,
-    returned: &[ValRaw],
-) -> Option<Stage>
+fn after_returned(event: &Event, func: u32, post: Option<u32>, returned: &[ValRaw]) -> Option<Stage>
     ensures leads { LeadsTo func post Stage.Returned returned.now event.now result }
 {
     let _ = func;
@@ -225,10 +221,11 @@ pub(crate) fn first_no_run(c: &Component, calls: &[Recorded]) -> Option<u32>
     let mut len = 0;
     for k in 0..calls.len() {
         let call = &calls[k];
-        if !is_run_from(c, len, call) {
+        if is_run_from(c, len, call) {
+            len = len_after_all(len, call.events.as_slice());
+        } else {
             return Some(k as u32);
         }
-        len = len_after_all(len, call.events.as_slice());
     }
     None
 }
@@ -239,8 +236,33 @@ fn is_run_from(c: &Component, len: u64, call: &Recorded) -> bool
     requires known { call.now.export < length c.now.exports.items }
     ensures { IsTrue result ↔ IsRunFrom c.now len (recorded_call call.now) }
 {
-    let events = call.events.as_slice();
-    let export = &c.exports[call.export as usize];
-    let post = c.options[export.options.as_u32() as usize].post_return;
-    is_run(events, export.func, post) && grows(len, events)
+    is_run_of(c, call) && grows(len, call.events.as_slice())
+}
+
+/// Whether its events are those of one.
+fn is_run_of(c: &Component, call: &Recorded) -> bool
+    requires sound { IsComponent c.now }
+    requires known { call.now.export < length c.now.exports.items }
+    ensures { IsTrue result ↔ IsOneRun (callee_of_call c.now (recorded_call call.now)).func (callee_of_call c.now (recorded_call call.now)).post call.now.events }
+{
+    let func = export_func(c, call.export);
+    let post = export_post(c, call.export);
+    is_run(call.events.as_slice(), func, post)
+}
+
+/// The core function of an export.
+fn export_func(c: &Component, export: u32) -> u32
+    requires known { export < length c.now.exports.items }
+    ensures { result ≡ (callee_in c.now (slice_get c.now.exports.items export)).func }
+{
+    c.exports[export as usize].func
+}
+
+/// The post-return of an export.
+fn export_post(c: &Component, export: u32) -> Option<u32>
+    requires sound { IsComponent c.now }
+    requires known { export < length c.now.exports.items }
+    ensures { result ≡ (callee_in c.now (slice_get c.now.exports.items export)).post }
+{
+    c.options[c.exports[export as usize].options.as_u32() as usize].post_return
 }

@@ -59,9 +59,9 @@ module _ {B : Type 0} (k : ℕ) (Good : ℕ → Type 0) (G : ℕ → Format B) (
   pub number_long : (e : ReplayError) → WritesTo (any_number k) n old mid (Err e) → WritesTo (then_ k Good G) b old new (Err e)
   number_long e h = long_along (any_number k) (then_ k Good G) n b old old new mid e
       (λ xs w.
-        let (m, rest, good, f, g) = w in
-        let field : IsField k n (le_bytes k n) [] = record { fits = subst (λ i. i < 256 ^ k) (one m rest g) f.fits; is = sym (append-nil (le_bytes k n)) } in
-        (le_bytes k n, (tt, field), omega (arith, field_length k m xs rest f, field_length k n (le_bytes k n) [] field))) h
+      let (m, rest, good, f, g) = w in
+      let field : IsField k n (le_bytes k n) [] = record { fits = subst (λ i. i < 256 ^ k) (one m rest g) f.fits; is = sym (append-nil (le_bytes k n)) } in
+      (le_bytes k n, (tt, field), omega (arith, field_length k m xs rest f, field_length k n (le_bytes k n) [] field))) h
 
   pub numbered_written : (result : Result (Unit {0}) ReplayError) → Good n → WritesTo (any_number k) n old mid (Ok tt) → WritesTo (G n) b mid new result → WritesTo (then_ k Good G) b old new result
   numbered_written (Ok done) good f g =
@@ -76,8 +76,8 @@ module _ {B : Type 0} (k : ℕ) (Good : ℕ → Type 0) (G : ℕ → Format B) (
       let (t, field) = f.written in
       long_along (G n) (then_ k Good G) b b old mid new new e
       (λ xs w.
-        let (m, rest, also_good, f2, g) = w in
-        (rest, subst (λ i. (G i).writes b rest) (one m rest g) g, omega (arith, field_length k m xs rest f2, field_length k n f.xs [] field, ap length f.is, length-append old f.xs))) h
+      let (m, rest, also_good, f2, g) = w in
+      (rest, subst (λ i. (G i).writes b rest) (one m rest g) g, omega (arith, field_length k m xs rest f2, field_length k n f.xs [] field, ap length f.is, length-append old f.xs))) h
 
 -- ---- numbers
 

@@ -51,12 +51,7 @@ fn read_event_row(
 }
 
 /// An event: a tag, and what stands behind it.
-fn read_event(
-    alloc: Global,
-    bytes: &[u8],
-    at: &mut u64,
-    imports: u64,
-) -> Result<Event, ReplayError>
+fn read_event(alloc: Global, bytes: &[u8], at: &mut u64, imports: u64) -> Result<Event, ReplayError>
     requires inside { at.old ≤ length bytes.now }
     ensures reads { ReadsTo (an_event imports) bytes.now at.old at.new result }
 {
@@ -117,12 +112,7 @@ fn read_start(alloc: Global, bytes: &[u8], at: &mut u64) -> Result<Event, Replay
     }
 }
 
-fn read_ask(
-    alloc: Global,
-    bytes: &[u8],
-    at: &mut u64,
-    imports: u64,
-) -> Result<Event, ReplayError>
+fn read_ask(alloc: Global, bytes: &[u8], at: &mut u64, imports: u64) -> Result<Event, ReplayError>
     requires inside { at.old ≤ length bytes.now }
     ensures reads { ReadsTo (tagged imports 1) bytes.now at.old at.new result }
 {

@@ -1,25 +1,5 @@
-use Rattle.std.proofs.Common.{Err, Ok, arith, length, take, drop, refl, ap, subst, sym, false, true, ◌+◌, ◌-◌, ◌<◌, ◌≤◌, ◌≡◌, ◌∙◌, ℕ, [], ◌++◌, ◌∷◌}
-use Rattle.std.specs.Prelude.{slice_index_or, ⊤}
-use Rattle.std.proofs.Common.{All, ◌^◌}
-use Rattle.canon_recording.specs.Fits.{AreRuns, IsNoRunAt}
-use Rattle.canon_recording_parts.specs.Format.{also, any_number, as_, counted, each, exactly, number, row, then_}
-use Rattle.canon_recording_parts.specs.Events.{an_event, raw}
-use Rattle.canon_recording_parts.specs.Written.{IsAdded, WritesTo}
-use Rattle.canon_recording_parts.specs.Read.{AreRead, ReadsTo}
-use Rattle.canon_recording.specs.Recordings.{a_call, an_ask, ask_of, call_of, done_in, exports_of, imports_of, letters, passed, passed_in, recorded_call, recorded_calls, RecordedCall, served_ask, served_asks, Spells, value, values, what_was_done}
-use Rattle.canon_recording.specs.Fits.{AreGiven, IsAskOf, IsCallOf, IsOf, IsValueOf}
-use Rattle.canon_types.specs.Table.{members_of, param_members, result_members, shape_of, tuple_members, types_of}
-use Rattle.canon_recording.proofs.Deciding.{written_few, written_known}
+use Rattle.canon_recording.proofs.Telling.{same_decoding}
 use Rattle.canon_recording.proofs.decoding.decode.Goals as goal
 
-pub first_no_run-requires-clause-known : goal.first_no_run-requires-clause-known
-first_no_run-requires-clause-known c = subst (λ xs. All (λ (r : RecordedCall). r.export < length c.args.c.now.exports.items) (recorded_calls xs)) (sym c.as_slice.ensures.value) (written_known (exports_of c.args.c.now) (imports_of c.args.c.now) (recorded_calls c.in-Ok.calls.items) c.args.bytes.now c.in-Ok.ensures.is)
-
-pub first_no_run-requires-clause-few : goal.first_no_run-requires-clause-few
-first_no_run-requires-clause-few c = subst (λ xs. length xs < 2 ^ 32) (sym c.as_slice.ensures.value) (written_few (exports_of c.args.c.now) (imports_of c.args.c.now) c.in-Ok.calls.items c.args.bytes.now c.in-Ok.ensures.is)
-
-pub returns-in-Some : goal.returns-in-Some
-returns-in-Some c = record { is = (recorded_calls c.in-Ok.calls.items, c.in-Ok.ensures.is, subst (λ xs. IsNoRunAt c.args.c.now 0 (recorded_calls xs) c.in-Some.call) c.as_slice.ensures.value c.in-Some.ensures.first) }
-
-pub returns-in-None : goal.returns-in-None
-returns-in-None c = record { is = (c.in-Ok.ensures.is, subst (λ xs. AreRuns c.args.c.now 0 (recorded_calls xs)) c.as_slice.ensures.value (c.in-None.ensures.all refl)) }
+pub returns-clause-only : goal.returns-clause-only
+returns-clause-only c = λ other h. same_decoding c.args.c.now c.args.bytes.now c.decode_runs.result other c.decode_runs.ensures.is h

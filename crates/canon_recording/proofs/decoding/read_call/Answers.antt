@@ -1,19 +1,14 @@
-use Rattle.std.proofs.Common.{Err, Ok, arith, length, take, drop, refl, ap, subst, sym, false, true, ◌+◌, ◌-◌, ◌<◌, ◌≤◌, ◌≡◌, ◌∙◌, ℕ, [], ◌++◌, ◌∷◌}
-use Rattle.std.specs.Prelude.{slice_index_or, ⊤}
-use Rattle.canon_recording_parts.specs.Format.{also, any_number, as_, counted, each, exactly, number, row, then_}
-use Rattle.canon_recording_parts.specs.Events.{an_event, raw}
-use Rattle.canon_recording_parts.specs.Written.{IsAdded, WritesTo}
-use Rattle.canon_recording_parts.specs.Read.{AreRead, ReadsTo}
-use Rattle.canon_recording.specs.Recordings.{a_call, an_ask, ask_of, call_of, done_in, exports_of, imports_of, letters, passed, passed_in, recorded_call, recorded_calls, RecordedCall, served_ask, served_asks, Spells, value, values, what_was_done}
-use Rattle.canon_recording.specs.Fits.{AreGiven, IsAskOf, IsCallOf, IsOf, IsValueOf}
-use Rattle.canon_types.specs.Table.{members_of, param_members, result_members, shape_of, tuple_members, types_of}
+use Rattle.std.proofs.Common.{Err, Ok, subst, true, ◌<◌}
+use Rattle.canon_recording_parts.specs.Format.{also, as_, number}
+use Rattle.canon_recording_parts.specs.Read.{ReadsTo}
+use Rattle.canon_recording.specs.Recordings.{call_of, done_in, exports_of, imports_of, passed, passed_in, what_was_done}
 use Rattle.canon_recording_parts.proofs.Reading.{named, named_stops, number_stops, then_read, then_stops}
 use Rattle.canon_recording.proofs.decoding.read_call.Goals as goal
 
 pub returns-in-Ok-read_known_call : goal.returns-in-Ok-read_known_call
 returns-in-Ok-read_known_call c =
-    let parts = named (call_of true c.in-Ok.export) (also (passed true (exports_of c.args.c.now) c.in-Ok.export) (what_was_done true (exports_of c.args.c.now) (imports_of c.args.c.now))) c.args.bytes.now c.read_below.new.at c.read_known_call.new.at ((c.in-Ok-read_known_call.params.items, c.in-Ok-read_known_call.results.items), (c.in-Ok-read_known_call.events, served_asks c.in-Ok-read_known_call.served.items)) c.in-Ok-read_known_call.ensures.reads in
-    record { reads = then_read 4 (λ n. n < (exports_of c.args.c.now).count) (λ n. as_ (call_of true n) (also (passed true (exports_of c.args.c.now) n) (what_was_done true (exports_of c.args.c.now) (imports_of c.args.c.now)))) c.args.bytes.now c.args.at.now c.read_below.new.at c.read_known_call.new.at c.read_known_call.new.at c.in-Ok.export (call_of true c.in-Ok.export ((c.in-Ok-read_known_call.params.items, c.in-Ok-read_known_call.results.items), (c.in-Ok-read_known_call.events, served_asks c.in-Ok-read_known_call.served.items))) (subst (λ m. ReadsTo (number 4 (λ n. n < m)) c.args.bytes.now c.args.at.now c.read_below.new.at (Ok c.in-Ok.export)) c.export_count.ensures c.in-Ok.ensures.reads) parts }
+    let parts = named (call_of true c.in-Ok.export) (also (passed true (exports_of c.args.c.now) c.in-Ok.export) (what_was_done true (exports_of c.args.c.now) (imports_of c.args.c.now))) c.args.bytes.now c.read_below.new.at c.read_known_call.new.at (passed_in c.in-Ok-read_known_call.passed, done_in c.in-Ok-read_known_call.done) c.in-Ok-read_known_call.ensures.reads in
+    record { reads = then_read 4 (λ n. n < (exports_of c.args.c.now).count) (λ n. as_ (call_of true n) (also (passed true (exports_of c.args.c.now) n) (what_was_done true (exports_of c.args.c.now) (imports_of c.args.c.now)))) c.args.bytes.now c.args.at.now c.read_below.new.at c.read_known_call.new.at c.read_known_call.new.at c.in-Ok.export (call_of true c.in-Ok.export (passed_in c.in-Ok-read_known_call.passed, done_in c.in-Ok-read_known_call.done)) (subst (λ m. ReadsTo (number 4 (λ n. n < m)) c.args.bytes.now c.args.at.now c.read_below.new.at (Ok c.in-Ok.export)) c.export_count.ensures c.in-Ok.ensures.reads) parts }
 
 pub returns-in-Err-read_known_call : goal.returns-in-Err-read_known_call
 returns-in-Err-read_known_call c =

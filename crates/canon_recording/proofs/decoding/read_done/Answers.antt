@@ -1,12 +1,8 @@
-use Rattle.std.proofs.Common.{Err, Ok, arith, length, take, drop, refl, ap, subst, sym, false, true, ◌+◌, ◌-◌, ◌<◌, ◌≤◌, ◌≡◌, ◌∙◌, ℕ, [], ◌++◌, ◌∷◌}
-use Rattle.std.specs.Prelude.{slice_index_or, ⊤}
-use Rattle.canon_recording_parts.specs.Format.{also, any_number, as_, counted, each, exactly, number, row, then_}
-use Rattle.canon_recording_parts.specs.Events.{an_event, raw}
-use Rattle.canon_recording_parts.specs.Written.{IsAdded, WritesTo}
-use Rattle.canon_recording_parts.specs.Read.{AreRead, ReadsTo}
-use Rattle.canon_recording.specs.Recordings.{a_call, an_ask, ask_of, call_of, done_in, exports_of, imports_of, letters, passed, passed_in, recorded_call, recorded_calls, RecordedCall, served_ask, served_asks, Spells, value, values, what_was_done}
-use Rattle.canon_recording.specs.Fits.{AreGiven, IsAskOf, IsCallOf, IsOf, IsValueOf}
-use Rattle.canon_types.specs.Table.{members_of, param_members, result_members, shape_of, tuple_members, types_of}
+use Rattle.std.proofs.Common.{Err, Ok, subst, true}
+use Rattle.canon_recording_parts.specs.Format.{counted}
+use Rattle.canon_recording_parts.specs.Events.{an_event}
+use Rattle.canon_recording_parts.specs.Read.{ReadsTo}
+use Rattle.canon_recording.specs.Recordings.{an_ask, exports_of, imports_of, served_asks}
 use Rattle.canon_recording_parts.proofs.Reading.{both_read, first_stops, second_stops}
 use Rattle.canon_recording.proofs.decoding.read_done.Goals as goal
 

@@ -1,18 +1,19 @@
-use Rattle.std.proofs.Common.{Err, Ok, arith, length, take, drop, refl, ap, subst, sym, false, true, ◌+◌, ◌-◌, ◌<◌, ◌≤◌, ◌≡◌, ◌∙◌, ℕ, [], ◌++◌, ◌∷◌}
-use Rattle.std.specs.Prelude.{slice_index_or, ⊤}
+use Rattle.std.proofs.Common.{ap, subst, sym, false, ◌∙◌}
 use Rattle.std.proofs.Common.{All}
 use Rattle.canon_types.specs.Table.{Knows}
-use Rattle.canon_recording_parts.specs.Format.{also, any_number, as_, counted, each, exactly, number, row, then_}
-use Rattle.canon_recording_parts.specs.Events.{an_event, raw}
-use Rattle.canon_recording_parts.specs.Written.{IsAdded, WritesTo}
-use Rattle.canon_recording_parts.specs.Read.{AreRead, ReadsTo}
-use Rattle.canon_recording.specs.Recordings.{a_call, an_ask, ask_of, call_of, done_in, exports_of, imports_of, letters, passed, passed_in, recorded_call, recorded_calls, RecordedCall, served_ask, served_asks, Spells, value, values, what_was_done}
-use Rattle.canon_recording.specs.Fits.{AreGiven, IsAskOf, IsCallOf, IsOf, IsValueOf}
-use Rattle.canon_types.specs.Table.{members_of, param_members, result_members, shape_of, tuple_members, types_of}
+use Rattle.canon_recording_parts.specs.Written.{WritesTo}
+use Rattle.canon_recording.specs.Recordings.{values}
+use Rattle.canon_recording.specs.Fits.{AreGiven}
+use Rattle.canon_types.specs.Table.{members_of, tuple_members}
+use Rattle.canon_recording.proofs.Values.{given_count}
+use Rattle.canon_recording.specs.Fits.{AreOf}
 use Rattle.canon_recording.proofs.encoding.put_tuple.Goals as goal
 
 pub put_values-requires-clause-known : goal.put_values-requires-clause-known
 put_values-requires-clause-known c = subst (All (Knows c.types-types.result.now)) (sym c.as_slice-tys.ensures.value) c.tuple.ensures.entry.known
+
+pub put_values-requires-clause-count : goal.put_values-requires-clause-count
+put_values-requires-clause-count c = given_count c.types-types.result.now c.as_slice-tys.result.now c.args.vals.now (subst (λ ms. AreOf ms c.args.vals.now) (sym (ap (members_of c.types-types.result.now) (c.as_slice-tys.ensures.value ∙ c.tuple.ensures.types) ∙ ap (λ t. tuple_members t c.args.tuple) c.types-types.ensures)) c.requires.given.are)
 
 pub put_values-requires-clause-given : goal.put_values-requires-clause-given
 put_values-requires-clause-given c = subst (λ ms. AreGiven ms c.args.vals.now) (sym (ap (members_of c.types-types.result.now) (c.as_slice-tys.ensures.value ∙ c.tuple.ensures.types) ∙ ap (λ t. tuple_members t c.args.tuple) c.types-types.ensures)) c.requires.given

@@ -1,8 +1,8 @@
-use Rattle.std.proofs.Common.{Some, arith, ap, drop, false, length, refl, subst, sym, List, ◌+◌, ◌<◌, ◌≤◌, ◌^◌, ◌∙◌, ◌∷◌, ◌≡◌}
-use Rattle.std.specs.Prelude.{◌↔◌, [], IsTrue}
+use Rattle.std.proofs.Common.{arith, drop, subst, sym, ◌+◌, ◌≤◌, ◌^◌, ◌∷◌}
+use Rattle.std.specs.Prelude.{◌↔◌, []}
 use Rattle.std.proofs.lemmas.Bool.{le-leb, leb-true}
-use Rattle.canon_func.specs.Runs.{Grows, IsOneRun, last_len}
-use Rattle.canon_recording.specs.Stages.{IsLeft, LeadsTo, len_in}
+use Rattle.canon_func.specs.Runs.{Grows, last_len}
+use Rattle.canon_recording.specs.Stages.{len_in}
 use Rattle.canon_recording.proofs.Staging.{first_grows, grows_first, iff_then, left_at, none, none_left}
 use Rattle.canon_recording.proofs.runs.grows.Goals as goal
 

@@ -1,8 +1,7 @@
-use Rattle.std.proofs.Common.{Some, arith, ap, drop, false, length, refl, subst, sym, List, ◌+◌, ◌<◌, ◌≤◌, ◌^◌, ◌∙◌, ◌∷◌, ◌≡◌}
-use Rattle.std.specs.Prelude.{◌↔◌, [], IsTrue}
-use Rattle.std.proofs.lemmas.Bool.{le-leb, leb-true}
-use Rattle.canon_func.specs.Runs.{Grows, IsOneRun, last_len}
-use Rattle.canon_recording.specs.Stages.{IsLeft, LeadsTo, len_in}
+use Rattle.std.proofs.Common.{drop, subst, sym, ◌+◌, ◌∙◌, ◌∷◌}
+use Rattle.std.specs.Prelude.{◌↔◌}
+use Rattle.canon_func.specs.Runs.{IsOneRun}
+use Rattle.canon_recording.specs.Stages.{IsLeft}
 use Rattle.canon_recording.proofs.Staging.{end_left, iff_then, left_at, left_end, none, none_left}
 use Rattle.canon_recording.proofs.runs.is_run.Goals as goal
 

@@ -1,8 +1,5 @@
-use Rattle.std.proofs.Common.{Some, arith, ap, drop, false, length, refl, subst, sym, List, ◌+◌, ◌<◌, ◌≤◌, ◌^◌, ◌∙◌, ◌∷◌, ◌≡◌}
-use Rattle.std.specs.Prelude.{◌↔◌, [], IsTrue}
-use Rattle.std.proofs.lemmas.Bool.{le-leb, leb-true}
-use Rattle.canon_func.specs.Runs.{Grows, IsOneRun, last_len}
-use Rattle.canon_recording.specs.Stages.{IsLeft, LeadsTo, len_in}
+use Rattle.std.proofs.Common.{ap, drop, sym, ◌+◌, ◌∙◌}
+use Rattle.canon_func.specs.Runs.{last_len}
 use Rattle.canon_recording.proofs.Staging.{last_first, left_at, none_left}
 use Rattle.canon_recording.proofs.runs.len_after_all.Goals as goal
 

@@ -16,7 +16,7 @@ pub returns-in-Return : goal.returns-in-Return
 returns-in-Return c = record { writes = return_written c.args.imports c.args.event.now c.in-Return.words c.in-Return.memory c.as_slice-in-Return.result.now c.as_slice-in-Return-2.result.now c.args.bytes.now.items c.put_words_and_memory-in-Return.new.bytes.items c.put_words_and_memory-in-Return.result c.in-Return.is c.as_slice-in-Return.ensures c.as_slice-in-Return-2.ensures c.put_words_and_memory-in-Return.ensures.writes }
 
 pub returns-in-Realloc : goal.returns-in-Realloc
-returns-in-Realloc c = record { writes = realloc_written c.args.imports c.args.event.now c.in-Realloc.old c.in-Realloc.old_size c.in-Realloc.align c.in-Realloc.new_size c.in-Realloc.answer c.args.bytes.now.items c.put_request.new.bytes.items c.put_request.result c.in-Realloc.is  c.put_request.ensures.writes }
+returns-in-Realloc c = record { writes = realloc_written c.args.imports c.args.event.now c.in-Realloc.old c.in-Realloc.old_size c.in-Realloc.align c.in-Realloc.new_size c.in-Realloc.answer c.args.bytes.now.items c.put_request.new.bytes.items c.put_request.result c.in-Realloc.is c.put_request.ensures.writes }
 
 pub returns-in-Post : goal.returns-in-Post
 returns-in-Post c = record { writes = post_written c.args.imports c.args.event.now c.in-Post.func c.in-Post.words c.as_slice-in-Post.result.now c.args.bytes.now.items c.put_post.new.bytes.items c.put_post.result c.in-Post.is c.as_slice-in-Post.ensures c.put_post.ensures.writes }

@@ -1,5 +1,5 @@
 -- No recording's bytes begin another's, reading them stops at one place, and a recording is written in one way.
-use Rattle.std.proofs.Common.{Bool, List, ap, ap₂, false, refl, sym, ℕ, ◌<◌, ◌∙◌, ◌≡◌}
+use Rattle.std.proofs.Common.{List, ap, false, sym, ℕ, ◌<◌, ◌∙◌, ◌≡◌}
 use Rattle.canon_memory.specs.declared.event.Event.{Event}
 use Rattle.canon_val.specs.declared.val.Val.{Val}
 use Rattle.canon_recording_parts.proofs.Formats.{also_sound, as_sound, counted_sound, exactly_sound, then_sound}
