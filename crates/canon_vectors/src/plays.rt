@@ -68,7 +68,7 @@ fn a_source_fails_after_its_first_byte(rt: HostRuntime) -> Result<(), Fail> {
 #[test]
 fn a_sink_fails_after_each_of_its_first_bytes(rt: HostRuntime) -> Result<(), Fail> {
     let (_, words, input, _, text) = ROWS[0];
-    for taken in 0..20 {
+    for taken in 0..text.len().min(20) {
         let ending = play(rt.alloc(), words, input.as_bytes(), 1, 0, taken as u64 + 1)?;
         assert!(rt;
             ending.status == Status::WRITE_FAULT
