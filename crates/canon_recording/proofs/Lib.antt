@@ -1,3 +1,4 @@
+pub mod Below
 pub mod BlockKinds
 pub mod Deciding
 pub mod Playing

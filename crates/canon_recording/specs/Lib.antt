@@ -1,5 +1,6 @@
 pub mod Coded
 pub mod Fits
 pub mod Laws
+pub mod Recordable
 pub mod Recordings
 pub mod Stages
