@@ -1,16 +1,15 @@
 -- A call by the bytes of its parameters.
-use Rattle.std.proofs.Common.{Bool, Err, List, None, Ok, Option, Result, Some, Vec, ap, drop, length, refl, subst, sym, take, true, ℕ, ◌++◌, ◌∙◌, ◌≡◌}
+use Rattle.std.proofs.Common.{Err, List, None, Ok, Option, Result, Some, Vec, ap, drop, length, refl, subst, take, true, ℕ, ◌++◌, ◌∙◌, ◌≡◌}
 use Rattle.std.proofs.Math.Seq.{take-append_seam}
 use Rattle.std.proofs.lemmas.Bool.{false≢true}
 use Rattle.std.specs.Prelude.{IfOk, IfSome, IsSome, slice_get}
 use Rattle.std.specs.declared.alloc.Global.{Global}
-use Rattle.canon_image_parts.specs.Read.{IsRead}
 use Rattle.canon_image_parts.specs.declared.error.ImageError.{ImageError}
 use Rattle.canon_types.specs.Table.{shape_of, types_of}
 use Rattle.canon_types.specs.declared.types.InterfaceType.TheVariants as ty
 use Rattle.canon_types.specs.declared.types.TypeFunc.{TypeFunc}
 use Rattle.canon_plan.specs.NoHandle.{has_no_handle}
-use Rattle.canon_context.specs.Core.{Parts, component_types}
+use Rattle.canon_context.specs.Core.{component_types}
 use Rattle.canon_context.specs.declared.component.Component.{Component}
 use Rattle.canon_relay.specs.Channel.{Message}
 use Rattle.canon_func.specs.Stores.{Named, type_in, type_of}
