@@ -1,14 +1,15 @@
 -- A call by the bytes of its parameters.
-use Rattle.std.proofs.Common.{Bool, Err, List, None, Ok, Option, Result, Some, Vec, ap, length, refl, subst, sym, true, ℕ, ◌≡◌}
+use Rattle.std.proofs.Common.{Err, List, None, Ok, Option, Result, Some, Vec, ap, drop, length, refl, subst, take, true, ℕ, ◌++◌, ◌∙◌, ◌≡◌}
+use Rattle.std.proofs.Math.Seq.{take-append_seam}
+use Rattle.std.proofs.lemmas.Bool.{false≢true}
 use Rattle.std.specs.Prelude.{IfOk, IfSome, IsSome, slice_get}
 use Rattle.std.specs.declared.alloc.Global.{Global}
-use Rattle.canon_image_parts.specs.Read.{IsRead}
 use Rattle.canon_image_parts.specs.declared.error.ImageError.{ImageError}
 use Rattle.canon_types.specs.Table.{shape_of, types_of}
 use Rattle.canon_types.specs.declared.types.InterfaceType.TheVariants as ty
 use Rattle.canon_types.specs.declared.types.TypeFunc.{TypeFunc}
 use Rattle.canon_plan.specs.NoHandle.{has_no_handle}
-use Rattle.canon_context.specs.Core.{Parts, component_types}
+use Rattle.canon_context.specs.Core.{component_types}
 use Rattle.canon_context.specs.declared.component.Component.{Component}
 use Rattle.canon_relay.specs.Channel.{Message}
 use Rattle.canon_func.specs.Stores.{Named, type_in, type_of}
@@ -21,6 +22,10 @@ use Rattle.canon_serve.specs.declared.answer.Answer.{Answer}
 pub on_ok : {A X : Type 0} (P Q : A → Type 0) → ((a : A) → P a → Q a) → (r : Result A X) → IfOk r P → IfOk r Q
 on_ok P Q f (Ok a) h = f a h
 on_ok P Q f (Err e) h = h
+
+-- slots that were written, all of them
+pub written : {X : Type 0} (items new : List X) (n : ℕ) → n ≡ length new → take n (new ++ drop (length new) items) ≡ new
+written items new n is = ap (λ k. take k (new ++ drop (length new) items)) is ∙ take-append_seam new (drop (length new) items)
 
 module _ {E H : Type 0} (log : E → Option (List Message)) (f : Named) (s s2 : EngineStore E H) (a : Answer) where
   by_type : (params : List Val) (slots : ℕ) (r : Result (Unit {0}) Error) (rs : List Val) (o : Option TypeFunc) → o ≡ type_of s f
@@ -43,7 +48,7 @@ module _ {E H : Type 0} (log : E → Option (List Message)) (f : Named) (s s2 : 
   called_by bytes params n (Some t) plain read called = subst (λ b. CalledBy log f t bytes s s2 a b) plain (Ok (val.Tuple params), read.0, (params, refl, called))
 
   pub found_call : (bytes : List ℕ) (o : Option TypeFunc) → IsSome o → IfSome o (λ t. CalledBy log f t bytes s s2 a (has_no_handle (results_shape log s t))) → CalledOf log f bytes s s2 a o
-  found_call bytes None some called = absurd some
+  found_call bytes None some called = absurd (false≢true some)
   found_call bytes (Some t) some called = called
 
 module _ {E H : Type 0} (log : E → Option (List Message)) (f : Named) (s : EngineStore E H) (a : Answer) where

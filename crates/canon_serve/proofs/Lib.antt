@@ -1,4 +1,3 @@
 pub mod Calling
 pub mod Passing
-pub mod Sessions
 pub mod Unlogged

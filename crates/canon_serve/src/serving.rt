@@ -1,9 +1,5 @@
 //! Hears commands and tells what came of them, until the session ends.
 
-ghost use Rattle.std.specs.Prelude.{◌≡◌, ◌≢◌, IfSome, IsNone, None, Some, if◌then◌else◌};
-ghost use Rattle.canon_relay.specs.Relay.{Passes};
-ghost use Rattle.canon_serve.specs.Carries.{IsCut, IsSession, ServesOne, ServesUntil};
-
 use crate::answer::{Answer, Senseless, tell_answer};
 use crate::begin::{NoStore, store_of};
 use crate::command::{Command, Unheard, hear_command};
@@ -34,9 +30,7 @@ pub fn serve<E: Channel + Drop, H: Channel + Drop, P: Channel>(
     engine: E,
     host: H,
     caller: &mut P,
-) -> End
-    ensures session { result ≡ End.Asked → IsSession H E.log (P.log caller.old) (P.log caller.new) result }
-{
+) -> End {
     let command = match hear_command(alloc, caller) {
         Ok(command) => command,
         Err(why) => return unheard(why),
@@ -55,9 +49,7 @@ pub fn serve<E: Channel + Drop, H: Channel + Drop, P: Channel>(
     serve_store(alloc, &mut store, caller)
 }
 
-fn unheard(why: Unheard) -> End
-    ensures { result ≢ End.Asked }
-{
+fn unheard(why: Unheard) -> End {
     match why {
         Unheard::Broken => End::Broken,
         Unheard::OutOfMemory => End::OutOfMemory,
@@ -65,9 +57,7 @@ fn unheard(why: Unheard) -> End
 }
 
 /// Tells the caller why its component isn't served.
-fn no_store<P: Channel>(alloc: Global, caller: &mut P, why: NoStore) -> End
-    ensures { result ≢ End.Asked }
-{
+fn no_store<P: Channel>(alloc: Global, caller: &mut P, why: NoStore) -> End {
     match why {
         NoStore::NoComponent => {
             let answer = Answer::Senseless(Senseless::NoComponent);
@@ -94,9 +84,7 @@ fn serve_store<E: Channel, H: Channel, P: Channel>(
     alloc: Global,
     store: &mut EngineStore<E, H>,
     caller: &mut P,
-) -> End
-    ensures { ServesUntil E.log (P.log caller.old) (P.log caller.new) store.old result }
-{
+) -> End {
     for _ in 0..u64::MAX {
         if let Some(end) = serve_next(alloc, store, caller) {
             return end;
@@ -110,10 +98,7 @@ fn serve_next<E: Channel, H: Channel, P: Channel>(
     alloc: Global,
     store: &mut EngineStore<E, H>,
     caller: &mut P,
-) -> Option<End>
-    ensures one { IsNone result → ServesOne E.log (P.log caller.old) (P.log caller.new) store.old store.new }
-    ensures cut { IfSome result (λ why. Passes (P.log caller.old) (P.log caller.new) (IsCut why)) }
-{
+) -> Option<End> {
     match hear_command(alloc, caller) {
         Ok(Command::End) => Some(End::Asked),
         Ok(command) => match carry_out(alloc, store, &command) {
@@ -125,8 +110,6 @@ fn serve_next<E: Channel, H: Channel, P: Channel>(
 }
 
 /// How the session ends where an answer wasn't told.
-fn told_end(is_told: bool) -> Option<End>
-    ensures { result ≡ (if is_told then None else Some End.Broken) }
-{
+fn told_end(is_told: bool) -> Option<End> {
     if is_told { None } else { Some(End::Broken) }
 }
