@@ -27,17 +27,17 @@ module _ {T G : Type 0} (seen : G → Seen) (moves : GuestIn G → List Event �
   AskedBy its r = Out its seen moves gives.answers log log2 refusals refusals2 index a b export asked words storage2 r
 
   served_by : (form : HostFuncForm T) → row_words (asked_results (export_callee a.component export) asked) ≤ length storage2 → ServesForm gives log index seen moves asked form log2 refusals refusals2 a storage (Ok tt) b storage2 → AskedBy (ask_form form) (Ok tt)
-  served_by over_values room h =
-      logged_served ask_values values_sound seen moves gives.answers log log2 refusals refusals2 index a b export asked words pad storage2 is (steps_of_values gives log index seen moves asked) (λ told. logged log (logged_entry index told))
-      (values_follow seen moves gives log index a b export asked words pad storage2 is) storage front room h
+  served_by (over_values may) room h =
+      logged_served (ask_values may) (values_sound may) seen moves gives.answers log log2 refusals refusals2 index a b export asked words pad storage2 is (steps_of_values gives log index seen moves asked may) (λ told. logged log (logged_entry index told))
+      (values_follow may seen moves gives log index a b export asked words pad storage2 is) storage front room h
   served_by (over_types types may) room h =
       logged_served (ask_types types may) (types_sound types may) seen moves gives.answers log log2 refusals refusals2 index a b export asked words pad storage2 is (steps_of_types types may log seen moves asked) (λ told. log)
       (types_follow types may seen moves gives log index a b export asked words pad storage2 is) storage front room h
 
   stopped_by : (form : HostFuncForm T) → moves (guest_of a) [] (guest_of a) → (e : HostError) → ServesForm gives log index seen moves asked form log2 refusals refusals2 a storage (Err e) b storage2 → AskedBy (ask_form form) (Err (host_error index e))
-  stopped_by over_values stays e h =
-      logged_stopped ask_values values_sound seen moves gives.answers log log2 refusals refusals2 index a b export asked words pad storage2 is (steps_of_values gives log index seen moves asked) (λ told. logged log (logged_entry index told))
-      (values_follow seen moves gives log index a b export asked words pad storage2 is) storage front stays e h
+  stopped_by (over_values may) stays e h =
+      logged_stopped (ask_values may) (values_sound may) seen moves gives.answers log log2 refusals refusals2 index a b export asked words pad storage2 is (steps_of_values gives log index seen moves asked may) (λ told. logged log (logged_entry index told))
+      (values_follow may seen moves gives log index a b export asked words pad storage2 is) storage front stays e h
   stopped_by (over_types types may) stays e h =
       logged_stopped (ask_types types may) (types_sound types may) seen moves gives.answers log log2 refusals refusals2 index a b export asked words pad storage2 is (steps_of_types types may log seen moves asked) (λ told. log)
       (types_follow types may seen moves gives log index a b export asked words pad storage2 is) storage front stays e h

@@ -32,6 +32,7 @@ use Rattle.canon_func.specs.Call.{OnAnswered}
 use Rattle.canon_func.specs.HostAsks.{RefusalCounted, asked_error, host_error, stopped_error}
 use Rattle.canon_func.specs.AskValues.{asked_origin, asked_results, AskLowers, LowersInto}
 use Rattle.canon_func.specs.Steps.{RisesAt, TrapsLate}
+use Rattle.canon_host.specs.Forms.{ValuesAnswering}
 use Rattle.canon_func.specs.Stores.{Callee}
 use Rattle.canon_func.specs.AskForms.{ask_values}
 use Rattle.canon_func.proofs.AskLaws.{LowersAs}
@@ -174,10 +175,10 @@ no_lawful_end a b answers trap at lawful cause = last_lawful answers at _ (λ x 
 
 -- ---- what is asked of steps
 
-module _ {T G : Type 0} (seen : G → Seen) (moves : GuestIn G → List Event → GuestIn G → Type 0) (index : ℕ) (a b : Parts T G) (callee : Callee) (asked : Asked) (at : ℕ) (results : List Val) (words storage2 : List ℕ) (are : words ≡ take (members_flat (asked_results callee asked)) storage2)
+module _ {T G : Type 0} (may : ValuesAnswering T) (seen : G → Seen) (moves : GuestIn G → List Event → GuestIn G → Type 0) (index : ℕ) (a b : Parts T G) (callee : Callee) (asked : Asked) (at : ℕ) (results : List Val) (words storage2 : List ℕ) (are : words ≡ take (members_flat (asked_results callee asked)) storage2)
     (l : LedgerState) where
   pub lowered_as : (r : Result (Unit {0}) Fault) → AskLowered callee asked at (moment_of seen a) (moment_of seen b) results words l b.ledger r → Moves seen moves (guest_of a) (guest_of b) (ending_of r)
-      → LowersAs ask_values seen moves index a b callee asked storage2 at results l r
+      → LowersAs (ask_values may) seen moves index a b callee asked storage2 at results l r
   lowered_as (Ok x) by moved = record {
     answers = by.answers;
     trap = by.trap;
