@@ -31,6 +31,7 @@ use Rattle.canon_func.specs.Call.{OnAnswered}
 use Rattle.canon_func.specs.HostAsks.{RefusalCounted, asked_error, host_error, stopped_error}
 use Rattle.canon_func.specs.AskValues.{asked_origin, asked_results, AskLowers, LowersInto}
 use Rattle.canon_func.specs.Steps.{RisesAt, TrapsLate}
+use Rattle.canon_host.specs.Forms.{ValuesAnswering}
 use Rattle.canon_func.specs.Stores.{Callee}
 use Rattle.canon_func.specs.AskForms.{ask_values}
 use Rattle.canon_func.proofs.AskLaws.{LowersAs}
@@ -189,10 +190,10 @@ no_lawful_end a b answers trap at lawful cause = last_lawful answers at _ (λ x 
 
 -- ---- what is asked of steps
 
-module _ {T G : Type 0} (L : GuestLaws G) (index : ℕ) (a b : Parts T G) (callee : Callee) (asked : Asked) (at : ℕ) (results : List Val) (words storage2 : List ℕ) (are : words ≡ take (members_flat (asked_results callee asked)) storage2)
+module _ {T G : Type 0} (may : ValuesAnswering T) (L : GuestLaws G) (index : ℕ) (a b : Parts T G) (callee : Callee) (asked : Asked) (at : ℕ) (results : List Val) (words storage2 : List ℕ) (are : words ≡ take (members_flat (asked_results callee asked)) storage2)
     (l : LedgerState) where
   pub lowered_as : (r : Result (Unit {0}) Fault) → AskLowered callee asked at (stage_of L.seen L.moves a) (stage_of L.seen L.moves b) results words l b.ledger r
-      → LowersAs ask_values L.seen L.moves index a b callee asked storage2 at results l r
+      → LowersAs (ask_values may) L.seen L.moves index a b callee asked storage2 at results l r
   lowered_as (Ok x) by = record {
     answers = by.answers;
     trap = by.trap;
