@@ -245,7 +245,7 @@ module _ (k : ℕ) (s : Replaying) (few : k < length s.recorded) where
 
   one : (g mid h : Replaying) (last : ℕ) (x : RequestOutcome) (calls : List RequestOutcome) (es : List Event) → Going g es → Replays g x mid → Chain mid (to_length x) calls h last → One mid es x h last calls
   one g mid h last (stepped q before after s) calls es go d rest =
-      let (n, l, (mid0, grown_to, b, next, step, e)) = d in
+      let (n, l, (mid0, grown, b, next, step, e)) = d in
       one_going g mid0 mid h last es (stepped q before after s) calls go (opens q g (length before) mid0 grown b) tt d (ap (λ (r : Replaying). r.stop) e) (ap (λ (r : Replaying). r.call) e)
       (ap (λ (r : Replaying). r.live) e ∙ sym (step_live g.live q before after s l)) rest
   one g mid h last (answered c before after answer) calls es go d rest =

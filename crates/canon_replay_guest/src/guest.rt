@@ -47,7 +47,7 @@ impl ReplayGuest {
     ghost use Rattle.canon_replay_guest.specs.Lawful.{IsLawfulAnswer};
     ghost use Rattle.canon_replay_guest.specs.Leaves.{AnswersAsRecorded, Began, DoesEnd, DoesStep, IsLater, ReallocatesAsRecorded, StepsAsRecorded, run_out};
     ghost use Rattle.canon_replay_guest.specs.Moves.{destroys, posts, resumes, starts};
-    ghost use Rattle.canon_replay_guest.specs.Replaying.{IsOpened, events_now, next_event, stopped_for, trapped_again, wanted_length};
+    ghost use Rattle.canon_replay_guest.specs.Replaying.{IsOpened, call_events, events_now, next_event, stopped_for, trapped_again, wanted_length};
 
     /// A guest to which these events were recorded, call by call.
     pub fn new(alloc: Global, calls: Vec<Events>) -> Self
@@ -84,6 +84,13 @@ impl ReplayGuest {
         ensures { result ≡ self.now.at }
     {
         self.at
+    }
+
+    /// How many events are recorded of a call.
+    pub fn event_count(&self, call: u64) -> u64
+        ensures { result ≡ length (call_events self.now.recorded call) }
+    {
+        events_of(&self.calls, call).len() as u64
     }
 
     /// The recorded event that comes next.
