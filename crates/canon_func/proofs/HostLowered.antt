@@ -1,18 +1,17 @@
 -- What lowering the results of a function of the host did, by how it ended.
-use Rattle.std.proofs.Common.{Bool, Err, List, None, Ok, Option, Result, Some, [], arith, inl, inr, length, refl, subst, sym, ℕ, ⊎_elim, ◌++◌, ◌+◌, ◌<◌, ◌∙◌, ◌≡◌, ◌≤◌, ◌⊎◌}
+use Rattle.std.proofs.Common.{Bool, Err, false, List, None, Ok, Option, Result, Some, [], arith, inl, inr, length, refl, subst, sym, ℕ, ⊎_elim, ◌++◌, ◌+◌, ◌<◌, ◌∙◌, ◌≡◌, ◌≤◌, ◌⊎◌}
 use Rattle.std.proofs.lemmas.Bool.{cases_lt, le-leb, lt-leb}
 use Rattle.std.specs.Prelude.{IfErr, if◌then◌else◌, nat_le, take}
 use Rattle.canon_model.specs.Flat.{max_results}
 use Rattle.canon_model.specs.Layout.{members_flat}
 use Rattle.canon_model.specs.Shape.{Members}
 use Rattle.canon_memory.specs.declared.event.Event.{Event}
-use Rattle.canon_memory.specs.Guest.{Goes, GuestIn, Moment, Seen}
+use Rattle.canon_memory.specs.Guest.{Goes, Moment}
 use Rattle.canon_ledger.specs.Ledger.{LedgerState}
 use Rattle.canon_ledger.specs.declared.fault.ResourceFault.TheVariants as resource
-use Rattle.canon_lowering.specs.Lowering.{AllLawful, Answer, CauseOf, Ending, Trap, done, events_of, marks_of, misaligned, out_of_bounds, refused, short, trapped}
-use Rattle.canon_context.specs.Core.{Parts, guest_of, moment_of}
+use Rattle.canon_lowering.specs.Lowering.{AllLawful, Answer, CauseOf, Ending, Trap, UnlessShort, done, events_of, marks_of, misaligned, out_of_bounds, refused, short, trapped}
+use Rattle.canon_context.specs.Core.{Parts, guest_of, moment_of, stage_of}
 use Rattle.canon_context.specs.Lowers.{ending_of, fault_ending}
-use Rattle.canon_context.specs.Moves.{Moves}
 use Rattle.canon_context.specs.Quiet.{have_handle}
 use Rattle.canon_context.specs.declared.fault.Fault.{Fault}
 use Rattle.canon_context.specs.declared.fault.Fault.TheVariants as fault
@@ -32,11 +31,16 @@ use Rattle.canon_func.specs.Call.{OnAnswered}
 use Rattle.canon_func.specs.HostAsks.{RefusalCounted, asked_error, host_error, stopped_error}
 use Rattle.canon_func.specs.AskValues.{asked_origin, asked_results, AskLowers, LowersInto}
 use Rattle.canon_func.specs.Steps.{RisesAt, TrapsLate}
+use Rattle.canon_host.specs.Forms.{ValuesAnswering}
 use Rattle.canon_func.specs.Stores.{Callee}
 use Rattle.canon_func.specs.AskForms.{ask_values}
 use Rattle.canon_func.proofs.AskLaws.{LowersAs}
 use Rattle.canon_func.proofs.Lowered.{ending_quiet, untrapped}
 use Rattle.canon_func.proofs.Prefixes.{last_lawful}
+use Rattle.canon_lowering.specs.Stages.{GoesBy, Stage, moment_at}
+use Rattle.canon_context.proofs.Moves.{GuestLaws, moved_by}
+use Rattle.canon_lowering.proofs.Lowerings.{unless}
+use Rattle.canon_lowering.proofs.Attempts.{attempt_bare, bare_asked}
 
 -- ---- words
 
@@ -77,12 +81,11 @@ not_far n a b = omega (arith, a, b)
 
 module _ {K : Type 0} (callee : Callee) (asked : Asked) (at : ℕ) (a b : Stage K) (results : List Val) (words : List ℕ) where
   pub into_by : (hs : List ℕ) (ending : Ending) → LowersResults a b (asked_origin callee asked a.bytes).encoding (asked_results callee asked) (HaveTrees (asked_results callee asked) results) at words hs ending → IntoBy callee asked at a b results words hs ending
-  unfolding attempt_bare
   into_by hs ending h = ⊎_elim
       (λ far. let low = h.far far in record {
         answers = low.answers;
         trap = low.trap;
-        into = record { near = λ near. absurd (not_far (members_flat (asked_results callee asked)) near far); far = λ again. (attempt_bare false a b _ _ ending low, refl, refl) };
+        into = record { near = λ near. absurd (not_far (members_flat (asked_results callee asked)) near far); far = λ again. (attempt_bare false a b _ _ ending low, (bare_asked false a b _ _ ending low).0, (bare_asked false a b _ _ ending low).1) };
         goes = low.lowering.goes;
         moves = low.lowering.moves;
         cause = low.lowering.cause;
@@ -90,7 +93,7 @@ module _ {K : Type 0} (callee : Callee) (asked : Asked) (at : ℕ) (a b : Stage 
       (λ near. let low = h.near near in record {
         answers = low.answers;
         trap = low.trap;
-        into = record { near = λ again. (attempt_bare false a b _ _ ending low, refl, refl); far = λ far. absurd (not_far (members_flat (asked_results callee asked)) near far) };
+        into = record { near = λ again. (attempt_bare false a b _ _ ending low, (bare_asked false a b _ _ ending low).0, (bare_asked false a b _ _ ending low).1); far = λ far. absurd (not_far (members_flat (asked_results callee asked)) near far) };
         goes = low.lowering.goes;
         moves = low.lowering.moves;
         cause = low.lowering.cause;
@@ -186,10 +189,10 @@ no_lawful_end a b answers trap at lawful cause = last_lawful answers at _ (λ x 
 
 -- ---- what is asked of steps
 
-module _ {T G : Type 0} (L : GuestLaws G) (index : ℕ) (a b : Parts T G) (callee : Callee) (asked : Asked) (at : ℕ) (results : List Val) (words storage2 : List ℕ) (are : words ≡ take (members_flat (asked_results callee asked)) storage2)
+module _ {T G : Type 0} (may : ValuesAnswering T) (L : GuestLaws G) (index : ℕ) (a b : Parts T G) (callee : Callee) (asked : Asked) (at : ℕ) (results : List Val) (words storage2 : List ℕ) (are : words ≡ take (members_flat (asked_results callee asked)) storage2)
     (l : LedgerState) where
   pub lowered_as : (r : Result (Unit {0}) Fault) → AskLowered callee asked at (stage_of L.seen L.moves a) (stage_of L.seen L.moves b) results words l b.ledger r
-      → LowersAs ask_values L.seen L.moves index a b callee asked storage2 at results l r
+      → LowersAs (ask_values may) L.seen L.moves index a b callee asked storage2 at results l r
   lowered_as (Ok x) by = record {
     answers = by.answers;
     trap = by.trap;

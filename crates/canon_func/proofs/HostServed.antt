@@ -89,8 +89,8 @@ module _ {T G P S : Type 0} (its : AskForm T) (sound : AskSound its) (seen : G �
 
   -- what the function may answer, by what it reaches and the data after
   gave_so : (params : its.Params) (answer : Result its.Results HostStop) (lifted : Parts T G) (m : LedgerState) (t : T) → lifted ≡ record a { ledger = lifted.ledger } → t ≡ b.state
-      → its.gave answers_so index log (in_view lifted) params answer t m → its.gave answers_so index log (called_on callee a.id a.memory a.state lifted.ledger) params answer b.state m
-  gave_so params answer lifted m t same et h = subst₂ (λ x y. its.gave answers_so index log x params answer y m) (ap in_view same) et h
+      → its.gave answers_so index log asked (in_view lifted) params answer t m → its.gave answers_so index log asked (called_on callee a.id a.memory a.state lifted.ledger) params answer b.state m
+  gave_so params answer lifted m t same et h = subst₂ (λ x y. its.gave answers_so index log asked x params answer y m) (ap in_view same) et h
 
   -- ---- how it ended
 

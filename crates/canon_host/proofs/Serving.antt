@@ -129,18 +129,18 @@ with_ledger before after l same is = same ∙ ap (λ (x : LedgerState). record b
 -- ---- the call and what follows it
 
 module _ {F T G : Type 0} (g : Closure F (HostView T) Val (Result (Unit {0}) HostStop)) (f : F) (seen : G → Seen) (moves : GuestIn G → List Event → GuestIn G → Type 0) (asked : Asked) where
-  module _ (before made after : Parts T G) (params items old nv shown : List Val) (n k : ℕ) (words words2 : List ℕ) (hn : n ≡ length params) (hk : replicate k (val.Bool false) ≡ blank (component_types before) asked)
+  module _ (before made after : Parts T G) (params items old nv shown : List Val) (n k : ℕ) (words words2 : List ℕ) (hn : n ≡ length params) (hk : replicate k (val.Bool false) ≡ blank (component_types before) asked.func)
       (hi : items ≡ params ++ replicate k (val.Bool false)) (ho : old ≡ items) (hp : take n nv ≡ take n old) (hc : CallsFunction g f asked before (take n old) (drop n old) (Ok tt) made (drop n nv)) (hs : shown ≡ drop n nv) where
-    old_is : old ≡ params ++ blank (component_types before) asked
+    old_is : old ≡ params ++ blank (component_types before) asked.func
     old_is = ho ∙ (hi ∙ ap (λ xs. params ++ xs) hk)
 
     front : take n old ≡ params
-    front = ap (take n) old_is ∙ (ap (λ m. take m (params ++ blank (component_types before) asked)) hn ∙ take-append_seam params (blank (component_types before) asked))
+    front = ap (take n) old_is ∙ (ap (λ m. take m (params ++ blank (component_types before) asked.func)) hn ∙ take-append_seam params (blank (component_types before) asked.func))
 
-    back : drop n old ≡ blank (component_types before) asked
-    back = ap (drop n) old_is ∙ (ap (λ m. drop m (params ++ blank (component_types before) asked)) hn ∙ drop-append_seam params (blank (component_types before) asked))
+    back : drop n old ≡ blank (component_types before) asked.func
+    back = ap (drop n) old_is ∙ (ap (λ m. drop m (params ++ blank (component_types before) asked.func)) hn ∙ drop-append_seam params (blank (component_types before) asked.func))
 
-    calls : CallsFunction g f asked before params (blank (component_types before) asked) (Ok tt) made (drop n nv)
+    calls : CallsFunction g f asked before params (blank (component_types before) asked.func) (Ok tt) made (drop n nv)
     calls = subst₂ (λ ps xs. CallsFunction g f asked before ps xs (Ok tt) made (drop n nv)) front back hc
 
     split : nv ≡ params ++ drop n nv

@@ -23,6 +23,7 @@ use Rattle.canon_model.specs.Flat.{max_results}
 use Rattle.canon_model.specs.Layout.{members_flat}
 use Rattle.canon_model.specs.Shape.{member_count}
 use Rattle.canon_types.specs.Table.{TypeTable, param_members, result_members}
+use Rattle.canon_types.specs.declared.types.TypeFunc.{TypeFunc}
 use Rattle.canon_value_parts.specs.Args.{IsArea, IsNoArea, LowersResults, args_words}
 use Rattle.canon_value_parts.specs.Fails.{AreSmall, BlamesMembers}
 use Rattle.canon_value_parts.specs.Lifts.{LiftsParams}
@@ -129,8 +130,8 @@ LiftsAsked asked before words result after =
     × SameButLedger before after
 
 -- a slot for each result
-abbrev pub blank : TypeTable → Asked → List Val
-blank types asked = replicate (member_count (result_members types asked.func)) (val.Bool false)
+abbrev pub blank : TypeTable → TypeFunc → List Val
+blank types func = replicate (member_count (result_members types func)) (val.Bool false)
 
 -- One call of a function: the core before, its parameters, its answer, and the core and the results after.
 abbrev pub Calling : Type 0 → Type 0 → Type 1
@@ -144,7 +145,7 @@ pub record CallsFunction {F T G : Type 0} (g : Closure F (HostView T) Val (Resul
 
 -- the same with `Bool false` in each slot
 abbrev pub CallsBlank : {F T G : Type 0} → Closure F (HostView T) Val (Result (Unit {0}) HostStop) → F → Asked → Parts T G → List Val → Result (Unit {0}) HostStop → Parts T G → List Val → Type 0
-CallsBlank g f asked before params result after results = CallsFunction g f asked before params (blank (component_types before) asked) result after results
+CallsBlank g f asked before params result after results = CallsFunction g f asked before params (blank (component_types before) asked.func) result after results
 
 -- the results are lowered to the first words, or stored at an address
 module _ {T G : Type 0} (seen : G → Seen) (moves : GuestIn G → List Event → GuestIn G → Type 0) (asked : Asked) where
