@@ -3,6 +3,7 @@
 #![tactic(auto)]
 
 ghost use Rattle.std.specs.Prelude.{[], ◌≡◌, ◌+◌, ◌%◌, ◌^◌, ◌<◌, IfOk, IsNone, IsOk, Some, false, length, replicate, slice_get};
+ghost use Rattle.canon_example.specs.Clock.{AreClocks, after_ticks, asks_of};
 ghost use Rattle.canon_example.specs.Component.{IsNotes};
 ghost use Rattle.canon_ledger.specs.Ledger.{new_ledger};
 ghost use Rattle.std.specs.List.{All};
@@ -198,7 +199,8 @@ fn call<I: Imports<Clock, Journaled<Watched<Notes>>>>(
 }
 
 /// Calls a function. Where each answer of `realloc` that it added is marked lawful, the words that the guest was started with and its memory
-/// represent the parameters: nothing is assumed of the guest.
+/// represent the parameters: nothing is assumed of the guest. Where it is Ok, and the imports are clocks, the clock went on once for each
+/// time that the guest asked for it.
 fn call_watched<I: Imports<Clock, Journaled<Watched<Notes>>>>(
     alloc: Global,
     store: &mut Store<Clock, Journaled<Watched<Notes>>, I>,
@@ -210,6 +212,8 @@ fn call_watched<I: Imports<Clock, Journaled<Watched<Notes>>>>(
     requires ready { I.ready store.old.imports }
     ensures started { IsNone (refused_by result) → All SaysLawful (added_marks store.old.core.guest.guest.marks store.new.core.guest.guest.marks)
         → StartsRight (callee_of store.old func.now) params.now (added_events store.old.core.guest.events store.new.core.guest.events) }
+    ensures ticked { IsOk result → AreClocks (I.gives (I.plan store.old.imports)) → IsNotes store.old.core.component.types.store store.old.core.component
+        → store.new.core.state.now ≡ after_ticks (asks_of 0 (added_events store.old.core.guest.events store.new.core.guest.events)) store.old.core.state.now }
     ensures still_ready { I.ready store.new.imports }
 {
     func.call(alloc, store, params, results)
