@@ -26,7 +26,9 @@ use std::alloc::Global;
 /// Where values are lowered to: a core, under some of its options.
 #[derive(Drop)]
 pub struct LowerContext<'a, T, G> {
+    /// The core, whose guest is asked for blocks and whose memory is written.
     pub core: &'a mut Core<T, G>,
+    /// The number of the options among the component's.
     pub options: OptionsIndex,
 }
 
@@ -126,16 +128,22 @@ impl<'a, T, G: Guest> LowerContext<'a, T, G> {
 pub struct Source<'a> {
     /// The types in their store.
     pub instance: &'a InstanceType,
+    /// The same types, as a table.
     pub types: &'a ComponentTypes,
+    /// The whole memory.
     pub memory: &'a [u8],
+    /// How texts are spelled in it.
     pub encoding: StringEncoding,
 }
 
 /// Where values are lifted from: a core, under some of its options, and the fuel that is left.
 #[derive(Drop)]
 pub struct LiftContext<'a, T, G> {
+    /// The core, whose memory is read and whose ledger takes the handles.
     pub core: &'a mut Core<T, G>,
+    /// The number of the options among the component's.
     pub options: OptionsIndex,
+    /// What lifting may still cost.
     pub fuel: u64,
 }
 

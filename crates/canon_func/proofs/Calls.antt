@@ -32,6 +32,7 @@ use Rattle.canon_func.specs.declared.error.Error.TheVariants as error
 use Rattle.canon_func.proofs.Legs.{asks_after}
 use Rattle.canon_func.proofs.Turns.{counts_earlier, err_same, marks_then, not_ok}
 use Rattle.canon_func.proofs.Prefixes.{IsEarly, answers_are, answers_early, asks_answers, each_after, each_answer, each_then, ends_after, grows_answers, grows_from, post_then, prefix_after, return_then, run_after}
+use Rattle.canon_lowering.specs.Stages.{bare}
 
 pub advances_then : (a b c : Moment) → Advances a b → Advances b c → Advances a c
 advances_then a b c f g = record {

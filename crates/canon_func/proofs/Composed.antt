@@ -35,6 +35,7 @@ use Rattle.canon_func.proofs.Rests.{returned_rest, unended_tail}
 use Rattle.canon_func.proofs.Tails.{IsTail, rest_of_none, rest_of_tail}
 use Rattle.canon_func.proofs.Turns.{counts_first, err_same, goes_advance, not_ok, same_le}
 use Rattle.canon_func.proofs.Unserved.{stopped_rest}
+use Rattle.canon_lowering.specs.Stages.{bare}
 
 -- what follows from a fact for every answer except out of memory
 pub answered : {T : Type 0} (r : Result T Error) (P Q : Type 0) → (P → Q) → OnAnswered r P → OnAnswered r Q

@@ -6,13 +6,12 @@ use Rattle.canon_model.specs.Flat.{max_results}
 use Rattle.canon_model.specs.Layout.{members_flat}
 use Rattle.canon_model.specs.Shape.{Members}
 use Rattle.canon_memory.specs.declared.event.Event.{Event}
-use Rattle.canon_memory.specs.Guest.{Goes, GuestIn, Moment, Seen}
+use Rattle.canon_memory.specs.Guest.{Goes, Moment}
 use Rattle.canon_ledger.specs.Ledger.{LedgerState}
 use Rattle.canon_ledger.specs.declared.fault.ResourceFault.TheVariants as resource
-use Rattle.canon_lowering.specs.Lowering.{AllLawful, Answer, CauseOf, Ending, Trap, done, events_of, marks_of, misaligned, out_of_bounds, refused, short, trapped}
-use Rattle.canon_context.specs.Core.{Parts, guest_of, moment_of}
+use Rattle.canon_lowering.specs.Lowering.{AllLawful, Answer, CauseOf, Ending, Trap, UnlessShort, done, events_of, marks_of, misaligned, out_of_bounds, refused, short, trapped}
+use Rattle.canon_context.specs.Core.{Parts, guest_of, moment_of, stage_of}
 use Rattle.canon_context.specs.Lowers.{ending_of, fault_ending}
-use Rattle.canon_context.specs.Moves.{Moves}
 use Rattle.canon_context.specs.Quiet.{have_handle}
 use Rattle.canon_context.specs.declared.fault.Fault.{Fault}
 use Rattle.canon_context.specs.declared.fault.Fault.TheVariants as fault
@@ -38,6 +37,10 @@ use Rattle.canon_func.specs.AskForms.{ask_values}
 use Rattle.canon_func.proofs.AskLaws.{LowersAs}
 use Rattle.canon_func.proofs.Lowered.{ending_quiet, untrapped}
 use Rattle.canon_func.proofs.Prefixes.{last_lawful}
+use Rattle.canon_lowering.specs.Stages.{GoesBy, Stage, moment_at}
+use Rattle.canon_context.proofs.Moves.{GuestLaws, moved_by}
+use Rattle.canon_lowering.proofs.Lowerings.{unless}
+use Rattle.canon_lowering.proofs.Attempts.{attempt_bare}
 
 -- ---- words
 

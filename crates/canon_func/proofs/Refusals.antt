@@ -30,6 +30,7 @@ use Rattle.canon_func.proofs.Turns.{counts_first, goes_advance}
 use Rattle.canon_leaves.proofs.Leaves.{leaves_excluded}
 use Rattle.canon_func.specs.Passed.{BlamesRightly, Unfit}
 use Rattle.canon_func.proofs.Prefixes.{asks_answers, each_answer, ends_in_answer, ends_in_trap, grows_request, last_lawful, none_trapped, prefix_requests}
+use Rattle.canon_lowering.specs.Stages.{bare}
 
 -- where no count rose, none did however it ended
 pub calm_so : (e : Ending) (before after : Seen) → Calm refused before after → Calm e before after

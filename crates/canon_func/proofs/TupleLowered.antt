@@ -2,9 +2,8 @@
 use Rattle.std.proofs.Common.{Err, Global, List, Ok, Result, Some, Vec, [], ap, inl, inr, length, refl, subst, sym, ℕ, ◌++◌, ◌≡◌, ◌⊎◌}
 use Rattle.std.specs.Prelude.{false}
 use Rattle.canon_args.specs.Params.{AreSmallIn, BlamesIn, InParts, TypedParams}
-use Rattle.canon_context.proofs.Moves.{GuestLaws}
-use Rattle.canon_context.specs.Core.{Parts, encoding_by, guest_of, moment_of}
-use Rattle.canon_context.specs.Moves.{Moves}
+use Rattle.canon_context.proofs.Moves.{GuestLaws, moved_by}
+use Rattle.canon_context.specs.Core.{Parts, encoding_by, guest_of, moment_of, stage_of}
 use Rattle.canon_context.specs.declared.fault.Fault.{Fault}
 use Rattle.canon_context.specs.declared.fault.Fault.TheVariants as fault
 use Rattle.canon_leaves.specs.Parts.{LeavesStop, LeavesTake, Part}
@@ -14,7 +13,6 @@ use Rattle.canon_lower_parts.specs.Blames.{IsElsewhere, IsLargeFault}
 use Rattle.canon_lower_parts.specs.Lowers.{EndsBy}
 use Rattle.canon_lowering.specs.Attempt.{LowersArgs}
 use Rattle.canon_lowering.specs.Lowering.{Ending, done, events_of}
-use Rattle.canon_memory.specs.Guest.{GuestIn, Seen}
 use Rattle.canon_memory.specs.declared.event.Event.{Event}
 use Rattle.canon_model.specs.Homes.{host_texts}
 use Rattle.canon_model.specs.Flat.{max_params}
@@ -25,11 +23,13 @@ use Rattle.canon_value_parts.proofs.Crossing.{told_by}
 use Rattle.canon_value_parts.specs.Args.{LowersParams}
 use Rattle.canon_value_parts.specs.Resources.{told_fault}
 use Rattle.canon_context.specs.Faults.{stop_of}
-use Rattle.canon_func.proofs.Lowered.{args_done, args_refused, refused_moves}
+use Rattle.canon_func.proofs.Lowered.{args_done, args_refused, ended_moves, refused_moves}
 use Rattle.canon_func.specs.Call.{Adding, AsksByTypes, OnAnswered, words_within}
 use Rattle.canon_func.specs.Steps.{EndsFor}
 use Rattle.canon_func.specs.Typed.{tuple_args}
 use Rattle.canon_func.specs.TypedLaws.{blamed_one}
+use Rattle.canon_lowering.specs.Stages.{bare}
+use Rattle.canon_lowering.proofs.Lowerings.{unless}
 use Rattle.canon_func.specs.declared.error.Error.TheVariants as error
 
 -- how it ended that was refused

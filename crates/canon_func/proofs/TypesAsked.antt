@@ -10,7 +10,7 @@ use Rattle.canon_model.specs.Flat.{max_params, max_results}
 use Rattle.canon_model.specs.Layout.{flat, members_flat}
 use Rattle.canon_model.specs.Tree.{Tree}
 use Rattle.canon_memory.specs.declared.event.Event.{Event}
-use Rattle.canon_memory.specs.Guest.{Goes, GuestIn, Moment, Seen}
+use Rattle.canon_memory.specs.Guest.{Goes, Moment, Seen}
 use Rattle.canon_ledger.specs.Ledger.{LedgerState}
 use Rattle.canon_ledger.specs.declared.fault.ResourceFault.TheVariants as resource
 use Rattle.canon_leaves.proofs.Leaves.{leaves_excluded}
@@ -20,9 +20,9 @@ use Rattle.canon_reading.specs.Spots.{flat_in}
 use Rattle.canon_lower_parts.proofs.Attempts.{ends_done}
 use Rattle.canon_lower_parts.specs.Blames.{IsElsewhere, IsLargeFault}
 use Rattle.canon_lower_parts.specs.Lowers.{EndsBy}
-use Rattle.canon_lowering.proofs.Lowerings.{none_answered}
-use Rattle.canon_lowering.specs.Lowering.{AllLawful, Answer, CauseOf, Ending, Trap, events_of, marks_of, refused}
-use Rattle.canon_context.specs.Core.{Parts, guest_of, moment_of}
+use Rattle.canon_lowering.proofs.Lowerings.{none_answered, unless}
+use Rattle.canon_lowering.specs.Lowering.{AllLawful, Answer, CauseOf, Ending, Trap, UnlessShort, events_of, marks_of, refused}
+use Rattle.canon_context.specs.Core.{Parts, guest_of, moment_of, stage_of}
 use Rattle.canon_context.specs.Lowers.{fault_ending}
 use Rattle.canon_context.specs.Quiet.{have_block}
 use Rattle.canon_context.specs.declared.component.Export.{Export}
@@ -47,6 +47,9 @@ use Rattle.canon_func.specs.declared.error.Error.TheVariants as error
 use Rattle.canon_func.proofs.AskLaws.{AskLawful, AskSound, FollowsSteps, LowersAs}
 use Rattle.canon_func.proofs.HostLowered.{asked_moves, no_lawful, no_lawful_end, not_far, pointer_counts, traps_late}
 use Rattle.canon_func.proofs.Lowered.{untrapped}
+use Rattle.canon_lowering.specs.Stages.{GoesBy, Stage, moment_at}
+use Rattle.canon_context.proofs.Moves.{GuestLaws, moved_by}
+use Rattle.canon_lowering.proofs.Attempts.{attempt_bare}
 
 same_fault : (e f : Fault) → ◌≡◌ {A = Result (Unit {0}) Fault} (Err e) (Err f) → e ≡ f
 same_fault e f h = cc

@@ -11,7 +11,7 @@ use Rattle.canon_model.specs.Tree.{Trees}
 use Rattle.canon_model.proofs.Faults.{fault_excludes}
 use Rattle.canon_model.proofs.Reached.{reach_is_the_cost}
 use Rattle.canon_memory.specs.declared.event.Event.{Event}
-use Rattle.canon_memory.specs.Guest.{GuestIn, Moment, Seen}
+use Rattle.canon_memory.specs.Guest.{Moment, Seen}
 use Rattle.canon_ledger.specs.Ledger.{LedgerState}
 use Rattle.canon_ledger.specs.declared.fault.ResourceFault.TheVariants as resource
 use Rattle.canon_leaves.proofs.Leaves.{leaves_excluded}
@@ -20,7 +20,7 @@ use Rattle.canon_leaves.specs.Parts.{LeavesStop, LeavesTake, Part, PassedResourc
 use Rattle.canon_lowering.proofs.Lowerings.{none_answered}
 use Rattle.canon_lowering.specs.Lowering.{AllLawful, Answer, CauseOf, Ending, Trap, marks_of}
 use Rattle.canon_lowering.specs.Storing.{narrow}
-use Rattle.canon_context.specs.Core.{Parts, moment_of}
+use Rattle.canon_context.specs.Core.{Parts, moment_of, stage_of}
 use Rattle.canon_context.specs.Quiet.{have_block, have_handle}
 use Rattle.canon_context.specs.Told.{place_of}
 use Rattle.canon_context.specs.declared.component.Export.{Export}
@@ -47,6 +47,7 @@ use Rattle.canon_func.specs.declared.error.Error.TheVariants as error
 use Rattle.canon_func.proofs.AskLaws.{AskLawful, AskSound, FollowsSteps, LowersAs}
 use Rattle.canon_func.proofs.HostLowered.{into_by, lowered_as, no_lawful, no_lawful_end, pointer_counts, quiet_trap}
 use Rattle.canon_func.proofs.Prefixes.{past_cost}
+use Rattle.canon_context.proofs.Moves.{GuestLaws}
 
 -- ---- parameters
 

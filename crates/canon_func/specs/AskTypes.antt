@@ -26,6 +26,7 @@ use Rattle.canon_host.specs.Forms.{RustTypes}
 use Rattle.canon_host.specs.declared.asked.Asked.{Asked}
 use Rattle.canon_func.specs.AskValues.{asked_origin, asked_params, asked_results}
 use Rattle.canon_func.specs.Stores.{Callee}
+use Rattle.canon_lowering.specs.Stages.{bare}
 
 -- the shape of the tuple of parameters, and of results
 abbrev pub asked_shape : Callee → Asked → Shape

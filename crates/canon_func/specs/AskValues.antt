@@ -28,6 +28,7 @@ use Rattle.canon_val.specs.Value.{HaveTrees}
 use Rattle.canon_val.specs.declared.val.Val.{Val}
 use Rattle.canon_host.specs.declared.asked.Asked.{Asked}
 use Rattle.canon_func.specs.Stores.{Callee}
+use Rattle.canon_lowering.specs.Stages.{bare}
 
 -- ---- what is asked for, in any form
 

@@ -25,10 +25,9 @@ use Rattle.canon_value_parts.specs.Resources.{Crosses, QuietBut, all_passes, tol
 use Rattle.canon_context.specs.Faults.{stop_of}
 use Rattle.canon_types.specs.Table.{tuple_members}
 use Rattle.canon_context.specs.Asks.{SameButHandles}
-use Rattle.canon_context.specs.Core.{Parts, SameButLedger, encoding_by, guest_of, moment_of, component_types}
+use Rattle.canon_context.specs.Core.{Parts, SameButLedger, component_types, encoding_by, stage_of}
 use Rattle.canon_context.specs.Lifter.{Origin}
 use Rattle.canon_context.specs.Lowers.{ending_of, fault_ending}
-use Rattle.canon_context.specs.Moves.{Moves}
 use Rattle.canon_context.specs.Quiet.{have_block, have_handle}
 use Rattle.canon_context.specs.Told.{Exactly, LiftBlames}
 use Rattle.canon_context.specs.declared.fault.Fault.{Fault}
@@ -47,6 +46,7 @@ use Rattle.canon_func.specs.Passing.{Arguments, ReturnedValues}
 use Rattle.canon_func.specs.Runs.{AskTurn, AsksFrom, AsksLive, Each, EndsIn, Grows, IsNoPost, IsNoStart, IsOneRun, IsPrefixOfRun, IsReturn, IsTrap, Leg, MayStart, OnReturn, OnStart, answers_in, asks_in, events_in, last_len, legs_in, posts, since_last}
 use Rattle.canon_func.specs.Stores.{Callee}
 use Rattle.canon_func.specs.declared.error.Error.{Error}
+use Rattle.canon_lowering.specs.Stages.{bare}
 use Rattle.canon_func.specs.declared.error.Error.TheVariants as error
 
 -- From one moment to another without an answer of `realloc`: these events were added, which the guest did, and of which

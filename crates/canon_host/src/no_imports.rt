@@ -22,6 +22,7 @@ pub struct NoImports {
 }
 
 impl NoImports {
+    /// No functions, and no ask refused yet.
     pub fn new() -> Self
         ensures { result.refusals ≡ 0 }
     {

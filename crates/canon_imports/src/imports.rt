@@ -25,8 +25,11 @@ use std::alloc::Global;
 /// An ask that was served: the number of its import, how many parameters it had, and these and then its results.
 #[derive(Drop)]
 pub struct Line {
+    /// The number of the import.
     pub index: u32,
+    /// How many of the values are parameters.
     pub given: usize,
+    /// The parameters, and then the results.
     pub values: Vec<Val>,
 }
 

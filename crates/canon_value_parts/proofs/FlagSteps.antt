@@ -62,7 +62,7 @@ flags_words_count t i f n is e =
 
 -- bytes were written, and then a fault of the value was found
 left : {K : Type 0} (a b : Stage K) (places : List Block) → Lowering a b places done [] None [] → Lowering a b places refused [] None []
-left a b places h = record { goes = h.goes; small = h.small; lawful = λ calm all. h.lawful tt all; tidy = λ calm all. h.tidy tt all; gained = h.gained; cause = refl; accepted = h.accepted }
+left a b places h = record { goes = h.goes; moves = h.moves; small = h.small; lawful = λ calm all. h.lawful tt all; tidy = λ calm all. h.tidy tt all; gained = h.gained; cause = refl; accepted = h.accepted }
 
 module _ {T G : Type 0} (L : GuestLaws G) (options : ℕ) (a : Parts T G) (names : List Name) (set : Vec (String Global) Global) (small : length a.memory ≤ 2 ^ 32) (place : ℕ) where
   -- ---- in memory
