@@ -9,8 +9,8 @@ append_one : (ws : List ℕ) (w : ℕ) (us : List ℕ) → (ws ++ w ∷ []) ++ u
 append_one [] w us = refl
 append_one (x ∷ ws) w us = ap (λ vs. x ∷ vs) (append_one ws w us)
 
-pub one_more : (all ws more bytes : List ℕ) (w n i : ℕ) → more ≡ ws ++ w ∷ [] → w ≡ number_at bytes (32 + 8 * i) → i < n → ws ++ numbers_from (n - i) i bytes ≡ all → more ++ numbers_from (n - (i + 1)) (i + 1) bytes ≡ all
-one_more all ws more bytes w n i pushed is less so =
+pub one_more_word : (all ws more bytes : List ℕ) (w n i : ℕ) → more ≡ ws ++ w ∷ [] → w ≡ number_at bytes (32 + 8 * i) → i < n → ws ++ numbers_from (n - i) i bytes ≡ all → more ++ numbers_from (n - (i + 1)) (i + 1) bytes ≡ all
+one_more_word all ws more bytes w n i pushed is less so =
     ap (λ us. us ++ numbers_from (n - (i + 1)) (i + 1) bytes) pushed
     ∙ append_one ws w (numbers_from (n - (i + 1)) (i + 1) bytes)
     ∙ ap (λ v. ws ++ v ∷ numbers_from (n - (i + 1)) (i + 1) bytes) is

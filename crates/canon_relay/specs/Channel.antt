@@ -8,11 +8,11 @@ pub data Message : Type 0 where
   lent : List ℕ → List ℕ → Message
 
 -- a log that is exposed has these messages more at its end
-abbrev pub Adds : Option (List Message) → Option (List Message) → List Message → Type 0
-Adds None after messages = after ≡ None
-Adds (Some before) after messages = after ≡ Some (before ++ messages)
+abbrev pub AddsMessages : Option (List Message) → Option (List Message) → List Message → Type 0
+AddsMessages None after messages = after ≡ None
+AddsMessages (Some before) after messages = after ≡ Some (before ++ messages)
 
 -- the message, where it passed whole
-abbrev pub passed : Bool → Message → List Message
-passed true message = message ∷ []
-passed false message = []
+abbrev pub message_if : Bool → Message → List Message
+message_if true message = message ∷ []
+message_if false message = []

@@ -1,8 +1,8 @@
 -- How an engine ended that didn't trap.
-use Rattle.std.specs.Prelude.{List, ℕ, ◌≡◌}
+use Rattle.std.specs.Prelude.{List, ℕ, ◌≡◌, ◌≤◌}
 use Rattle.canon_memory.specs.declared.guest.Step.{Step}
 use Rattle.canon_memory.specs.declared.guest.Step.TheVariants as step
-use Rattle.canon_relay.specs.Wire.{reply_number, reply_words}
+use Rattle.canon_relay.specs.Wire.{reply_count, reply_number, reply_words}
 use Rattle.canon_relay.specs.declared.exchange.End.{End}
 use Rattle.canon_relay.specs.declared.exchange.End.TheVariants as end
 
@@ -11,7 +11,7 @@ abbrev pub end_kind : End → ℕ
 end_kind end.Return = 0
 end_kind end.Ask = 1
 
--- what the guest did, by the reply
+-- what the guest did, by the reply, which has room for its words
 abbrev pub IsStepOf : End → List ℕ → Step → Type 0
-IsStepOf end.Return reply done = done ≡ step.Return (reply_words reply)
-IsStepOf end.Ask reply done = done ≡ step.Import (reply_number reply) (reply_words reply)
+IsStepOf end.Return reply done = (done ≡ step.Return (reply_words reply)) × (reply_count reply ≤ 17)
+IsStepOf end.Ask reply done = (done ≡ step.Import (reply_number reply) (reply_words reply)) × (reply_count reply ≤ 17)

@@ -1,5 +1,5 @@
 -- What a guest behind a channel does, and what passes over the channel meanwhile.
-use Rattle.std.specs.Prelude.{Err, List, None, Ok, Option, Result, Some, [], false, length, replicate, suc, zero, ℕ, ◌++◌, ◌∷◌, ◌≡◌}
+use Rattle.std.specs.Prelude.{Err, List, None, Ok, Option, Result, Some, [], false, length, replicate, suc, zero, ℕ, ◌++◌, ◌∷◌, ◌≡◌, ◌≤◌}
 use Rattle.std.proofs.Common.{ap, refl, subst, sym, ◌∙◌}
 use Rattle.std.proofs.lemmas.List.{append-nil, append_assoc}
 use Rattle.canon_memory.specs.Guest.{GuestIn, Mark, Seen}
@@ -9,7 +9,7 @@ use Rattle.canon_memory.specs.declared.event.Event.{Event}
 use Rattle.canon_memory.specs.declared.event.Event.TheVariants as event
 use Rattle.canon_memory.specs.declared.guest.Step.{Step}
 use Rattle.canon_memory.specs.declared.guest.Step.TheVariants as step
-use Rattle.canon_relay.specs.Channel.{Adds, Message, heard, lent, told}
+use Rattle.canon_relay.specs.Channel.{AddsMessages, Message, heard, lent, told}
 use Rattle.canon_relay.specs.Wire.{demand_bytes, reply_count, reply_grown, reply_kind, reply_number, reply_words}
 use Rattle.canon_relay.specs.declared.counts.Counts.{Counts}
 use Rattle.canon_relay.specs.declared.demand.Demand.{Demand}
@@ -35,74 +35,75 @@ lent_again zero ran after = []
 lent_again (suc n) ran after = lent (ran ++ replicate (suc n) 0) after ∷ []
 
 -- where it isn't, it is as it was given back
-abbrev pub IsLeft : ℕ → List ℕ → List ℕ → Type 0
-IsLeft zero ran after = after ≡ ran
-IsLeft (suc n) ran after = Unit {0}
+abbrev pub IsAsGivenBack : ℕ → List ℕ → List ℕ → Type 0
+IsAsGivenBack zero ran after = after ≡ ran
+IsAsGivenBack (suc n) ran after = Unit {0}
 
--- A demand of these bytes was told, memory was lent and given back, a reply of a kind was heard, and a memory that is to be longer by it was
--- lent again.
+-- A demand of these bytes was told, memory was lent and given back, a reply of a kind was heard, which has 168 bytes, and a memory that is to be
+-- longer by it was lent again.
 pub record Replied (kind : ℕ) (asked before after reply : List ℕ) (messages : List Message) : Type 0 where
   pub ran : List ℕ
   pub passed : messages ≡ told asked ∷ lent before ran ∷ heard reply ∷ lent_again (reply_grown reply) ran after
-  pub left : IsLeft (reply_grown reply) ran after
+  pub left : IsAsGivenBack (reply_grown reply) ran after
   pub kind_is : reply_kind reply ≡ kind
+  pub sized : length reply ≡ 168
 
 -- what the reply to a demand is, and which messages it took
-abbrev pub Answers : ℕ → Demand → List ℕ → List ℕ → List ℕ → (List ℕ → Type 0) → List Message → Type 0
-Answers kind d words before after Says messages = (reply : List ℕ) × Replied kind (demand_bytes d (length before) words) before after reply messages × Says reply
+abbrev pub Replies : ℕ → Demand → List ℕ → List ℕ → List ℕ → (List ℕ → Type 0) → List Message → Type 0
+Replies kind d words before after Says messages = (reply : List ℕ) × Replied kind (demand_bytes d (length before) words) before after reply messages × Says reply
 
--- an engine that was let go returned these words, or asks for an import with them
-abbrev pub Does : Demand → List ℕ → List ℕ → List ℕ → Step → List Message → Type 0
-Does d words before after (step.Return results) = Answers 0 d words before after (λ reply. reply_words reply ≡ results)
-Does d words before after (step.Import index asked) = Answers 1 d words before after (λ reply. (reply_number reply ≡ index) × (reply_words reply ≡ asked))
+-- An engine that was let go returned these words, or asks for an import with them: at most 17.
+abbrev pub RepliesStep : Demand → List ℕ → List ℕ → List ℕ → Step → List Message → Type 0
+RepliesStep d words before after (step.Return results) = Replies 0 d words before after (λ reply. (reply_words reply ≡ results) × (reply_count reply ≤ 17))
+RepliesStep d words before after (step.Import index asked) = Replies 1 d words before after (λ reply. (reply_number reply ≡ index) × (reply_words reply ≡ asked) × (reply_count reply ≤ 17))
 
 -- it gave a block
-abbrev pub Gives : Demand → List ℕ → List ℕ → ℕ → List Message → Type 0
-Gives d before after at = Answers 0 d [] before after (λ reply. (reply_number reply ≡ at) × (reply_count reply ≡ 0))
+abbrev pub RepliesBlock : Demand → List ℕ → List ℕ → ℕ → List Message → Type 0
+RepliesBlock d before after at = Replies 0 d [] before after (λ reply. (reply_number reply ≡ at) × (reply_count reply ≡ 0))
 
 -- it did something that returns nothing
-abbrev pub Finishes : Demand → List ℕ → List ℕ → List ℕ → List Message → Type 0
-Finishes d words before after = Answers 0 d words before after (λ reply. Unit {0})
+abbrev pub RepliesDone : Demand → List ℕ → List ℕ → List ℕ → List Message → Type 0
+RepliesDone d words before after = Replies 0 d words before after (λ reply. Unit {0})
 
 -- ---- an answer of the guest
 
 -- an exposed log has messages more, of which this is so
-abbrev pub Passes : Option (List Message) → Option (List Message) → (List Message → Type 0) → Type 0
-Passes log log2 P = (messages : List Message) × Adds log log2 messages × P messages
+abbrev pub PassesMessages : Option (List Message) → Option (List Message) → (List Message → Type 0) → Type 0
+PassesMessages log log2 P = (messages : List Message) × AddsMessages log log2 messages × P messages
 
 -- whichever
-abbrev pub Any : List Message → Type 0
-Any messages = Unit {0}
+abbrev pub AnyMessages : List Message → Type 0
+AnyMessages messages = Unit {0}
 
 -- What passed by the answer. A trap may come at any time: the channel failed, or the reply was one, or none.
 abbrev pub OnReply : {T : Type 0} → Option (List Message) → Option (List Message) → (T → List Message → Type 0) → Result T GuestFault → Type 0
-OnReply log log2 P (Ok x) = Passes log log2 (P x)
-OnReply log log2 P (Err e) = Passes log log2 Any
+OnReply log log2 P (Ok x) = PassesMessages log log2 (P x)
+OnReply log log2 P (Err e) = PassesMessages log log2 AnyMessages
 
 -- ---- events and messages
 
 -- what a guest that was let go did, by the events after the one that let it go
 abbrev pub TellsStep : Demand → List ℕ → List ℕ → List Event → List Message → Type 0
-TellsStep d words before (event.Return results after ∷ []) messages = Does d words before after (step.Return results) messages
-TellsStep d words before (event.Ask index asked after ∷ []) messages = Does d words before after (step.Import index asked) messages
+TellsStep d words before (event.Return results after ∷ []) messages = RepliesStep d words before after (step.Return results) messages
+TellsStep d words before (event.Ask index asked after ∷ []) messages = RepliesStep d words before after (step.Import index asked) messages
 TellsStep d words before (event.Trap asked len ∷ []) messages = Unit {0}
 TellsStep d words before _ messages = ⊥
 
 -- what it ended itself
 abbrev pub TellsEnd : Demand → List ℕ → List Event → List Message → Type 0
-TellsEnd d words [] messages = (before after : List ℕ) × Finishes d words before after messages
+TellsEnd d words [] messages = (before after : List ℕ) × RepliesDone d words before after messages
 TellsEnd d words (event.Trap asked len ∷ []) messages = Unit {0}
 TellsEnd d words _ messages = ⊥
 
 -- The messages of one call of a guest are those of its events: the demand is what the guest was asked, and the reply what it did.
-abbrev pub Tells : List Event → List Message → Type 0
-Tells (event.Start func words before ∷ rest) messages = TellsStep (demand.Start func) words before rest messages
-Tells (event.Resume words before ∷ rest) messages = TellsStep demand.Resume words before rest messages
-Tells (event.Realloc old old_size align new_size answer ∷ []) messages = (before after : List ℕ) × Gives (demand.Realloc old old_size align new_size) before after answer messages
-Tells (event.Post func words ∷ rest) messages = TellsEnd (demand.PostReturn func) words rest messages
-Tells (event.Dtor func rep ∷ rest) messages = TellsEnd (demand.Dtor func rep) [] rest messages
-Tells (event.Trap asked len ∷ []) messages = Unit {0}
-Tells _ messages = ⊥
+abbrev pub TellsEvents : List Event → List Message → Type 0
+TellsEvents (event.Start func words before ∷ rest) messages = TellsStep (demand.Start func) words before rest messages
+TellsEvents (event.Resume words before ∷ rest) messages = TellsStep demand.Resume words before rest messages
+TellsEvents (event.Realloc old old_size align new_size answer ∷ []) messages = (before after : List ℕ) × RepliesBlock (demand.Realloc old old_size align new_size) before after answer messages
+TellsEvents (event.Post func words ∷ rest) messages = TellsEnd (demand.PostReturn func) words rest messages
+TellsEvents (event.Dtor func rep ∷ rest) messages = TellsEnd (demand.Dtor func rep) [] rest messages
+TellsEvents (event.Trap asked len ∷ []) messages = Unit {0}
+TellsEvents _ messages = ⊥
 
 -- one call of a guest: its events, and the messages that passed
 pub record Turn : Type 0 where
@@ -110,7 +111,7 @@ pub record Turn : Type 0 where
   pub messages : List Message
 
 abbrev pub IsTurn : Turn → Type 0
-IsTurn t = Tells t.events t.messages
+IsTurn t = TellsEvents t.events t.messages
 
 abbrev pub AreTurns : List Turn → Type 0
 AreTurns [] = Unit {0}
@@ -129,18 +130,18 @@ pub record Converses (log log2 : Option (List Message)) (events : List Event) : 
   pub turns : List Turn
   pub are : AreTurns turns
   pub events_are : events ≡ turn_events turns
-  pub passed : Adds log log2 (turn_messages turns)
+  pub passed : AddsMessages log log2 (turn_messages turns)
 
 abbrev pub RelayMoves : {C : Type 0} → (C → Option (List Message)) → GuestIn (Relaying C) → List Event → GuestIn (Relaying C) → Type 0
 RelayMoves log g events h = Converses (log g.guest.channel) (log h.guest.channel) events
 
 -- ---- one conversation after another
 
-pub adds_none : (log : Option (List Message)) → Adds log log []
+pub adds_none : (log : Option (List Message)) → AddsMessages log log []
 adds_none None = refl
 adds_none (Some ms) = ap Some (sym (append-nil ms))
 
-pub adds_both : (a b c : Option (List Message)) (xs ys : List Message) → Adds a b xs → Adds b c ys → Adds a c (xs ++ ys)
+pub adds_both : (a b c : Option (List Message)) (xs ys : List Message) → AddsMessages a b xs → AddsMessages b c ys → AddsMessages a c (xs ++ ys)
 adds_both None b c xs ys f g = rw f at g
 adds_both (Some ms) b c xs ys f g = (rw f at g) ∙ ap Some (append_assoc ms xs ys)
 
@@ -164,5 +165,5 @@ says_both a b c xs ys f g = record {
   turns = f.turns ++ g.turns;
   are = turns_append f.turns g.turns f.are g.are;
   events_are = ap (λ es. es ++ ys) f.events_are ∙ ap (λ es. turn_events f.turns ++ es) g.events_are ∙ sym (events_append f.turns g.turns);
-  passed = subst (Adds a c) (sym (messages_append f.turns g.turns)) (adds_both a b c (turn_messages f.turns) (turn_messages g.turns) f.passed g.passed);
+  passed = subst (AddsMessages a c) (sym (messages_append f.turns g.turns)) (adds_both a b c (turn_messages f.turns) (turn_messages g.turns) f.passed g.passed);
 }

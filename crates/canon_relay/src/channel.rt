@@ -1,7 +1,7 @@
 //! The trait of a channel: it carries bytes to an engine and back, and lends it memory.
 
 ghost use Rattle.std.specs.Prelude.{◌≡◌, List, Option, length};
-ghost use Rattle.canon_relay.specs.Channel.{Adds, Message, heard, lent, passed, told};
+ghost use Rattle.canon_relay.specs.Channel.{AddsMessages, Message, heard, lent, message_if, told};
 
 use canon_memory::Memory;
 
@@ -13,16 +13,16 @@ pub trait Channel {
 
     /// Tells the other side these bytes. Answers whether it took them all.
     fn tell(&mut self, bytes: &[u8]) -> bool
-        ensures { Adds (log self.old) (log self.new) (passed result (told bytes.now)) };
+        ensures { AddsMessages (log self.old) (log self.new) (message_if result (told bytes.now)) };
 
     /// Fills the buffer with bytes of the other side. Answers whether it is full.
     fn hear(&mut self, into: &mut [u8]) -> bool
-        ensures log { Adds (log self.old) (log self.new) (passed result (heard into.new)) }
+        ensures log { AddsMessages (log self.old) (log self.new) (message_if result (heard into.new)) }
         ensures length { length into.new ≡ length into.old };
 
     /// Lends the other side the bytes of memory, until it gives them back. Answers whether it did so whole.
     fn lend(&mut self, memory: &mut Memory) -> bool
-        ensures log { Adds (log self.old) (log self.new) (passed result (lent memory.old.bytes memory.new.bytes)) }
+        ensures log { AddsMessages (log self.old) (log self.new) (message_if result (lent memory.old.bytes memory.new.bytes)) }
         ensures length { length memory.new.bytes ≡ length memory.old.bytes }
         ensures width { memory.new.wide ≡ memory.old.wide };
 }

@@ -1,9 +1,9 @@
 //! One exchange with an engine: a demand is told, memory is lent, and the reply is heard.
 
 ghost use Rattle.std.specs.Prelude.{◌≡◌, ◌≤◌, ◌++◌, ◌∷◌, [], IfOk, IfSome, IsNone, OnErr, OnOk, length, replicate};
-ghost use Rattle.canon_relay.specs.Channel.{Adds, heard, lent, told};
+ghost use Rattle.canon_relay.specs.Channel.{AddsMessages, heard, lent, told};
 ghost use Rattle.canon_relay.specs.Ends.{end_kind};
-ghost use Rattle.canon_relay.specs.Relay.{Any, IsLeft, Passes, Replied, lent_again};
+ghost use Rattle.canon_relay.specs.Relay.{AnyMessages, IsAsGivenBack, PassesMessages, Replied, lent_again};
 ghost use Rattle.canon_relay.specs.Wire.{reply_kind};
 
 use crate::Channel;
@@ -26,8 +26,8 @@ pub(crate) fn exchange<C: Channel>(
 ) -> Result<(End, [u8; 168]), GuestFault>
     ensures longer { length memory.old.bytes ≤ length memory.new.bytes }
     ensures width { memory.new.wide ≡ memory.old.wide }
-    ensures replied { IfOk result (λ r. Passes (C.log channel.old) (C.log channel.new) (Replied (end_kind r.0) asked.now memory.old.bytes memory.new.bytes r.1)) }
-    ensures passed { OnErr result (Passes (C.log channel.old) (C.log channel.new) Any) }
+    ensures replied { IfOk result (λ r. PassesMessages (C.log channel.old) (C.log channel.new) (Replied (end_kind r.0) asked.now memory.old.bytes memory.new.bytes r.1)) }
+    ensures passed { OnErr result (PassesMessages (C.log channel.old) (C.log channel.new) AnyMessages) }
 {
     let Some(reply) = pass(channel, asked, memory) else {
         return Err(GuestFault::Trap);
@@ -45,8 +45,8 @@ pub(crate) fn exchange<C: Channel>(
 fn pass<C: Channel>(channel: &mut C, asked: &[u8], memory: &mut Memory) -> Option<[u8; 168]>
     ensures length { length memory.new.bytes ≡ length memory.old.bytes }
     ensures width { memory.new.wide ≡ memory.old.wide }
-    ensures replied { IfSome result (λ reply. Adds (C.log channel.old) (C.log channel.new) (told asked.now ∷ lent memory.old.bytes memory.new.bytes ∷ heard reply ∷ [])) }
-    ensures passed { IsNone result → Passes (C.log channel.old) (C.log channel.new) Any }
+    ensures replied { IfSome result (λ reply. AddsMessages (C.log channel.old) (C.log channel.new) (told asked.now ∷ lent memory.old.bytes memory.new.bytes ∷ heard reply ∷ []) × (length reply ≡ 168)) }
+    ensures passed { IsNone result → PassesMessages (C.log channel.old) (C.log channel.new) AnyMessages }
 {
     let mut reply = [0u8; REPLY_BYTES];
     if !channel.tell(asked) {
@@ -65,8 +65,8 @@ fn pass<C: Channel>(channel: &mut C, asked: &[u8], memory: &mut Memory) -> Optio
 fn lengthen<C: Channel>(channel: &mut C, memory: &mut Memory, by: u64) -> Result<(), GuestFault>
     ensures longer { length memory.old.bytes ≤ length memory.new.bytes }
     ensures width { memory.new.wide ≡ memory.old.wide }
-    ensures lent { OnOk result (Adds (C.log channel.old) (C.log channel.new) (lent_again by memory.old.bytes memory.new.bytes) × IsLeft by memory.old.bytes memory.new.bytes) }
-    ensures passed { OnErr result (Passes (C.log channel.old) (C.log channel.new) Any) }
+    ensures lent { OnOk result (AddsMessages (C.log channel.old) (C.log channel.new) (lent_again by memory.old.bytes memory.new.bytes) × IsAsGivenBack by memory.old.bytes memory.new.bytes) }
+    ensures passed { OnErr result (PassesMessages (C.log channel.old) (C.log channel.new) AnyMessages) }
 {
     if by == 0 {
         return Ok(());

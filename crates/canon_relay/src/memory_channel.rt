@@ -1,7 +1,7 @@
 //! A channel in memory, for tests: what the other side is to say is given beforehand, and what passed is kept.
 
 ghost use Rattle.std.specs.Prelude.{◌≡◌, Some, length};
-ghost use Rattle.canon_relay.specs.Channel.{Adds, heard, lent, passed, told};
+ghost use Rattle.canon_relay.specs.Channel.{AddsMessages, heard, lent, message_if, told};
 
 use crate::Channel;
 use canon_memory::Memory;
@@ -71,7 +71,7 @@ impl MemoryChannel {
 
     /// Adds a message, unless memory runs out.
     fn keep(&mut self, message: Said) -> bool
-        ensures { self.new ≡ self.old ++ passed result (said message) }
+        ensures { self.new ≡ self.old ++ message_if result (said message) }
     {
         self.kept.push(message).is_ok()
     }

@@ -1,9 +1,9 @@
 //! The guest behind a channel. It may lie in all that it answers.
 
-ghost use Rattle.std.specs.Prelude.{◌≡◌, ◌≤◌, ◌<◌, ◌^◌, IfOk, OnErr, length};
+ghost use Rattle.std.specs.Prelude.{◌≡◌, ◌≤◌, ◌<◌, ◌^◌, [], IfOk, OnErr, length};
 ghost use Rattle.std.proofs.Common.{refl};
 ghost use Rattle.canon_relay.specs.Ends.{IsStepOf, end_kind};
-ghost use Rattle.canon_relay.specs.Relay.{Any, Does, Finishes, Gives, OnReply, Passes, RelayMoves, Relaying, Replied, says_both, says_nothing};
+ghost use Rattle.canon_relay.specs.Relay.{AnyMessages, OnReply, PassesMessages, RelayMoves, Relaying, Replied, RepliesBlock, RepliesDone, RepliesStep, says_both, says_nothing};
 ghost use Rattle.canon_relay.specs.Wire.{demand_bytes, reply_count, reply_number, reply_words};
 
 use crate::counts::Counts;
@@ -85,6 +85,7 @@ impl<C: Channel> Relay<C> {
         ensures longer { length memory.old.bytes ≤ length memory.new.bytes }
         ensures width { memory.new.wide ≡ memory.old.wide }
         ensures counts { self.new.counts ≡ self.old.counts }
+        ensures relays { OnReply (C.log self.old.channel) (C.log self.new.channel) (λ x. RepliesDone Demand.Instantiate [] memory.old.bytes memory.new.bytes) result }
     {
         self.finish(memory, Demand::Instantiate, &[])
     }
@@ -99,8 +100,8 @@ impl<C: Channel> Relay<C> {
         ensures longer { length memory.old.bytes ≤ length memory.new.bytes }
         ensures width { memory.new.wide ≡ memory.old.wide }
         ensures counts { self.new.counts ≡ self.old.counts }
-        ensures replied { IfOk result (λ r. Passes (C.log self.old.channel) (C.log self.new.channel) (Replied (end_kind r.0) (demand_bytes demand (length memory.old.bytes) words.now) memory.old.bytes memory.new.bytes r.1)) }
-        ensures passed { OnErr result (Passes (C.log self.old.channel) (C.log self.new.channel) Any) }
+        ensures replied { IfOk result (λ r. PassesMessages (C.log self.old.channel) (C.log self.new.channel) (Replied (end_kind r.0) (demand_bytes demand (length memory.old.bytes) words.now) memory.old.bytes memory.new.bytes r.1)) }
+        ensures passed { OnErr result (PassesMessages (C.log self.old.channel) (C.log self.new.channel) AnyMessages) }
     {
         let Ok(asked) = bytes_of(self.alloc, demand, memory.len(), words) else {
             return Err(GuestFault::OutOfMemory);
@@ -118,7 +119,7 @@ impl<C: Channel> Relay<C> {
         ensures longer { length memory.old.bytes ≤ length memory.new.bytes }
         ensures width { memory.new.wide ≡ memory.old.wide }
         ensures counts { self.new.counts ≡ self.old.counts }
-        ensures does { OnReply (C.log self.old.channel) (C.log self.new.channel) (Does demand words.now memory.old.bytes memory.new.bytes) result }
+        ensures relays { OnReply (C.log self.old.channel) (C.log self.new.channel) (RepliesStep demand words.now memory.old.bytes memory.new.bytes) result }
     {
         let (end, reply) = self.ask(memory, demand, words)?;
         step_of(self.alloc, end, &reply)
@@ -134,7 +135,7 @@ impl<C: Channel> Relay<C> {
         ensures longer { length memory.old.bytes ≤ length memory.new.bytes }
         ensures width { memory.new.wide ≡ memory.old.wide }
         ensures counts { self.new.counts ≡ self.old.counts }
-        ensures finishes { OnReply (C.log self.old.channel) (C.log self.new.channel) (λ x. Finishes demand words.now memory.old.bytes memory.new.bytes) result }
+        ensures relays { OnReply (C.log self.old.channel) (C.log self.new.channel) (λ x. RepliesDone demand words.now memory.old.bytes memory.new.bytes) result }
     {
         let (end, _reply) = self.ask(memory, demand, words)?;
         match end {
@@ -149,7 +150,7 @@ impl<C: Channel> Relay<C> {
         ensures width { memory.new.wide ≡ memory.old.wide }
         ensures counts { self.new.counts ≡ self.old.counts }
         ensures narrow { IfOk result (λ at. at < 2 ^ 32) }
-        ensures gives { OnReply (C.log self.old.channel) (C.log self.new.channel) (Gives demand memory.old.bytes memory.new.bytes) result }
+        ensures relays { OnReply (C.log self.old.channel) (C.log self.new.channel) (RepliesBlock demand memory.old.bytes memory.new.bytes) result }
     {
         let (end, reply) = self.ask(memory, demand, &[])?;
         block_of(end, &reply)
@@ -196,7 +197,7 @@ fn block_of(end: End, reply: &[u8]) -> Result<u64, GuestFault>
 /// The words of a reply, which traps where it says that it has more than there is room for.
 fn words_in(alloc: Global, reply: &[u8]) -> Result<Words, GuestFault>
     requires { length reply.now ≡ 168 }
-    ensures { IfOk result (λ words. words ≡ reply_words reply.now) }
+    ensures { IfOk result (λ words. (words ≡ reply_words reply.now) × (reply_count reply.now ≤ 17)) }
 {
     if count_of(reply) > MAX_WORDS {
         return Err(GuestFault::Trap);
@@ -208,7 +209,11 @@ fn words_in(alloc: Global, reply: &[u8]) -> Result<Words, GuestFault>
 }
 
 impl<C: Channel> Guest for Relay<C> {
-    ghost use Rattle.canon_relay.specs.Relay.{RelayMoves, relay_seen, says_both, says_nothing};
+    ghost use Rattle.std.specs.Prelude.{◌≡◌, ◌<◌, ◌^◌, [], IfOk, IsFalse, OnOk};
+    ghost use Rattle.canon_memory.specs.Guest.{Goes, HasCause, OnAnswer, Reallocates, guest_in, moment};
+    ghost use Rattle.canon_memory.specs.Journal.{dtor_events, post_events, realloc_events};
+    ghost use Rattle.canon_memory.specs.Realloc.{call};
+    ghost use Rattle.canon_relay.specs.Relay.{OnReply, RelayMoves, RepliesBlock, RepliesDone, relay_seen, says_both, says_nothing};
 
     ghost seen = { λ g. relay_seen g };
 
@@ -246,7 +251,17 @@ impl<C: Channel> Guest for Relay<C> {
         old_size: u64,
         align: u32,
         new_size: u64,
-    ) -> Result<u64, GuestFault> {
+    ) -> Result<u64, GuestFault>
+        requires aligned { 0 < align }
+        requires narrow { old < 2 ^ 32 }
+        requires old_sized { old_size < 2 ^ 32 }
+        requires new_sized { new_size < 2 ^ 32 }
+        ensures narrow { IsFalse memory.old.wide → IfOk result (λ answer. answer < 2 ^ 32) }
+        ensures width { memory.new.wide ≡ memory.old.wide }
+        ensures does { Reallocates (moment (relay_seen self.old) memory.old.bytes) (moment (relay_seen self.new) memory.new.bytes) (call old old_size align new_size) result }
+        ensures moves { OnAnswer result (RelayMoves C.log (guest_in self.old memory.old) (realloc_events (call old old_size align new_size) memory.old.bytes result) (guest_in self.new memory.new)) }
+        ensures relays { OnReply (C.log self.old.channel) (C.log self.new.channel) (RepliesBlock (Demand.Realloc old old_size align new_size) memory.old.bytes memory.new.bytes) result }
+    {
         if self.counts.blocks == u64::MAX {
             return Err(self.count(GuestFault::Trap));
         }
@@ -270,14 +285,28 @@ impl<C: Channel> Guest for Relay<C> {
         memory: &mut Memory,
         func: u32,
         words: &[ValRaw],
-    ) -> Result<(), GuestFault> {
+    ) -> Result<(), GuestFault>
+        ensures width { memory.new.wide ≡ memory.old.wide }
+        ensures goes { Goes (moment (relay_seen self.old) memory.old.bytes) (moment (relay_seen self.new) memory.new.bytes) [] (post_events func words.now memory.old.bytes result) }
+        ensures moves { OnAnswer result (RelayMoves C.log (guest_in self.old memory.old) (post_events func words.now memory.old.bytes result) (guest_in self.new memory.new)) }
+        ensures leaves { OnOk result (Unit {0}) }
+        ensures cause { HasCause (relay_seen self.old) (relay_seen self.new) result }
+        ensures relays { OnReply (C.log self.old.channel) (C.log self.new.channel) (λ x. RepliesDone (Demand.PostReturn func) words.now memory.old.bytes memory.new.bytes) result }
+    {
         match self.finish(memory, Demand::PostReturn { func }, words) {
             Ok(()) => Ok(()),
             Err(fault) => Err(self.count(fault)),
         }
     }
 
-    fn dtor(&mut self, memory: &mut Memory, func: u32, rep: u32) -> Result<(), GuestFault> {
+    fn dtor(&mut self, memory: &mut Memory, func: u32, rep: u32) -> Result<(), GuestFault>
+        ensures width { memory.new.wide ≡ memory.old.wide }
+        ensures goes { Goes (moment (relay_seen self.old) memory.old.bytes) (moment (relay_seen self.new) memory.new.bytes) [] (dtor_events func rep memory.old.bytes result) }
+        ensures moves { OnAnswer result (RelayMoves C.log (guest_in self.old memory.old) (dtor_events func rep memory.old.bytes result) (guest_in self.new memory.new)) }
+        ensures leaves { OnOk result (Unit {0}) }
+        ensures cause { HasCause (relay_seen self.old) (relay_seen self.new) result }
+        ensures relays { OnReply (C.log self.old.channel) (C.log self.new.channel) (λ x. RepliesDone (Demand.Dtor func rep) [] memory.old.bytes memory.new.bytes) result }
+    {
         match self.finish(memory, Demand::Dtor { func, rep }, &[]) {
             Ok(()) => Ok(()),
             Err(fault) => Err(self.count(fault)),

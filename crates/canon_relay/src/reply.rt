@@ -53,7 +53,6 @@ pub(crate) fn count_of(reply: &[u8]) -> u64
 }
 
 /// Its words, where there are no more than it has room for.
-
 pub(crate) fn words_of(alloc: Global, reply: &[u8]) -> Result<Words, MemoryError>
     requires whole { length reply.now ≡ 168 }
     requires few { spec.reply_count reply.now ≤ 17 }

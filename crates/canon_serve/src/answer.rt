@@ -1,8 +1,8 @@
 //! What came of a command, and how it is told.
 
 ghost use Rattle.std.specs.Prelude.{◌≡◌, ◌++◌, ◌∷◌, [], IfOk, IsFalse, IsTrue};
-ghost use Rattle.canon_relay.specs.Channel.{Adds, told};
-ghost use Rattle.canon_relay.specs.Relay.{Any, Passes};
+ghost use Rattle.canon_relay.specs.Channel.{AddsMessages, told};
+ghost use Rattle.canon_relay.specs.Relay.{AnyMessages, PassesMessages};
 ghost use Rattle.canon_relay.specs.Wire.{numbers_bytes};
 ghost use Rattle.canon_serve.specs.Messages.{answer_bytes, answer_messages, answer_numbers, senseless_numbers, told_bytes};
 
@@ -95,8 +95,8 @@ fn head_of(alloc: Global, answer: &Answer, len: u64) -> Result<Vec<u8>, AllocErr
 
 /// Tells the caller what came of a command. Answers whether it was told whole.
 pub(crate) fn tell_answer<P: Channel>(alloc: Global, caller: &mut P, answer: &Answer) -> bool
-    ensures told { IsTrue result → Adds (P.log caller.old) (P.log caller.new) (answer_messages answer.now) }
-    ensures passed { IsFalse result → Passes (P.log caller.old) (P.log caller.new) Any }
+    ensures told { IsTrue result → AddsMessages (P.log caller.old) (P.log caller.new) (answer_messages answer.now) }
+    ensures passed { IsFalse result → PassesMessages (P.log caller.old) (P.log caller.new) AnyMessages }
 {
     let bytes = bytes_of(answer);
     match head_of(alloc, answer, bytes.len() as u64) {
@@ -107,8 +107,8 @@ pub(crate) fn tell_answer<P: Channel>(alloc: Global, caller: &mut P, answer: &An
 
 /// Tells the numbers of an answer and its bytes.
 fn tell_both<P: Channel>(caller: &mut P, head: &[u8], bytes: &[u8]) -> bool
-    ensures told { IsTrue result → Adds (P.log caller.old) (P.log caller.new) (told head.now ∷ told_bytes bytes.now) }
-    ensures passed { IsFalse result → Passes (P.log caller.old) (P.log caller.new) Any }
+    ensures told { IsTrue result → AddsMessages (P.log caller.old) (P.log caller.new) (told head.now ∷ told_bytes bytes.now) }
+    ensures passed { IsFalse result → PassesMessages (P.log caller.old) (P.log caller.new) AnyMessages }
 {
     if !caller.tell(head) {
         return false;
@@ -118,8 +118,8 @@ fn tell_both<P: Channel>(caller: &mut P, head: &[u8], bytes: &[u8]) -> bool
 
 /// Tells bytes, if there are any.
 fn tell_bytes<P: Channel>(caller: &mut P, bytes: &[u8]) -> bool
-    ensures told { IsTrue result → Adds (P.log caller.old) (P.log caller.new) (told_bytes bytes.now) }
-    ensures passed { IsFalse result → Passes (P.log caller.old) (P.log caller.new) Any }
+    ensures told { IsTrue result → AddsMessages (P.log caller.old) (P.log caller.new) (told_bytes bytes.now) }
+    ensures passed { IsFalse result → PassesMessages (P.log caller.old) (P.log caller.new) AnyMessages }
 {
     if bytes.is_empty() {
         return true;

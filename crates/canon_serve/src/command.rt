@@ -1,8 +1,8 @@
 //! What the caller asks for, and how it is heard.
 
 ghost use Rattle.std.specs.Prelude.{◌≡◌, ◌≤◌, ◌^◌, ◌∷◌, [], IfOk, OnErr, length};
-ghost use Rattle.canon_relay.specs.Channel.{Adds};
-ghost use Rattle.canon_relay.specs.Relay.{Any, Passes};
+ghost use Rattle.canon_relay.specs.Channel.{AddsMessages};
+ghost use Rattle.canon_relay.specs.Relay.{AnyMessages, PassesMessages};
 ghost use Rattle.canon_serve.specs.Messages.{IsCommand, heard_bytes};
 
 use canon_relay::{Channel, number_at};
@@ -72,8 +72,8 @@ pub(crate) fn hear_bytes<P: Channel>(
     caller: &mut P,
     len: u64,
 ) -> Result<Vec<u8>, Unheard>
-    ensures heard { IfOk result (λ bytes. Adds (P.log caller.old) (P.log caller.new) (heard_bytes bytes.items) × (length bytes.items ≡ len)) }
-    ensures passed { OnErr result (Passes (P.log caller.old) (P.log caller.new) Any) }
+    ensures heard { IfOk result (λ bytes. AddsMessages (P.log caller.old) (P.log caller.new) (heard_bytes bytes.items) × (length bytes.items ≡ len)) }
+    ensures passed { OnErr result (PassesMessages (P.log caller.old) (P.log caller.new) AnyMessages) }
 {
     if len > MAX_BYTES {
         return Err(Unheard::Broken);

@@ -1,8 +1,8 @@
 use Rattle.std.proofs.Common.{subst}
 use Rattle.std.specs.Prelude.{IfSome}
 use Rattle.canon_func.specs.Stores.{type_of}
-use Rattle.canon_serve.specs.Carries.{WasCalled}
-use Rattle.canon_serve.proofs.Calling.{called_by, on_ok, senseless_by}
+use Rattle.canon_serve.specs.Carries.{AnswersCall}
+use Rattle.canon_serve.proofs.Calling.{called_by, map_if_ok, senseless_by}
 use Rattle.canon_serve.proofs.session.call_func.Goals as goal
 
 pub returns-in-Ok : goal.returns-in-Ok
@@ -11,9 +11,9 @@ returns-in-Ok g c =
     let f = c.args.func.now in
     let s = c.args.store.now in
     let s2 = c.call_with.new.store in
-    on_ok _ _ (λ a called. called_by log f s s2 a c.args.params.now c.in-Ok.params c.in-Ok.slots (type_of s f) c.if-not-results_have_images.ensures c.in-Ok.ensures.read
-    (subst (λ ps. IfSome (type_of s f) (λ t. WasCalled log f t ps s s2 a)) c.deref.ensures.value called)) _ c.call_with.ensures
+    map_if_ok _ _ (λ a called. called_by log f s s2 a c.args.params.now c.in-Ok.params c.in-Ok.slots (type_of s f) c.if-not-results_have_images.ensures c.in-Ok.ensures.read
+    (subst (λ ps. IfSome (type_of s f) (λ t. AnswersCall log f t ps s s2 a)) c.deref.ensures.value called)) _ c.call_with.ensures
 
 pub returns-in-Err : goal.returns-in-Err
 returns-in-Err g c =
-    on_ok _ _ (λ a told. senseless_by g.E.Channel.log c.args.func.now c.args.store.now a c.args.params.now c.in-Err.error (type_of c.args.store.now c.args.func.now) c.if-not-results_have_images.ensures c.in-Err.ensures.read told) _ c.senseless.ensures
+    map_if_ok _ _ (λ a told. senseless_by g.E.Channel.log c.args.func.now c.args.store.now a c.args.params.now c.in-Err.error (type_of c.args.store.now c.args.func.now) c.if-not-results_have_images.ensures c.in-Err.ensures.read told) _ c.senseless.ensures

@@ -4,7 +4,7 @@ use Rattle.canon_memory.specs.Journal.{answer_event}
 use Rattle.canon_relay.specs.Relay.{Converses, Relaying, adds_none}
 use Rattle.canon_relay.specs.declared.counts.Counts.{Counts}
 use Rattle.canon_relay.proofs.Blocks.{gave}
-use Rattle.canon_relay.proofs.Moves.{reallocs}
+use Rattle.canon_relay.proofs.Moves.{realloc_converses}
 use Rattle.canon_relay.proofs.relay.RelayGuest.realloc.Goals as goal
 
 pub returns-in-Ok-clause-does : goal.returns-in-Ok-clause-does
@@ -14,15 +14,18 @@ returns-in-Ok-clause-does g c =
 
 pub returns-then-self-clause-moves : goal.returns-then-self-clause-moves
 returns-then-self-clause-moves g c =
-    rw c.count.ensures.channel (reallocs _ _ (call c.args.old c.args.old_size c.args.align c.args.new_size) c.args.memory.now.bytes [] (Err c.count.result) ([], adds_none _, tt))
+    rw c.count.ensures.channel (realloc_converses _ _ (call c.args.old c.args.old_size c.args.align c.args.new_size) c.args.memory.now.bytes [] (Err c.count.result) ([], adds_none _, tt))
 
 pub returns-in-Ok-clause-moves : goal.returns-in-Ok-clause-moves
 returns-in-Ok-clause-moves g c =
     let asked = call c.args.old c.args.old_size c.args.align c.args.new_size in
-    let moved = reallocs _ _ asked c.args.memory.now.bytes c.block.new.memory.bytes (Ok c.in-Ok.at) c.in-Ok.ensures.gives in
+    let moved = realloc_converses _ _ asked c.args.memory.now.bytes c.block.new.memory.bytes (Ok c.in-Ok.at) c.in-Ok.ensures.relays in
     rw c.count_block.ensures moved
 
 pub returns-in-Err-clause-moves : goal.returns-in-Err-clause-moves
 returns-in-Err-clause-moves g c =
     let asked = call c.args.old c.args.old_size c.args.align c.args.new_size in
-    rw c.count-in-Err.ensures.channel (reallocs _ _ asked c.args.memory.now.bytes c.block.new.memory.bytes (Err c.count-in-Err.result) c.in-Err.ensures.gives)
+    rw c.count-in-Err.ensures.channel (realloc_converses _ _ asked c.args.memory.now.bytes c.block.new.memory.bytes (Err c.count-in-Err.result) c.in-Err.ensures.relays)
+
+pub returns-in-Ok-clause-relays : goal.returns-in-Ok-clause-relays
+returns-in-Ok-clause-relays g c = rw c.count_block.ensures c.in-Ok.ensures.relays
