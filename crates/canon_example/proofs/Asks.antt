@@ -34,7 +34,7 @@ asks_none = record { start = λ func words memory. refl; return = λ words memor
 resumes_none : CountsNone is_resume
 resumes_none = record { start = λ func words memory. refl; return = λ words memory. refl; post = λ func words. refl; realloc = λ old old_size align new_size answer. refl; trap = λ why len. refl }
 
-asked_none : (n : ℕ) → CountsNone (asked n)
+pub asked_none : (n : ℕ) → CountsNone (asked n)
 asked_none n = record { start = λ func words memory. refl; return = λ words memory. refl; post = λ func words. refl; realloc = λ old old_size align new_size answer. refl; trap = λ why len. refl }
 
 module _ (f : Event → ℕ) (none : CountsNone f) where

@@ -1,5 +1,5 @@
 -- How far the clock goes on in a call.
-use Rattle.std.proofs.Common.{Err, List, None, Ok, Option, Result, Some, [], ap, arith, inl, inr, refl, subst, suc, sym, true, zero, ℕ, ◌%◌, ◌+◌, ◌∙◌, ◌∷◌, ◌≡◌}
+use Rattle.std.proofs.Common.{Err, List, None, Ok, Option, Result, Some, [], ap, arith, inl, inr, refl, subst, suc, sym, true, zero, ℕ, ◌%◌, ◌+◌, ◌∙◌, ◌∷◌, ◌≡◌, false}
 use Rattle.std.proofs.lemmas.Bool.{ne_eqb}
 use Rattle.std.specs.Prelude.{IsNone, IsOk, if◌then◌else◌, slice_get, ◌==◌, ◌^◌}
 use Rattle.std.specs.Option.{option_and_then}
@@ -23,7 +23,6 @@ use Rattle.canon_func.specs.HostAsks.{called_on}
 use Rattle.canon_func.specs.Passing.{Arguments, ReturnedValues}
 use Rattle.canon_func.specs.Runs.{AskTurn, Leg, events_in}
 use Rattle.canon_func.specs.Stores.{Callee, callee_in}
-use Rattle.canon_func.specs.declared.asks.Builtin.{Builtin}
 use Rattle.canon_func.specs.declared.error.Error.{Error}
 use Rattle.canon_example.specs.Clock.{AreClocks, IsClock, after_ticks, asked, asks_of}
 use Rattle.canon_example.specs.Component.{IsNotes}
@@ -50,11 +49,8 @@ host_at clock notebook zero ty options is = refl
 host_at clock notebook (suc zero) ty options is = absurd (cc)
 host_at clock notebook (suc (suc k)) ty options is = absurd (cc)
 
-no_builtin : (called : Builtin) → ◌≡◌ {A = Option Builtin} None (Some called) → ⊥
-no_builtin called is = cc
-
-builtin_at : (clock notebook k : ℕ) (called : Builtin) → option_and_then builtin_of (slice_get (notes_imports clock notebook) k) ≡ Some called → k ≡ 0 → ⊥
-builtin_at clock notebook k called is first = no_builtin called (subst (λ n. option_and_then builtin_of (slice_get (notes_imports clock notebook) n) ≡ Some called) first is)
+no_some : {A : Type 0} (x : A) → ◌≡◌ {A = Option A} None (Some x) → ⊥
+no_some x is = cc
 
 imports_in : (component : Component) (export : Option Export) → (callee_in component export).imports ≡ component.imports.items
 imports_in component None = refl
@@ -72,7 +68,7 @@ module _ (gives : Giving Clock) (clocks : AreClocks gives) (callee : Callee) (li
   -- how far it went on in a turn, and in all turns
   in_ask : (t : AskTurn) (before after : HostSide Clock) → IsServed gives callee limits.fuel t before after → after.state.now ≡ after_ticks (asked 0 (event.Ask t.index t.words t.memory)) before.state.now
   in_ask t before after (inl b) =
-      let other : (t.index == 0) ≡ false = ne_eqb t.index 0 (builtin_at clock notebook t.index b.called (subst (λ xs. option_and_then builtin_of (slice_get xs t.index) ≡ Some b.called) imports b.is.known)) in
+      let other : (t.index == 0) ≡ false = ne_eqb t.index 0 (λ first. no_some b.called (subst (λ n. option_and_then builtin_of (slice_get (notes_imports clock notebook) n) ≡ Some b.called) first (subst (λ xs. option_and_then builtin_of (slice_get xs t.index) ≡ Some b.called) imports b.is.known))) in
       ap (λ (s : HostSide Clock). s.state.now) b.kept ∙ ap (λ k. after_ticks (if k then 1 else 0) before.state.now) (sym other)
   in_ask t before after (inr h) =
       let first : t.index ≡ 0 = host_at clock notebook t.index h.asked.ty h.asked.options (subst (λ xs. slice_get xs t.index ≡ Some (import.Host h.asked.ty h.asked.options)) imports h.is.known) in
@@ -83,7 +79,7 @@ module _ (gives : Giving Clock) (clocks : AreClocks gives) (callee : Callee) (li
   in_turns [] before after same = ap (λ (s : HostSide Clock). s.state.now) same
   in_turns (t ∷ turns) before after (mid, served, rest) =
       let ask : Event = event.Ask t.index t.words t.memory in
-      let count : asked 0 ask + asks_of 0 (events_in turns) ≡ asks_of 0 (events_in (t ∷ turns)) = sym (in_turn (asked 0) (asked_none 0) t turns) in
+      let count : asked 0 ask + asks_of 0 (events_in turns) ≡ asks_of 0 (events_in (t ∷ turns)) = omega (arith, in_turn (asked 0) (asked_none 0) t turns) in
       in_turns turns mid after rest ∙ (ap (after_ticks (asks_of 0 (events_in turns))) (in_ask t before mid served)
       ∙ (more_ticks (asked 0 ask) (asks_of 0 (events_in turns)) before.state.now ∙ ap (λ k. after_ticks k before.state.now) count))
 
