@@ -1,2 +1,4 @@
+mod Asks
+mod Ticking
 mod Unlogged
 mod Watched

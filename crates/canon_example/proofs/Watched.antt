@@ -34,13 +34,16 @@ module _ (callee : Callee) (params : List Val) (entry : Moment) (answers : List 
   starts (event.Dtor func rep ∷ es) h = (tt, starts es h.1)
   starts (event.Trap asked len ∷ es) h = (tt, starts es h.1)
 
+-- the events that a journal got are those that the call added
+pub added_are : (old new events : List Event) → AddsEvents (Some old) (Some new) events → added_events old new ≡ events
+added_are old new events added = ap (drop (length old)) (same new (old ++ events) added) ∙ drop-append_seam old events
+  where
+    same : (xs ys : List Event) → Some xs ≡ Some ys → xs ≡ ys
+    same xs ys e = cc
+
 pub starts_right : {T R : Type 0} (its : ReturnedValues R) (Lives : List Leg → List Event → Type 0) (Leaves : List ℕ → List ℕ → Type 0) (gives : Giving T) (callee : Callee) (limits : Limits) (params : List Val)
     (before after : Moment) (host left : HostSide T) (answer : Result R Error) (old new events : List Event) → AddsEvents (Some old) (Some new) events
     → IsCallOf (dynamic callee params) its Lives Leaves gives callee limits before after host left answer events → All SaysLawful (added_marks before.guest.marks after.guest.marks) → StartsRight callee params (added_events old new)
 starts_right its Lives Leaves gives callee limits params before after host left answer old new events added h marks =
     let lawful : AllLawful h.answers = lawful_first h.answers (answers_in h.turns ++ h.late) (lawful_by_marks before.guest.marks after.guest.marks (h.answers ++ (answers_in h.turns ++ h.late)) h.marks marks) in
-    let are : added_events old new ≡ events = ap (drop (length old)) (same new (old ++ events) added) ∙ drop-append_seam old events in
-    subst (λ (es : List Event). StartsRight callee params es) (sym are) (starts callee params before h.answers h.given lawful events h.start)
-  where
-    same : (xs ys : List Event) → Some xs ≡ Some ys → xs ≡ ys
-    same xs ys e = cc
+    subst (λ (es : List Event). StartsRight callee params es) (sym (added_are old new events added)) (starts callee params before h.answers h.given lawful events h.start)

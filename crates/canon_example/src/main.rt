@@ -3,6 +3,10 @@
 #![tactic(auto)]
 
 ghost use Rattle.std.specs.Prelude.{[], ◌≡◌, ◌+◌, ◌%◌, ◌^◌, ◌<◌, IfOk, IsNone, IsOk, Some, false, length, replicate, slice_get};
+ghost use Rattle.canon_host.specs.Forms.{MayGiveValues};
+ghost use Rattle.canon_host.specs.HostSide.{gives_unlogged};
+ghost use Rattle.canon_host.specs.Imports.{AnswersOnly};
+ghost use Rattle.canon_example.specs.Clock.{AreClocks, Ticks, after_ticks, asks_of};
 ghost use Rattle.canon_example.specs.Component.{IsNotes};
 ghost use Rattle.canon_ledger.specs.Ledger.{new_ledger};
 ghost use Rattle.std.specs.List.{All};
@@ -18,7 +22,7 @@ mod imported;
 mod notes;
 
 use canon_func::{Error, Func, Store, resource_drop};
-use canon_host::{HostFunc, HostStop, HostView, Imports, NoImports};
+use canon_host::{DynamicHostFn, HostFunc, HostStop, HostView, Imports, NoImports};
 use canon_memory::{Journaled, Memory, Watched};
 use canon_resources::Resource;
 use canon_types::{ExportIndex, StoreId, TypeFunc};
@@ -80,12 +84,23 @@ fn keep_notes(rt: &impl Print, alloc: Global) -> Result<(), Failure> {
             Ok(())
         },
     );
-    let imports = OneImport {
-        func: clock,
-        refusals: 0,
-    };
+    let imports = clock_imports(clock);
     let mut store = store_of(alloc, StoreId::from_u64(1), imports)?;
     take_notes(rt, alloc, &mut store)
+}
+
+/// What serves the imports by a clock.
+fn clock_imports<
+    F: Fn(&mut HostView<'_, '_, Clock>, &TypeFunc, &[Val], &mut [Val]) -> Result<(), HostStop>,
+>(clock: HostFunc<DynamicHostFn<F>>) -> OneImport<F>
+    requires ticks { AnswersOnly F.Fn clock Ticks }
+    ensures func { result.func ≡ clock }
+    ensures clocks { AreClocks (gives_unlogged (MayGiveValues F.Fn result.func)) }
+{
+    OneImport {
+        func: clock,
+        refusals: 0,
+    }
 }
 
 /// A store: the component, its guest with its memory, its journal and the marks of its answers, the data of the host, and what serves the imports.
@@ -198,7 +213,8 @@ fn call<I: Imports<Clock, Journaled<Watched<Notes>>>>(
 }
 
 /// Calls a function. Where each answer of `realloc` that it added is marked lawful, the words that the guest was started with and its memory
-/// represent the parameters: nothing is assumed of the guest.
+/// represent the parameters: nothing is assumed of the guest. Where it is Ok, and the imports are clocks, the clock went on once for each
+/// time that the guest asked for it.
 fn call_watched<I: Imports<Clock, Journaled<Watched<Notes>>>>(
     alloc: Global,
     store: &mut Store<Clock, Journaled<Watched<Notes>>, I>,
@@ -210,6 +226,8 @@ fn call_watched<I: Imports<Clock, Journaled<Watched<Notes>>>>(
     requires ready { I.ready store.old.imports }
     ensures started { IsNone (refused_by result) → All SaysLawful (added_marks store.old.core.guest.guest.marks store.new.core.guest.guest.marks)
         → StartsRight (callee_of store.old func.now) params.now (added_events store.old.core.guest.events store.new.core.guest.events) }
+    ensures ticked { IsOk result → AreClocks (I.gives (I.plan store.old.imports)) → IsNotes store.old.core.component.types.store store.old.core.component
+        → store.new.core.state.now ≡ after_ticks (asks_of 0 (added_events store.old.core.guest.events store.new.core.guest.events)) store.old.core.state.now }
     ensures still_ready { I.ready store.new.imports }
 {
     func.call(alloc, store, params, results)
