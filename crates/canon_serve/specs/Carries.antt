@@ -75,7 +75,7 @@ IsSenseless e a = ⊥
 module _ {E H : Type 0} (log : E → Option (List Message)) where
   -- A function was called with these parameters and so many slots for results, which it left so: refused before the guest was entered,
   -- which leaves the store as it was, or called.
-  pub record Calls (f : Named) (params : List Val) (slots : ℕ) (store store2 : EngineStore E H) (result : Result (Unit {0}) Error) (results : List Val) : Type 0 where
+  pub record CallsExport (f : Named) (params : List Val) (slots : ℕ) (store store2 : EngineStore E H) (result : Result (Unit {0}) Error) (results : List Val) : Type 0 where
     pub refused : refused_by result ≡ call_refusal (callee_of store f) (length params) slots store.trapped
     pub unchanged : IfSome (refused_by result) (λ e. store2 ≡ store)
     pub call : IsNone (refused_by result) → Adding (moment_of engine_seen store.core) (moment_of engine_seen store2.core)
@@ -89,42 +89,42 @@ module _ {E H : Type 0} (log : E → Option (List Message)) where
     pub turns : store2.turns ≡ store.turns
 
   -- the shapes of the tuples of a function's parameters and results
-  abbrev pub params_shape : EngineStore E H → TypeFunc → Shape
-  params_shape store f = shape_of (component_types store.core) (ty.Tuple f.params)
+  abbrev pub params_tuple_shape : EngineStore E H → TypeFunc → Shape
+  params_tuple_shape store f = shape_of (component_types store.core) (ty.Tuple f.params)
 
-  abbrev pub results_shape : EngineStore E H → TypeFunc → Shape
-  results_shape store f = shape_of (component_types store.core) (ty.Tuple f.results)
+  abbrev pub results_tuple_shape : EngineStore E H → TypeFunc → Shape
+  results_tuple_shape store f = shape_of (component_types store.core) (ty.Tuple f.results)
 
   -- these bytes are the image of these parameters, for so many results; or they are none
   abbrev pub IsReadParams : EngineStore E H → TypeFunc → List ℕ → Result (Vec Val Global × ℕ) ImageError → Type 0
-  IsReadParams store t bytes (Ok p) = IsRead (params_shape store t) bytes (Ok (val.Tuple p.0)) × (p.1 ≡ length (types_of (component_types store.core) t.results))
-  IsReadParams store t bytes (Err e) = IsRead (params_shape store t) bytes (Err e)
+  IsReadParams store t bytes (Ok p) = IsRead (params_tuple_shape store t) bytes (Ok (val.Tuple p.0)) × (p.1 ≡ length (types_of (component_types store.core) t.results))
+  IsReadParams store t bytes (Err e) = IsRead (params_tuple_shape store t) bytes (Err e)
 
   -- With the parameters of an image the function was called, and the answer tells how that ended.
-  pub record WasCalled (f : Named) (t : TypeFunc) (params : List Val) (store store2 : EngineStore E H) (a : Answer) : Type 0 where
+  pub record AnswersCall (f : Named) (t : TypeFunc) (params : List Val) (store store2 : EngineStore E H) (a : Answer) : Type 0 where
     pub slots : ℕ
     pub slots_are : slots ≡ length (types_of (component_types store.core) t.results)
     pub result : Result (Unit {0}) Error
     pub results : List Val
-    pub called : Calls f params slots store store2 result results
-    pub told : TellsCall (results_shape store t) result results a
+    pub called : CallsExport f params slots store store2 result results
+    pub told : TellsCall (results_tuple_shape store t) result results a
 
   -- nothing was done, and this was answered
-  abbrev pub Idle : EngineStore E H → EngineStore E H → Answer → Answer → Type 0
-  Idle store store2 a is = (a ≡ is) × (store2 ≡ store)
+  abbrev pub OnlyAnswers : EngineStore E H → EngineStore E H → Answer → Answer → Type 0
+  OnlyAnswers store store2 a is = (a ≡ is) × (store2 ≡ store)
 
   -- by what the bytes of the parameters are
   abbrev pub ByReading : Named → TypeFunc → EngineStore E H → EngineStore E H → Answer → Result Val ImageError → Type 0
-  ByReading f t store store2 a (Ok v) = (params : Vec Val Global) × (v ≡ val.Tuple params) × WasCalled f t params.items store store2 a
+  ByReading f t store store2 a (Ok v) = (params : Vec Val Global) × (v ≡ val.Tuple params) × AnswersCall f t params.items store store2 a
   ByReading f t store store2 a (Err e) = IsSenseless e a × (store2 ≡ store)
 
   -- A function of this type: where its results reach a handle nothing is done, else it is as the bytes of the parameters are read.
   abbrev pub CalledBy : Named → TypeFunc → List ℕ → EngineStore E H → EngineStore E H → Answer → Bool → Type 0
-  CalledBy f t bytes store store2 a true = (read : Result Val ImageError) × IsRead (params_shape store t) bytes read × ByReading f t store store2 a read
-  CalledBy f t bytes store store2 a false = Idle store store2 a (answer.Senseless senseless.HasHandle)
+  CalledBy f t bytes store store2 a true = (read : Result Val ImageError) × IsRead (params_tuple_shape store t) bytes read × ByReading f t store store2 a read
+  CalledBy f t bytes store store2 a false = OnlyAnswers store store2 a (answer.Senseless senseless.HasHandle)
 
   abbrev pub CalledOf : Named → List ℕ → EngineStore E H → EngineStore E H → Answer → Option TypeFunc → Type 0
-  CalledOf f bytes store store2 a (Some t) = CalledBy f t bytes store store2 a (has_no_handle (results_shape store t))
+  CalledOf f bytes store store2 a (Some t) = CalledBy f t bytes store store2 a (has_no_handle (results_tuple_shape store t))
   CalledOf f bytes store store2 a None = ⊥
 
   -- the component has an export of this number
@@ -136,21 +136,38 @@ module _ {E H : Type 0} (log : E → Option (List Message)) where
 
   -- ---- a command
 
-  abbrev pub named : EngineStore E H → ℕ → Named
-  named store export = record { store = store.core.id; export = export }
+  abbrev pub export_named : EngineStore E H → ℕ → Named
+  export_named store export = record { store = store.core.id; export = export }
 
   -- the export of a number was called, or there is none
   abbrev pub CalledAt : ℕ → List ℕ → EngineStore E H → EngineStore E H → Answer → Type 0
   CalledAt export bytes store store2 a =
-      (HasExport store export × CalledOf (named store export) bytes store store2 a (type_of store (named store export)))
-      ⊎ ((HasExport store export → ⊥) × Idle store store2 a (answer.Senseless senseless.NoExport))
+      (HasExport store export × CalledOf (export_named store export) bytes store store2 a (type_of store (export_named store export)))
+      ⊎ ((HasExport store export → ⊥) × OnlyAnswers store store2 a (answer.Senseless senseless.NoExport))
 
   -- What was answered to a command, and what it left: a call by the export of that number, if there is one; how many handles live; the marks since
   -- the last time, which are forgotten then.
-  abbrev pub CarriesOut : Command → EngineStore E H → EngineStore E H → Answer → Type 0
-  CarriesOut (command.Call export params) store store2 a = CalledAt export params.items store store2 a
-  CarriesOut command.Live store store2 a = IsDone (number_bytes store.core.ledger.handles.counter.live) a × (store2 ≡ store)
-  CarriesOut command.Marks store store2 a = IsDone (map mark_byte store.core.guest.marks) a × (store2 ≡ without_marks store)
-  CarriesOut command.End store store2 a = Idle store store2 a (answer.Senseless senseless.NoCommand)
-  CarriesOut (command.Begin all json) store store2 a = Idle store store2 a (answer.Senseless senseless.NoCommand)
-  CarriesOut command.Unknown store store2 a = Idle store store2 a (answer.Senseless senseless.NoCommand)
+  abbrev pub CarriesOutCommand : Command → EngineStore E H → EngineStore E H → Answer → Type 0
+  CarriesOutCommand (command.Call export params) store store2 a = CalledAt export params.items store store2 a
+  CarriesOutCommand command.Live store store2 a = IsDone (number_bytes store.core.ledger.handles.counter.live) a × (store2 ≡ store)
+  CarriesOutCommand command.Marks store store2 a = IsDone (map mark_byte store.core.guest.marks) a × (store2 ≡ without_marks store)
+  CarriesOutCommand command.End store store2 a = OnlyAnswers store store2 a (answer.Senseless senseless.NoCommand)
+  CarriesOutCommand (command.Begin all json) store store2 a = OnlyAnswers store store2 a (answer.Senseless senseless.NoCommand)
+  CarriesOutCommand command.Unknown store store2 a = OnlyAnswers store store2 a (answer.Senseless senseless.NoCommand)
+
+  -- The function was called with the parameters of an image, and answered Ok.
+  pub record IsDoneCall (f : Named) (bytes : List ℕ) (store store2 : EngineStore E H) : Type 0 where
+    pub params : Vec Val Global
+    pub slots : ℕ
+    pub results : List Val
+    pub read : IfSome (type_of store f) (λ t. IsReadParams store t bytes (Ok (params, slots)))
+    pub called : CallsExport f params.items slots store store2 (Ok tt) results
+
+  -- what a call did for whose answer memory ran out: nothing, or it is that for the image of its results
+  abbrev pub CallsShort : Named → List ℕ → EngineStore E H → EngineStore E H → Type 0
+  CallsShort f bytes store store2 = (store2 ≡ store) ⊎ IsDoneCall f bytes store store2
+
+  -- what a command did for whose answer memory ran out
+  abbrev pub AnswersShort : Command → EngineStore E H → EngineStore E H → Type 0
+  AnswersShort (command.Call export params) store store2 = CallsShort (export_named store export) params.items store store2
+  AnswersShort asked store store2 = store2 ≡ store
