@@ -3,6 +3,10 @@
 set -eu
 here=$(cd "$(dirname "$0")" && pwd)
 lib=${CANON_TEXT_LIB:-$here/../crates/canon_text_c/out}
+[ -f "$lib/libcanon_text_c.a" ] || { echo "missing: $lib/libcanon_text_c.a (first: cd crates/canon_text_c && rt lib)" >&2; exit 1; }
+for it in "${CC:-cc}" cargo; do
+    command -v "$it" > /dev/null || { echo "missing: $it" >&2; exit 1; }
+done
 made=$(mktemp -d)
 trap 'rm -rf "$made"' EXIT
 

@@ -18,9 +18,13 @@ pub const MAX_FLAT_RESULTS: u8 = 1;
 /// pointers of 32 bits and for pointers of 64 bits, which are called wide.
 #[derive(Clone, Copy, Debug, PartialEq, Eq)]
 pub struct CanonicalAbiInfo {
+    /// Bytes in memory, with pointers of 32 bits.
     pub size32: u32,
+    /// The alignment of its address, with pointers of 32 bits: 1, 2, 4 or 8.
     pub align32: u32,
+    /// Bytes in memory, with pointers of 64 bits.
     pub size64: u32,
+    /// The alignment of its address, with pointers of 64 bits.
     pub align64: u32,
     /// Words, or none above 16.
     pub flat: Option<u8>,
@@ -43,8 +47,11 @@ struct Extent {
 /// The discriminant of a variant, and where its payload begins.
 #[derive(Clone, Copy, Debug, PartialEq, Eq)]
 pub struct VariantInfo {
+    /// The bytes of the discriminant.
     pub size: DiscriminantSize,
+    /// Bytes from the value's address to the payload, with pointers of 32 bits.
     pub payload_offset32: u32,
+    /// The same, with pointers of 64 bits.
     pub payload_offset64: u32,
 }
 

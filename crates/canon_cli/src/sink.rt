@@ -114,6 +114,7 @@ impl<W> Model for StdSink<W> {
 }
 
 impl<W> StdSink<W> {
+    /// A sink over this writer, which has counted nothing yet.
     pub fn new(writer: W) -> Self
         ensures { result ≡ record { stream = writer; faults = 0 } }
     {

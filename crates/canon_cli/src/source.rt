@@ -105,6 +105,7 @@ impl<R> Model for StdSource<R> {
 }
 
 impl<R> StdSource<R> {
+    /// A source over this reader, which has counted nothing yet.
     pub fn new(reader: R) -> Self
         ensures { result ≡ record { stream = reader; faults = 0 } }
     {

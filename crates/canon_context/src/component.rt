@@ -11,8 +11,11 @@ use canon_types::{
 /// A function that a component gives: its type, its core function and its options.
 #[derive(Clone, Copy, Debug, PartialEq, Eq)]
 pub struct Export {
+    /// Its type, in the component's table.
     pub ty: TypeFuncIndex,
+    /// The number of its core function, by which the guest is started.
     pub func: u32,
+    /// The options that it is lifted under.
     pub options: OptionsIndex,
 }
 
@@ -36,9 +39,13 @@ pub enum Import {
 /// What a component has: its types, the options of its functions, its exports, and its imports.
 #[derive(Drop)]
 pub struct Component {
+    /// The table of its types, in its store.
     pub types: InstanceType,
+    /// The options that exports and imports name.
     pub options: Vec<CanonicalOptions>,
+    /// What it gives, by the number of an `ExportIndex`.
     pub exports: Vec<Export>,
+    /// What its core functions may ask for, by its number.
     pub imports: Vec<Import>,
 }
 

@@ -2,6 +2,7 @@
 
 ghost use Rattle.std.specs.Prelude.{◌≡◌, ◌<◌, ◌≤◌, ◌+◌, ◌*◌, ◌^◌, IfSome, Some, drop, length, slice_get, take};
 ghost use Rattle.canon_lowering.specs.Lowering.{Reallocated};
+ghost use Rattle.canon_lowering.specs.Stages.{bare};
 ghost use Rattle.canon_memory.specs.Guest.{OnAnswer};
 ghost use Rattle.canon_memory.specs.Journal.{realloc_events};
 ghost use Rattle.canon_memory.specs.Realloc.{call};
@@ -25,7 +26,9 @@ use std::alloc::Global;
 /// Where values are lowered to: a core, under some of its options.
 #[derive(Drop)]
 pub struct LowerContext<'a, T, G> {
+    /// The core, whose guest is asked for blocks and whose memory is written.
     pub core: &'a mut Core<T, G>,
+    /// The number of the options among the component's.
     pub options: OptionsIndex,
 }
 
@@ -90,7 +93,7 @@ impl<'a, T, G: Guest> LowerContext<'a, T, G> {
         requires narrow { old < 2 ^ 32 }
         requires old_sized { old_size < 2 ^ 32 }
         requires new_sized { new_size < 2 ^ 32 }
-        ensures does { Reallocated (moment_of G.seen self.old.core.now) (moment_of G.seen self.new.core.now) (call old old_size old_align new_size) (ending_of result) (answer_of result) }
+        ensures does { Reallocated (bare (moment_of G.seen self.old.core.now)) (bare (moment_of G.seen self.new.core.now)) (call old old_size old_align new_size) (ending_of result) (answer_of result) }
         ensures moves { OnAnswer (guest_answer result) (G.moves (guest_of self.old.core.now) (realloc_events (call old old_size old_align new_size) self.old.core.now.memory (guest_answer result)) (guest_of self.new.core.now)) }
         ensures small { length self.new.core.now.memory ≤ 2 ^ 32 }
         ensures same { self.new.core.now ≡ record self.old.core.now { guest = self.new.core.now.guest; memory = self.new.core.now.memory } }
@@ -125,16 +128,22 @@ impl<'a, T, G: Guest> LowerContext<'a, T, G> {
 pub struct Source<'a> {
     /// The types in their store.
     pub instance: &'a InstanceType,
+    /// The same types, as a table.
     pub types: &'a ComponentTypes,
+    /// The whole memory.
     pub memory: &'a [u8],
+    /// How texts are spelled in it.
     pub encoding: StringEncoding,
 }
 
 /// Where values are lifted from: a core, under some of its options, and the fuel that is left.
 #[derive(Drop)]
 pub struct LiftContext<'a, T, G> {
+    /// The core, whose memory is read and whose ledger takes the handles.
     pub core: &'a mut Core<T, G>,
+    /// The number of the options among the component's.
     pub options: OptionsIndex,
+    /// What lifting may still cost.
     pub fuel: u64,
 }
 

@@ -14,7 +14,9 @@ use thiserror::Error;
 /// writes the one as `w3`, the other as `@1024`.
 #[derive(Clone, Copy, Debug, PartialEq, Eq)]
 pub enum At {
+    /// The index of the word.
     Word(u32),
+    /// The address in memory.
     Address(u64),
 }
 

@@ -68,8 +68,11 @@ impl<'a> MemoryView<'a> {
 /// tables are the core's own, which the function must leave in their places.
 #[derive(Drop)]
 pub struct HostView<'a, 'b, T> {
+    /// The data of the store.
     pub state: &'a mut T,
+    /// The store's resource tables, outside any call.
     pub tables: HostResourceTables<'b>,
+    /// The guest's memory.
     pub memory: MemoryView<'a>,
 }
 

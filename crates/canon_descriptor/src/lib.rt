@@ -13,6 +13,7 @@ pub struct Descriptor {
 }
 
 impl Descriptor {
+    /// The descriptor of this number. That it is open isn't tested.
     pub fn new(number: i32) -> Self {
         Descriptor { number }
     }

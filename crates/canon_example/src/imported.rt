@@ -6,8 +6,10 @@ ghost use Rattle.canon_context.specs.Component.{HasOptions};
 ghost use Rattle.canon_context.specs.Core.{component_types};
 ghost use Rattle.canon_context.specs.Host.{Keeps};
 ghost use Rattle.canon_host.specs.Asked.{HasRoomFor};
+ghost use Rattle.canon_host.specs.Forms.{MayGiveValues};
+ghost use Rattle.canon_host.specs.HostSide.{gives_unlogged};
 ghost use Rattle.canon_host.specs.Imports.{CountsOnce, ServesImport};
-ghost use Rattle.canon_example.specs.Imported.{AnyAnswer, ServedBy};
+ghost use Rattle.canon_example.specs.Imported.{ServedBy};
 
 use canon_host::{DynamicHostFn, HostCx, HostError, HostFunc, HostStop, HostView, Imports};
 use canon_memory::{Guest, ValRaw};
@@ -15,8 +17,8 @@ use canon_types::TypeFunc;
 use canon_value::Val;
 use std::alloc::Global;
 
-/// The imports of a component that has one function of the host. Contracts see which function serves an ask and how often asks were refused,
-/// but no log of the asks.
+/// The imports of a component that has one function of the host. Contracts see which function serves an ask, that it answers what this
+/// function may, and how often asks were refused, but no log of the asks.
 #[derive(Drop)]
 pub struct OneImport<F> {
     pub func: HostFunc<DynamicHostFn<F>>,
@@ -34,22 +36,24 @@ impl<
     ghost use Rattle.canon_context.specs.Core.{component_types};
     ghost use Rattle.canon_context.specs.Host.{Keeps};
     ghost use Rattle.canon_host.specs.Asked.{HasRoomFor};
+    ghost use Rattle.canon_host.specs.Forms.{MayGiveValues};
+    ghost use Rattle.canon_host.specs.HostSide.{gives_unlogged};
     ghost use Rattle.canon_host.specs.Imports.{CountsOnce, ServesImport};
-    ghost use Rattle.canon_example.specs.Imported.{AnyAnswer, ServedBy};
+    ghost use Rattle.canon_example.specs.Imported.{ServedBy};
 
-    type Plan = ();
+    type Plan = F;
 
     // The function keeps what it must.
     ghost ready = { λ s. Keeps F.Fn s.func };
 
-    ghost plan = { λ s. tt {0} };
+    ghost plan = { λ s. s.func };
 
     ghost log = { λ s. None };
 
     ghost refusals = { λ s. s.refusals };
 
-    // Where no log is exposed, nothing is said by this.
-    ghost gives = { λ plan. AnyAnswer };
+    // Each import answers what the function may.
+    ghost gives = { λ f. gives_unlogged (MayGiveValues F.Fn f) };
 
     fn serve(
         &mut self,
@@ -63,13 +67,12 @@ impl<
         requires options { HasOptions cx.core.now.component cx.options }
         requires room { HasRoomFor (component_types cx.core.now) cx.ty storage.old }
         ensures still_ready { Keeps F.Fn self.new.func }
-        ensures plan { tt {0} ≡ tt {0} }
-        ensures kept { self.new.func ≡ self.old.func }
+        ensures plan { self.new.func ≡ self.old.func }
         ensures served { IfSome (slice_get (component_types cx.entry.core.now).funcs cx.entry.ty) (λ t. ServedBy F.Fn self.old.func G.seen G.moves (record { ty = cx.entry.ty; func = t; options = cx.entry.options }) cx.entry.core.now storage.old result cx.exit.0.now storage.new) }
         ensures counts { CountsOnce result self.old.refusals self.new.refusals }
         ensures refusals { self.old.refusals ≤ self.new.refusals }
         ensures serves { IfSome (slice_get (component_types cx.entry.core.now).funcs cx.entry.ty)
-            (λ t. ServesImport AnyAnswer None n G.seen G.moves (record { ty = cx.entry.ty; func = t; options = cx.entry.options }) None
+            (λ t. ServesImport (gives_unlogged (MayGiveValues F.Fn self.old.func)) None n G.seen G.moves (record { ty = cx.entry.ty; func = t; options = cx.entry.options }) None
             self.old.refusals self.new.refusals cx.entry.core.now storage.old result cx.exit.0.now storage.new) }
         ensures same { cx.exit.0.now ≡ record cx.entry.core.now { state = cx.exit.0.now.state; guest = cx.exit.0.now.guest; memory = cx.exit.0.now.memory; ledger = cx.exit.0.now.ledger } }
     {
@@ -101,7 +104,7 @@ fn serve_by<
     ensures counts { CountsOnce result refusals.old refusals.new }
     ensures refusals { refusals.old ≤ refusals.new }
     ensures serves { IfSome (slice_get (component_types cx.entry.core.now).funcs cx.entry.ty)
-        (λ t. ServesImport AnyAnswer None n G.seen G.moves (record { ty = cx.entry.ty; func = t; options = cx.entry.options }) None refusals.old
+        (λ t. ServesImport (gives_unlogged (MayGiveValues F.Fn func.now)) None n G.seen G.moves (record { ty = cx.entry.ty; func = t; options = cx.entry.options }) None refusals.old
         refusals.new cx.entry.core.now storage.old result cx.exit.0.now storage.new) }
     ensures same { cx.exit.0.now ≡ record cx.entry.core.now { state = cx.exit.0.now.state; guest = cx.exit.0.now.guest; memory = cx.exit.0.now.memory; ledger = cx.exit.0.now.ledger } }
 {

@@ -71,7 +71,7 @@ pub record LowersAs {T G : Type 0} (its : AskForm T) (seen : G → Seen) (moves 
   pub done : OnOk r (trap ≡ None)
   pub late : TrapsLate (length a.memory) trap
   pub rises : IfErr r (λ f. RisesAt (asked_error index f) (moment_of seen a) (moment_of seen b))
-  pub moved : (l es : List Event) → (seen a.guest).journal ≡ Some l → (seen b.guest).journal ≡ Some (l ++ es) → OnAnswered {T = Unit {0}} (asked_answer index r) (moves (guest_of a) es (guest_of b))
+  pub moved : OnAnswered {T = Unit {0}} (asked_answer index r) (moves (guest_of a) (events_of answers trap) (guest_of b))
 
 -- The steps of a form, of an ask on the way from one core to another, say what is said of it; `Logged` is the log after an ask that was served.
 pub record FollowsSteps {T G P S : Type 0} (its : AskForm T) (answers_so : Answering T) (how : Steps T G its.Params P its.Results S) (Logged : Values P its.Results → Option (List LoggedEntry)) (seen : G → Seen) (moves : GuestIn G → List Event → GuestIn G → Type 0)
@@ -82,10 +82,10 @@ pub record FollowsSteps {T G P S : Type 0} (its : AskForm T) (answers_so : Answe
   pub fails : (before after : Parts T G) (e : HostError) → how.fails before e after → (e ≡ host.Fault fault.OutOfMemory) × (after ≡ before)
   pub gives : (before after : Parts T G) (params : its.Params) (results : its.Results) → how.gives before (how.told params) after results
       → HostSteps before.ledger after.ledger × (after ≡ record before { state = after.state; ledger = after.ledger })
-      × its.gave answers_so index log (in_view before) params (Ok results) after.state after.ledger
+      × its.gave answers_so index log asked (in_view before) params (Ok results) after.state after.ledger
   pub stops : (before after : Parts T G) (params : its.Params) (why : HostStop) (left : S) → how.stops before (how.told params) why after left
       → HostSteps before.ledger after.ledger × (after ≡ record before { state = after.state; ledger = after.ledger })
-      × its.gave answers_so index log (in_view before) params (Err why) after.state after.ledger
+      × its.gave answers_so index log asked (in_view before) params (Err why) after.state after.ledger
   pub logs : (params : its.Params) (told : Values P its.Results) → told.params ≡ how.told params → Logged told ≡ its.logged_with log index params told.results
   pub lowers : (s : T) (l : LedgerState) (at : ℕ) (results : its.Results) (r : Result (Unit {0}) Fault) → how.lowers (record a { state = s; ledger = l }) at results r b storage2
       → LowersAs its seen moves index a b callee asked storage2 at results l r

@@ -73,7 +73,7 @@ KeepsMemory its = (callee : Callee) (asked : Asked) (at : ℕ) (from to : Moment
     → its.lowers callee asked at from to results low answers trap l n (Err f) → StandsBut (result_places callee asked at) from to answers
 
 form_keeps : {T : Type 0} (form : HostFuncForm T) → KeepsMemory (ask_form form)
-form_keeps over_values callee asked at from to results low answers trap l n f calm h = ⊎_elim
+form_keeps (over_values may) callee asked at from to results low answers trap l n f calm h = ⊎_elim
     (λ far. let w = h.crosses.lowered.far far in
     subst (λ xs. StandsBut (result_places callee asked at) from to xs) w.1 (far_stands callee asked at from to w.0.answers far
     (stands_more _ _ from to w.0.answers (span_within callee asked at from to w.0.answers) (lowering_stands _ from to h.crosses.ending w.0.answers w.0.trap w.0.fresh w.0.lowering calm))))

@@ -81,5 +81,5 @@ module _ {T P R : Type 0} (types : RustTypes P R) (may : TypedAnswering T P R) (
   typed_exactly = record { only = only_meant; enough = meant_enough; liftable = meant_liftable; faultless = lifted_faultless; results = given_walked }
 
 pub form_exact : {T : Type 0} (form : HostFuncForm T) → IsLawful form → IsExact form
-form_exact over_values law = tt
+form_exact (over_values may) law = tt
 form_exact (over_types types may) law = typed_exactly types may law

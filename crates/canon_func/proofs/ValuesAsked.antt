@@ -11,7 +11,7 @@ use Rattle.canon_model.specs.Tree.{Trees}
 use Rattle.canon_model.proofs.Faults.{fault_excludes}
 use Rattle.canon_model.proofs.Reached.{reach_is_the_cost}
 use Rattle.canon_memory.specs.declared.event.Event.{Event}
-use Rattle.canon_memory.specs.Guest.{GuestIn, Moment, Seen}
+use Rattle.canon_memory.specs.Guest.{Moment, Seen}
 use Rattle.canon_ledger.specs.Ledger.{LedgerState}
 use Rattle.canon_ledger.specs.declared.fault.ResourceFault.TheVariants as resource
 use Rattle.canon_leaves.proofs.Leaves.{leaves_excluded}
@@ -20,7 +20,7 @@ use Rattle.canon_leaves.specs.Parts.{LeavesStop, LeavesTake, Part, PassedResourc
 use Rattle.canon_lowering.proofs.Lowerings.{none_answered}
 use Rattle.canon_lowering.specs.Lowering.{AllLawful, Answer, CauseOf, Ending, Trap, marks_of}
 use Rattle.canon_lowering.specs.Storing.{narrow}
-use Rattle.canon_context.specs.Core.{Parts, moment_of}
+use Rattle.canon_context.specs.Core.{Parts, moment_of, stage_of}
 use Rattle.canon_context.specs.Quiet.{have_block, have_handle}
 use Rattle.canon_context.specs.Told.{place_of}
 use Rattle.canon_context.specs.declared.component.Export.{Export}
@@ -34,6 +34,7 @@ use Rattle.canon_value_parts.specs.Resources.{EndsAs, all_passes, told_fault}
 use Rattle.canon_context.specs.Faults.{stop_of}
 use Rattle.canon_val.specs.Value.{HaveTrees}
 use Rattle.canon_val.specs.declared.val.Val.{Val}
+use Rattle.canon_host.specs.Forms.{ValuesAnswering}
 use Rattle.canon_host.specs.HostSide.{LoggedEntry, Giving, entry}
 use Rattle.canon_host.specs.Imports.{logged, logged_entry, steps_of_values}
 use Rattle.canon_host.specs.Serves.{LowersGiven}
@@ -46,6 +47,7 @@ use Rattle.canon_func.specs.declared.error.Error.TheVariants as error
 use Rattle.canon_func.proofs.AskLaws.{AskLawful, AskSound, FollowsSteps, LowersAs}
 use Rattle.canon_func.proofs.HostLowered.{into_by, lowered_as, no_lawful, no_lawful_end, pointer_counts, quiet_trap}
 use Rattle.canon_func.proofs.Prefixes.{past_cost}
+use Rattle.canon_context.proofs.Moves.{GuestLaws}
 
 -- ---- parameters
 
@@ -120,8 +122,8 @@ module _ (enc : Encoding) (ms : Members) (vs : List Val) (ts : Trees) (have : Ha
 
 -- ---- the laws
 
-pub values_sound : {T : Type 0} → AskSound {T = T} ask_values
-values_sound = record {
+pub values_sound : {T : Type 0} (may : ValuesAnswering T) → AskSound (ask_values may)
+values_sound may = record {
   short = λ callee asked index log. refl;
   declined = λ callee asked index log e is. inl is;
   calm = λ store. no_trap_lifted;
@@ -132,8 +134,8 @@ values_sound = record {
   traps = trapped_last;
 }
 
-pub values_lawful : {T : Type 0} → AskLawful {T = T} ask_values
-values_lawful = record {
+pub values_lawful : {T : Type 0} (may : ValuesAnswering T) → AskLawful (ask_values may)
+values_lawful may = record {
   taken = λ store callee fuel asked words memory l n params h. lifts_take callee.types l n _ _ h.1.handles;
   lower_excluded = λ callee asked at from to results low answers trap l n f ok h lawful none.
       lowering_excluded (asked_origin callee asked from.bytes).encoding (asked_results callee asked) results ok.trees ok.have ok.small _ _ from to answers trap lawful none l n ok.left _ ok.given ok.takes
@@ -142,7 +144,7 @@ values_lawful = record {
 
 -- ---- its steps
 
-module _ {T G : Type 0} (seen : G → Seen) (moves : GuestIn G → List Event → GuestIn G → Type 0) (gives : Giving T) (log : Option (List LoggedEntry)) (index : ℕ) (a b : Parts T G) (export : Export) (asked : Asked) (words pad storage2 : List ℕ)
+module _ {T G : Type 0} (may : ValuesAnswering T) (L : GuestLaws G) (gives : Giving T) (log : Option (List LoggedEntry)) (index : ℕ) (a b : Parts T G) (export : Export) (asked : Asked) (words pad storage2 : List ℕ)
     (is : IsHostAsk (export_callee a.component export) index words asked) where
   abbrev callee : Callee
   callee = export_callee a.component export
@@ -151,22 +153,22 @@ module _ {T G : Type 0} (seen : G → Seen) (moves : GuestIn G → List Event �
   first_is = take-append-le (args_words (asked_params callee asked)) words pad (pointer_counts (args_words (asked_params callee asked)) (members_flat (asked_results callee asked)) (length words) is.count).0
 
   -- results that reach no text and no list ask for nothing
-  asks_none : (s : T) (l : LedgerState) (at : ℕ) (results : List Val) (r : Result (Unit {0}) Fault) (h : LowersGiven seen moves asked (record a { state = s; ledger = l }) at results r b storage2) (answers : List Answer) (trap : Option Trap)
-      → (seen b.guest).marks ≡ (seen a.guest).marks ++ marks_of answers → CauseOf (moment_of seen a) (moment_of seen b) answers trap h.lowered.ending → have_block (asked_results callee asked) ≡ false
-      → (answers ≡ []) × (trap ≡ None) × (seen b.guest ≡ seen a.guest) × (members_flat (asked_results callee asked) ≤ max_results → b.memory ≡ a.memory)
+  asks_none : (s : T) (l : LedgerState) (at : ℕ) (results : List Val) (r : Result (Unit {0}) Fault) (h : LowersGiven L.seen L.moves asked (record a { state = s; ledger = l }) at results r b storage2) (answers : List Answer) (trap : Option Trap)
+      → (L.seen b.guest).marks ≡ (L.seen a.guest).marks ++ marks_of answers → CauseOf (moment_of L.seen a) (moment_of L.seen b) answers trap h.lowered.ending → have_block (asked_results callee asked) ≡ false
+      → (answers ≡ []) × (trap ≡ None) × (L.seen b.guest ≡ L.seen a.guest) × (members_flat (asked_results callee asked) ≤ max_results → b.memory ≡ a.memory)
   asks_none s l at results r h answers trap marks cause none =
-      let still : seen b.guest ≡ seen a.guest = ap seen (h.quiet none).0 in (
-        none_answered (seen a.guest).marks answers (ap (λ (k : Seen). k.marks) (sym still) ∙ marks),
-        quiet_trap r (have_handle (asked_results callee asked)) (all_passes (asked_results callee asked) results) (moment_of seen a) (moment_of seen b) answers trap h.lowered.ending h.lowered.ends (h.quiet none).1 cause,
+      let still : L.seen b.guest ≡ L.seen a.guest = ap L.seen (h.quiet none).0 in (
+        none_answered (L.seen a.guest).marks answers (ap (λ (k : Seen). k.marks) (sym still) ∙ marks),
+        quiet_trap r (have_handle (asked_results callee asked)) (all_passes (asked_results callee asked) results) (moment_of L.seen a) (moment_of L.seen b) answers trap h.lowered.ending h.lowered.ends (h.quiet none).1 cause,
         still,
         λ near. ap (λ (k : Parts T G). k.memory) (h.quiet_near near none).0,
       )
 
-  lowered : (s : T) (l : LedgerState) (at : ℕ) (results : List Val) (r : Result (Unit {0}) Fault) → LowersGiven seen moves asked (record a { state = s; ledger = l }) at results r b storage2
-      → LowersAs ask_values seen moves index a b callee asked storage2 at results l r
+  lowered : (s : T) (l : LedgerState) (at : ℕ) (results : List Val) (r : Result (Unit {0}) Fault) → LowersGiven L.seen L.moves asked (record a { state = s; ledger = l }) at results r b storage2
+      → LowersAs (ask_values may) L.seen L.moves index a b callee asked storage2 at results l r
   lowered s l at results r h =
-      let by = into_by callee asked at (moment_of seen a) (moment_of seen b) results (take (members_flat (asked_results callee asked)) storage2) h.lowered.given h.lowered.ending h.lowered.lowered in
-      lowered_as seen moves index a b callee asked at results (take (members_flat (asked_results callee asked)) storage2) storage2 refl l r (record {
+      let by = into_by callee asked at (stage_of L.seen L.moves a) (stage_of L.seen L.moves b) results (take (members_flat (asked_results callee asked)) storage2) h.lowered.given h.lowered.ending h.lowered.lowered in
+      lowered_as may L index a b callee asked at results (take (members_flat (asked_results callee asked)) storage2) storage2 refl l r (record {
         answers = by.answers;
         trap = by.trap;
         ending = h.lowered.ending;
@@ -178,16 +180,17 @@ module _ {T G : Type 0} (seen : G → Seen) (moves : GuestIn G → List Event �
           quiet = asks_none s l at results r h by.answers by.trap by.goes.marks by.cause;
         };
         goes = by.goes;
+        moves = by.moves;
         cause = by.cause;
-      }) h.moved
+      })
 
-  pub values_follow : FollowsSteps ask_values gives.answers (steps_of_values gives log index seen moves asked) (λ told. logged log (logged_entry index told)) seen moves log index a b callee asked words pad storage2
+  pub values_follow : FollowsSteps (ask_values may) gives.answers (steps_of_values gives log index L.seen L.moves asked may) (λ told. logged log (logged_entry index told)) L.seen L.moves log index a b callee asked words pad storage2
   values_follow = record {
     declines = λ e why. ap (host_error index) why;
     lifts = λ l r lifted h. (subst (λ ws. (over : ℕ) × LiftsParams (asked_origin callee asked a.memory) ws (asked_params callee asked) l a.fuel r lifted.ledger over) first_is h.0, h.1);
     fails = λ before after e h. h;
-    gives = λ before after params results h. (h.steps, h.same, h.may_give);
-    stops = λ before after params why left h. (h.steps, h.same, h.may_give);
+    gives = λ before after params results h. (h.steps, h.same, (h.may_give, h.by_log));
+    stops = λ before after params why left h. (h.steps, h.same, (h.may_give, h.by_log));
     logs = λ params told same. ap (λ ps. logged log (entry index ps told.results)) same;
     lowers = lowered;
     state = λ s l at results r h. ap (λ (k : Parts T G). k.state) h.same;

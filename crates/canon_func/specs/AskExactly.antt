@@ -91,5 +91,5 @@ module _ {T P R : Type 0} (types : RustTypes P R) (may : TypedAnswering T P R) w
 
 -- of an ask in its form: one over values says it itself
 abbrev pub IsExact : {T : Type 0} → HostFuncForm T → Type 0
-IsExact over_values = ⊤
+IsExact (over_values may) = ⊤
 IsExact (over_types types may) = IsTypedExactly types may

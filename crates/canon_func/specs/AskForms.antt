@@ -9,7 +9,7 @@ use Rattle.canon_context.specs.declared.fault.Fault.{Fault}
 use Rattle.canon_context.specs.declared.fault.Fault.TheVariants as fault
 use Rattle.canon_context.specs.declared.host.HostStop.{HostStop}
 use Rattle.canon_val.specs.declared.val.Val.{Val}
-use Rattle.canon_host.specs.Forms.{HostFuncForm, InView, IsOfOthers, IsOfThese, RustTypes, TypedAnswering, over_types, over_values}
+use Rattle.canon_host.specs.Forms.{HostFuncForm, InView, IsOfOthers, IsOfThese, RustTypes, TypedAnswering, ValuesAnswering, over_types, over_values}
 use Rattle.canon_host.specs.HostSide.{Answering, LoggedEntry, Giving, entry}
 use Rattle.canon_host.specs.Imports.{logged}
 use Rattle.canon_host.specs.declared.asked.Asked.{Asked}
@@ -32,9 +32,9 @@ pub record AskForm (T : Type 0) : Type 1 where
   pub liftable : ℕ → Callee → ℕ → Asked → List ℕ → List ℕ → LedgerState → Type 0
   -- what their handles do, in order, by the number of the store
   pub parts : ℕ → Callee → Asked → List ℕ → List ℕ → List (List Part)
-  -- The function answered so, as it may: by what one over values may answer, the number of its import, the log, what it reached and its
-  -- parameters; its answer, and the data and the ledger after.
-  pub gave : Answering T → ℕ → Option (List LoggedEntry) → InView T → Params → Result Results HostStop → T → LedgerState → Type 0
+  -- The function answered so, as it may: by what one over values may answer by a log, the number of its import, the log, what is asked for,
+  -- what it reached and its parameters; its answer, and the data and the ledger after.
+  pub gave : Answering T → ℕ → Option (List LoggedEntry) → Asked → InView T → Params → Result Results HostStop → T → LedgerState → Type 0
   -- the log after an ask that was served, by the log before and the number of its import
   pub logged_with : Option (List LoggedEntry) → ℕ → Params → Results → Option (List LoggedEntry)
   -- Results were lowered to these words, or at the place, or why not: by what is asked for, the place, the moments before and
@@ -45,16 +45,17 @@ pub record AskForm (T : Type 0) : Type 1 where
   -- what their handles do, in order
   pub gives : Callee → Asked → Results → List (List Part)
 
--- over values: of which something is said if the asks that were served are exposed, and then it left the ledger as it was
-abbrev pub ask_values : {T : Type 0} → AskForm T
-ask_values = record {
+-- Over values, which may answer so. If the asks that were served are exposed, it left the ledger as it was, and may answer so by them too.
+abbrev pub ask_values : {T : Type 0} → ValuesAnswering T → AskForm T
+ask_values May = record {
   Params = Vec Val Global;
   Results = List Val;
   declines = λ callee asked index log e. e ≡ error.Fault fault.OutOfMemory;
   lifts = λ store. AskLifts;
   liftable = λ store. AskLiftable;
   parts = λ store. ask_param_parts;
-  gave = λ answers index log reached params answer state ledger. IfSome log (λ entries. (ledger ≡ reached.ledger) × answers entries index reached.state params.items answer state);
+  gave = λ answers index log asked reached params answer state ledger. May asked.func reached params.items answer state ledger
+      × IfSome log (λ entries. (ledger ≡ reached.ledger) × answers entries index reached.state params.items answer state);
   logged_with = λ log index params results. logged log (entry index params.items results);
   lowers = AskLowers;
   lowerable = AskLowerable;
@@ -70,7 +71,7 @@ ask_types {T} {P} {R} types May = record {
   lifts = λ store callee fuel asked words memory before result after. IsOfThese types callee.types asked.func × TypedAskLifts types.reading callee asked words memory store fuel before result after;
   liftable = λ store callee fuel asked words memory before. TypedAskLiftable types.reading callee asked words memory fuel before store;
   parts = λ store callee asked words memory. typed_parts types.reading callee asked words memory store;
-  gave = λ answers index log reached params answer state ledger. (log ≡ None) × May reached params answer state ledger;
+  gave = λ answers index log asked reached params answer state ledger. (log ≡ None) × May reached params answer state ledger;
   logged_with = λ log index params results. log;
   lowers = λ callee asked at from to results. TypedAskLowers (types.walks results) (typed_given types callee asked results) callee asked at from to;
   lowerable = λ callee asked memory results. TypedAskLowerable (types.walks results) (typed_given types callee asked results) callee asked memory;
@@ -78,7 +79,7 @@ ask_types {T} {P} {R} types May = record {
 }
 
 abbrev pub ask_form : {T : Type 0} → HostFuncForm T → AskForm T
-ask_form over_values = ask_values
+ask_form (over_values may) = ask_values may
 ask_form (over_types types may) = ask_types types may
 
 -- of the import of a number

@@ -79,9 +79,9 @@ abbrev pub called_on : {T : Type 0} → Callee → ℕ → List ℕ → T → Le
 called_on callee store memory state ledger = record { store = store; memory = memory; options = callee.options; types = callee.types; state = state; ledger = ledger }
 
 module _ {T : Type 0} (its : AskForm T) (answers_so : Answering T) (callee : Callee) (fuel : ℕ) where
-  -- the function may answer so, by its form, leaving this data and this ledger
-  abbrev pub Gives : HostSide T → ℕ → List ℕ → LedgerState → its.Params → Result its.Results HostStop → T → LedgerState → Type 0
-  Gives before index memory lifted params answer state called = its.gave answers_so index before.log (called_on callee before.store memory before.state lifted) params answer state called
+  -- the function may answer so, by its form and what is asked for, leaving this data and this ledger
+  abbrev pub Gives : HostSide T → ℕ → Asked → List ℕ → LedgerState → its.Params → Result its.Results HostStop → T → LedgerState → Type 0
+  Gives before index asked memory lifted params answer state called = its.gave answers_so index before.log asked (called_on callee before.store memory before.state lifted) params answer state called
 
   -- ---- an ask that was resumed
 
@@ -99,7 +99,7 @@ module _ {T : Type 0} (its : AskForm T) (answers_so : Answering T) (callee : Cal
     pub words : List ℕ
     pub lifts : its.lifts before.store callee fuel asked t.words t.memory (enter before.ledger) (Ok params) lifted
     pub steps : HostSteps lifted called
-    pub gave : Gives before t.index t.memory lifted params (Ok results) after.state called
+    pub gave : Gives before t.index asked t.memory lifted params (Ok results) after.state called
     pub place : IsResultPlace callee.types.types asked t.memory t.words at
     pub ends : asked_exit called ≡ record { answer = Ok tt; after = ended }
     -- the guest as it asked, and once the results were lowered
@@ -129,8 +129,8 @@ module _ {T : Type 0} (its : AskForm T) (answers_so : Answering T) (callee : Cal
     abbrev pub StopsCalled : its.Params → LedgerState → Type 0
     StopsCalled params lifted =
         ((e ≡ error.Fault fault.OutOfMemory) × (after.ledger ≡ lifted) × (after.state ≡ before.state) × NothingAsked from.bytes to.bytes answers trap)
-        ⊎ ((why : HostStop) × (e ≡ stopped_error index why) × HostSteps lifted after.ledger × Gives before index from.bytes lifted params (Err why) after.state after.ledger × NothingAsked from.bytes to.bytes answers trap)
-        ⊎ ((results : its.Results) × (called : LedgerState) × HostSteps lifted called × Gives before index from.bytes lifted params (Ok results) after.state called × StopsGiven results called)
+        ⊎ ((why : HostStop) × (e ≡ stopped_error index why) × HostSteps lifted after.ledger × Gives before index asked from.bytes lifted params (Err why) after.state after.ledger × NothingAsked from.bytes to.bytes answers trap)
+        ⊎ ((results : its.Results) × (called : LedgerState) × HostSteps lifted called × Gives before index asked from.bytes lifted params (Ok results) after.state called × StopsGiven results called)
 
     -- Where it stopped, in order: nothing was done, as where there was no room for a scope; the parameters weren't lifted; or it stopped later.
     abbrev pub StopsAt : Type 0
@@ -162,7 +162,7 @@ module _ {T : Type 0} (its : AskForm T) (answers_so : Answering T) (callee : Cal
     pub is : IsHostAsk callee index words asked
     pub liftable : its.liftable before.store callee fuel asked words memory (enter before.ledger)
     pub given : (params : its.Params) (results : its.Results) (from called : LedgerState) (state : T) → its.lifts before.store callee fuel asked words memory (enter before.ledger) (Ok params) from
-        → HostSteps from called → Gives before index memory from params (Ok results) state called → AcceptsGiven asked words memory results called
+        → HostSteps from called → Gives before index asked memory from params (Ok results) state called → AcceptsGiven asked words memory results called
 
 -- ---- by the form of the import
 

@@ -122,9 +122,9 @@ module _ {T : Type 0} (its : AskForm T) (answers_so : Answering T) (callee : Cal
   HostPartway e after = (asked : Asked) × IsHostAsk callee index words asked
       × (Partway served.ledger (host_asked_steps its served.store callee asked words memory served.ledger) after
       ⊎ ((params : its.Params) × (lifted : LedgerState) × (why : HostStop) × (state : T) × (e ≡ stopped_error index why) × HostCalled asked params lifted after
-      × Gives its answers_so callee fuel served index memory lifted params (Err why) state after)
+      × Gives its answers_so callee fuel served index asked memory lifted params (Err why) state after)
       ⊎ ((params : its.Params) × (results : its.Results) × (lifted called : LedgerState) × (state : T) × HostCalled asked params lifted called
-      × Gives its answers_so callee fuel served index memory lifted params (Ok results) state called × Partway called (host_given_steps its callee asked results called) after))
+      × Gives its answers_so callee fuel served index asked memory lifted params (Ok results) state called × Partway called (host_given_steps its callee asked results called) after))
 
 module _ {T : Type 0} (gives : Giving T) (callee : Callee) (fuel : ℕ) where
   -- an ask that wasn't resumed: up to some step of a builtin or of a function of the host

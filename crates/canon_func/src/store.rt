@@ -55,12 +55,14 @@ impl<T, G, I> Store<T, G, I> {
         }
     }
 
+    /// The core: the component with its guest, memory and handles, and the data of the host.
     pub fn core(&self) -> &Core<T, G>
         ensures { result.now ≡ self.now.core }
     {
         &self.core
     }
 
+    /// The core, to be changed between calls.
     pub fn core_mut(&mut self) -> &mut Core<T, G>
         ensures* writes_back { sem 𝓛 (Lends (the_row T.row G.row I.row) (core_type.the_row T.row G.row) self.entry result (λ c. record self.old { core = c })) }
         ensures value { result.now ≡ self.old.core }
@@ -68,6 +70,7 @@ impl<T, G, I> Store<T, G, I> {
         &mut self.core
     }
 
+    /// The functions that the component imports.
     pub fn imports(&self) -> &I
         ensures { result.now ≡ self.now.imports }
     {
@@ -81,6 +84,7 @@ impl<T, G, I> Store<T, G, I> {
         self.core.fuel()
     }
 
+    /// Sets the fuel that each call after this has for lifting.
     pub fn set_fuel(&mut self, v: u64)
         ensures { self.new ≡ record self.old { core = record self.old.core { fuel = v } } }
     {
@@ -94,6 +98,7 @@ impl<T, G, I> Store<T, G, I> {
         self.turns
     }
 
+    /// Sets how many asks of imports each call after this may have served.
     pub fn set_turns(&mut self, v: u64)
         ensures { self.new ≡ record self.old { turns = v } }
     {

@@ -9,19 +9,23 @@ use canon_indices::{TypeFutureTableIndex, TypeResourceTableIndex, TypeStreamTabl
 /// The scope of a call in which borrow handles are made, by its number among the open scopes.
 #[derive(Clone, Copy, Debug, PartialEq, Eq)]
 pub enum Scope {
+    /// The number of the scope.
     Id(u64),
 }
 
 /// The scope of the call that runs.
 #[derive(Clone, Copy, Debug, PartialEq, Eq)]
 pub enum CurrentScope {
+    /// This scope.
     Id(Scope),
 }
 
 /// A resource: its type, the host's or one of the component's, and its representation.
 #[derive(Clone, Copy, Debug, PartialEq, Eq)]
 pub enum TypedResource {
+    /// A resource of the host, of this representation.
     Host(u32),
+    /// A resource of a component: the table of its type, and its representation.
     Component {
         ty: TypeResourceTableIndex,
         rep: u32,
@@ -54,7 +58,9 @@ impl TypedResource {
 /// An index of a handle table, with the type of resource that it is used at.
 #[derive(Clone, Copy, Debug, PartialEq, Eq)]
 pub enum TypedResourceIndex {
+    /// The index is of a resource of the host.
     Host(u32),
+    /// The index is of a resource of a component, by the table of its type.
     Component {
         ty: TypeResourceTableIndex,
         index: u32,
@@ -77,7 +83,9 @@ impl TypedResourceIndex {
 /// in which a borrow handle was made.
 #[derive(Clone, Copy, Debug, PartialEq, Eq)]
 pub enum RemovedResource {
+    /// An own handle, of this representation.
     Own { rep: u32 },
+    /// A borrow handle that was made in this scope.
     Borrow { scope: Scope },
 }
 
@@ -85,7 +93,9 @@ pub enum RemovedResource {
 /// that the instance was told that the other end is dropped, or that the future has its value.
 #[derive(Clone, Copy, Debug, PartialEq, Eq)]
 pub enum TransmitLocalState {
+    /// The end that writes.
     Write { done: bool },
+    /// The end that reads.
     Read { done: bool },
     /// A read or a write is in progress.
     Busy,
@@ -94,8 +104,11 @@ pub enum TransmitLocalState {
 /// The kinds of handle that can be waited on.
 #[derive(Clone, Copy, Debug, PartialEq, Eq)]
 pub enum Waitable {
+    /// A subtask, of the host or of a guest.
     Subtask { is_host: bool },
+    /// An end of a future.
     Future,
+    /// An end of a stream.
     Stream,
 }
 
@@ -112,16 +125,19 @@ pub enum Entry {
         resource: TypedResource,
         scope: Scope,
     },
+    /// An end of a stream: its type, its representation, and its state.
     Stream {
         ty: TypeStreamTableIndex,
         rep: u32,
         state: TransmitLocalState,
     },
+    /// An end of a future: its type, its representation, and its state.
     Future {
         ty: TypeFutureTableIndex,
         rep: u32,
         state: TransmitLocalState,
     },
+    /// An error context (CanonicalABI.md, "error-context").
     ErrorContext {
         rep: u32,
     },
@@ -130,6 +146,7 @@ pub enum Entry {
         rep: u32,
         is_host: bool,
     },
+    /// A set of handles that can be waited on (CanonicalABI.md, "waitable-set").
     WaitableSet {
         rep: u32,
     },
@@ -155,5 +172,6 @@ impl Entry {
 /// What an index of a table of threads names.
 #[derive(Clone, Copy, Debug, PartialEq, Eq)]
 pub struct GuestThread {
+    /// Its representation, which the caller chose.
     pub rep: u32,
 }

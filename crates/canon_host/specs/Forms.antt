@@ -1,7 +1,7 @@
 -- The forms that a function of the host may have.
-use Rattle.std.specs.Prelude.{Bool, IsTrue, List, Result, false, ℕ, ⊤, ◌≡◌}
+use Rattle.std.specs.Prelude.{Bool, Err, IsTrue, List, Ok, Result, false, ℕ, ⊤, ◌≡◌}
 use Rattle.canon_context.specs.Core.{Parts}
-use Rattle.canon_context.specs.Host.{IsOutside, StaticClosure, StaticReturns}
+use Rattle.canon_context.specs.Host.{Closure, IsOutside, Returns, StaticClosure, StaticReturns}
 use Rattle.canon_context.specs.declared.host.HostStop.{HostStop}
 use Rattle.canon_context.specs.declared.host.HostView.{HostView}
 use Rattle.canon_indices.specs.declared.options.CanonicalOptions.{CanonicalOptions}
@@ -18,6 +18,8 @@ use Rattle.canon_typed.specs.Typed.{IsTyped}
 use Rattle.canon_types.specs.Instance.{Instance}
 use Rattle.canon_types.specs.declared.types.InterfaceType.{InterfaceType}
 use Rattle.canon_types.specs.declared.types.TypeFunc.{TypeFunc}
+use Rattle.canon_val.specs.declared.val.Val.{Val}
+use Rattle.canon_host.specs.Serves.{blank}
 use Rattle.canon_host.specs.ServesTyped.{FitRustTypes}
 
 -- What is said of Rust types for parameters and for results, which are tuples.
@@ -49,7 +51,7 @@ rust_types fits_params fits_results reading told lifts cost means walks gives = 
   gives = gives;
 }
 
--- ---- what a function over Rust types may answer
+-- ---- what a function may answer
 
 -- What a function reaches when it is called: the number of the store and its memory, the options and the types of its component, the data
 -- of the store, and the ledger of its handles.
@@ -64,15 +66,28 @@ pub record InView (T : Type 0) : Type 0 where
 abbrev pub in_view : {T G : Type 0} → Parts T G → InView T
 in_view core = record { store = core.id; memory = core.memory; options = core.component.options.items; types = core.component.types; state = core.state; ledger = core.ledger }
 
--- By what it reaches and its parameters: its results or why it gave none, and the data and the ledger after.
+-- Over Rust types, by what it reaches and its parameters: its results or why it gave none, and the data and the ledger after.
 abbrev pub TypedAnswering : Type 0 → Type 0 → Type 0 → Type 1
 TypedAnswering T P R = InView T → P → Result R HostStop → T → LedgerState → Type 0
 
--- What a closure may answer: called once on a view of this, outside any call, it may give this, and leave this data and this ledger.
-pub record MayGive {F T P R : Type 0} (g : StaticClosure F (HostView T) P (Result R HostStop)) (f : F) (reached : InView T) (params : P) (answer : Result R HostStop) (state : T) (ledger : LedgerState) : Type 0 where
+-- Over values the same, by the function type that it is asked for too.
+abbrev pub ValuesAnswering : Type 0 → Type 1
+ValuesAnswering T = TypeFunc → InView T → List Val → Result (List Val) HostStop → T → LedgerState → Type 0
+
+-- what a function over values answered and left in its slots: the results that it gave, or why it gave none
+abbrev pub outcome : Result (Unit {0}) HostStop → List Val → Result (List Val) HostStop
+outcome (Ok x) results = Ok results
+outcome (Err why) results = Err why
+
+-- whatever it answers
+abbrev pub AnyValues : {T : Type 0} → ValuesAnswering T
+AnyValues type reached params answer state ledger = ⊤
+
+-- It was done once on a view of what is reached, outside any call, and left this data and this ledger.
+pub record DoneOn {T : Type 0} (May : HostView T → HostView T → Type 0) (reached : InView T) (state : T) (ledger : LedgerState) : Type 0 where
   pub view : HostView T
   pub left : HostView T
-  pub returned : StaticReturns g f view params answer left
+  pub returned : May view left
   pub outside : IsOutside view
   pub id_is : view.memory.id ≡ reached.store
   pub memory_is : view.memory.bytes.now ≡ reached.memory
@@ -83,11 +98,21 @@ pub record MayGive {F T P R : Type 0} (g : StaticClosure F (HostView T) P (Resul
   pub state_left : left.state.now ≡ state
   pub ledger_left : ledger_in left.tables ≡ ledger
 
+-- What a closure over Rust types may answer: called so, it may give this.
+abbrev pub MayGive : {F T P R : Type 0} → StaticClosure F (HostView T) P (Result R HostStop) → F → TypedAnswering T P R
+MayGive g f reached params answer state ledger = DoneOn (λ v w. StaticReturns g f v params answer w) reached state ledger
+
+-- What a closure over values may answer: called so, with `Bool false` in a slot for each result, it may give this, and leave these results.
+abbrev pub MayGiveValues : {F T : Type 0} → Closure F (HostView T) Val (Result (Unit {0}) HostStop) → F → ValuesAnswering T
+MayGiveValues g f type reached params answer state ledger =
+    (given : Result (Unit {0}) HostStop) × (results : List Val) × (answer ≡ outcome given results)
+    × DoneOn (λ v w. Returns g f v type params (blank reached.types.types type) given w results) reached state ledger
+
 -- ---- the form
 
--- a function over values, or over Rust types, which may answer so
+-- a function over values, or over Rust types, and what it may answer
 pub data HostFuncForm (T : Type 0) : Type 1 where
-  over_values : HostFuncForm T
+  over_values : ValuesAnswering T → HostFuncForm T
   over_types : {P R : Type 0} → RustTypes P R → TypedAnswering T P R → HostFuncForm T
 
 -- the laws of the traits `ComponentType`, `Lift` and `Lower`
@@ -104,7 +129,7 @@ pub record AreLawful {P R : Type 0} (types : RustTypes P R) : Type 0 where
 
 -- Rust types keep them
 abbrev pub IsLawful : {T : Type 0} → HostFuncForm T → Type 0
-IsLawful over_values = ⊤
+IsLawful (over_values may) = ⊤
 IsLawful (over_types types may) = AreLawful types
 
 -- a function type is of these types, and isn't async

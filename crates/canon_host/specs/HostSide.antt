@@ -1,10 +1,10 @@
 -- What a host has beside its guest.
-use Rattle.std.specs.Prelude.{Err, List, Ok, Option, Result, ℕ}
+use Rattle.std.specs.Prelude.{List, Option, Result, ℕ}
 use Rattle.canon_ledger.specs.Ledger.{LedgerState}
 use Rattle.canon_context.specs.Core.{Parts}
 use Rattle.canon_context.specs.declared.host.HostStop.{HostStop}
 use Rattle.canon_val.specs.declared.val.Val.{Val}
-use Rattle.canon_host.specs.Forms.{HostFuncForm, RustTypes, TypedAnswering, over_types, over_values}
+use Rattle.canon_host.specs.Forms.{AnyValues, HostFuncForm, RustTypes, TypedAnswering, ValuesAnswering, over_types, over_values}
 
 -- an ask that was served: the number of its import, its parameters and its results
 pub record LoggedEntry : Type 0 where
@@ -15,25 +15,24 @@ pub record LoggedEntry : Type 0 where
 abbrev pub entry : ℕ → List Val → List Val → LoggedEntry
 entry index params results = record { index = index; params = params; results = results }
 
--- what a function answered and left in its slots: the results that it gave, or why it gave none
-abbrev pub outcome : Result (Unit {0}) HostStop → List Val → Result (List Val) HostStop
-outcome (Ok x) results = Ok results
-outcome (Err why) results = Err why
-
--- What the function of an import may answer: by the asks that were served before, its number, the data of the store, its parameters, its
--- results or why it gave none, and the data after.
+-- What the function of an import over values may answer where a log is exposed: by the asks that were served before, its number, the data
+-- of the store, its parameters, its results or why it gave none, and the data after.
 abbrev pub Answering : Type 0 → Type 1
 Answering T = List LoggedEntry → ℕ → T → List Val → Result (List Val) HostStop → T → Type 0
 
--- What is said of the functions of imports: what those over values may answer, where the asks that were served are exposed, and by its
--- number the form of each, which says of one over Rust types what it may answer.
+-- What is said of the functions of imports: by its number the form of each, which says what it may answer; and what those over values may
+-- answer by the asks that were served, where these are exposed.
 pub record Giving (T : Type 0) : Type 1 where
   pub answers : Answering T
   pub form : ℕ → HostFuncForm T
 
--- all of them are over values
+-- all of them are over values, and the asks that were served say what they may answer
 abbrev pub gives_values : {T : Type 0} → Answering T → Giving T
-gives_values answers = record { answers = answers; form = λ n. over_values }
+gives_values answers = record { answers = answers; form = λ n. over_values AnyValues }
+
+-- all of them are over values and may answer so, and no asks are exposed
+abbrev pub gives_unlogged : {T : Type 0} → ValuesAnswering T → Giving T
+gives_unlogged may = record { answers = λ log n before params result after. ⊥; form = λ n. over_values may }
 
 -- all of them are over these Rust types, and may answer so
 abbrev pub gives_types : {T P R : Type 0} → RustTypes P R → TypedAnswering T P R → Giving T

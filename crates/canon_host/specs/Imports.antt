@@ -2,6 +2,7 @@
 use Rattle.std.specs.Prelude.{Err, IfSome, List, None, Ok, Option, Result, Vec, [], option_map, ℕ, ◌+◌, ◌++◌, ◌∷◌, ◌≡◌, ◌⊎◌}
 use Rattle.std.specs.declared.alloc.Global.{Global}
 use Rattle.canon_context.specs.Core.{Parts}
+use Rattle.canon_ledger.specs.Ledger.{LedgerState}
 use Rattle.canon_ledger.specs.Reached.{ledger_in}
 use Rattle.canon_context.specs.Host.{Closure, HostSteps, IsOutside, Returns, StaticClosure}
 use Rattle.canon_context.specs.declared.fault.Fault.{Fault}
@@ -14,8 +15,8 @@ use Rattle.canon_memory.specs.declared.event.Event.{Event}
 use Rattle.canon_types.specs.declared.types.TypeFunc.{TypeFunc}
 use Rattle.canon_model.specs.Memory.{cap}
 use Rattle.canon_val.specs.declared.val.Val.{Val}
-use Rattle.canon_host.specs.Forms.{HostFuncForm, IsOfOthers, IsOfThese, RustTypes, TypedAnswering, in_view, over_types, over_values}
-use Rattle.canon_host.specs.HostSide.{Answering, LoggedEntry, Giving, entry, gives_values, outcome}
+use Rattle.canon_host.specs.Forms.{HostFuncForm, InView, IsOfOthers, IsOfThese, MayGiveValues, RustTypes, TypedAnswering, ValuesAnswering, in_view, outcome, over_types, over_values}
+use Rattle.canon_host.specs.HostSide.{Answering, LoggedEntry, Giving, entry, gives_values}
 use Rattle.canon_host.specs.Serves.{AskValues, Serves, ServesBy, Steps, Values, value_steps}
 use Rattle.canon_host.specs.ServesTyped.{LiftsTyped, ServesTyped, typed_steps_by}
 use Rattle.canon_host.specs.declared.asked.Asked.{Asked}
@@ -33,12 +34,13 @@ logged log last = option_map (λ entries. entries ++ last ∷ []) log
 
 -- ---- the call
 
--- The function of an import was called. Of the core it changed the data, and the ledger by the host's steps. Where the log is exposed, it left
--- the ledger as it was, and may answer so.
-pub record CallsImport {T G : Type 0} (gives : Giving T) (log : Option (List LoggedEntry)) (n : ℕ) (before : Parts T G) (params : List Val) (result : Result (Unit {0}) HostStop) (after : Parts T G) (results : List Val) : Type 0 where
+-- The function of an import was called. Of the core it changed the data, and the ledger by the host's steps. It answered as it may; and where
+-- the log is exposed, it left the ledger as it was, and may answer so by the log.
+pub record CallsImport {T G : Type 0} (gives : Giving T) (may : ValuesAnswering T) (log : Option (List LoggedEntry)) (n : ℕ) (asked : Asked) (before : Parts T G) (params : List Val) (result : Result (Unit {0}) HostStop) (after : Parts T G) (results : List Val) : Type 0 where
   pub steps : HostSteps before.ledger after.ledger
   pub same : after ≡ record before { state = after.state; ledger = after.ledger }
-  pub may_give : IfSome log (λ entries. (after.ledger ≡ before.ledger) × gives.answers entries n before.state params (outcome result results) after.state)
+  pub may_give : may asked.func (in_view before) params (outcome result results) after.state after.ledger
+  pub by_log : IfSome log (λ entries. (after.ledger ≡ before.ledger) × gives.answers entries n before.state params (outcome result results) after.state)
 
 -- The same of a function over Rust types, whose parameters and results are of no values: it answered as it may, and its imports expose no log.
 pub record CallsUnlogged {T G P R : Type 0} (May : TypedAnswering T P R) (log : Option (List LoggedEntry)) (before : Parts T G) (params : P) (result : Result R HostStop) (after : Parts T G) : Type 0 where
@@ -51,6 +53,11 @@ pub record CallsUnlogged {T G P R : Type 0} (May : TypedAnswering T P R) (log : 
 abbrev pub GivesOnly : {F T : Type 0} → Closure F (HostView T) Val (Result (Unit {0}) HostStop) → F → (T → List Val → Result (List Val) HostStop → T → Type 0) → Type 0
 GivesOnly {F} {T} g f P = (v w : HostView T) (type : TypeFunc) (params slots results : List Val) (r : Result (Unit {0}) HostStop) → IsOutside v → Returns g f v type params slots r w results
     → (ledger_in w.tables ≡ ledger_in v.tables) × P v.state.now params (outcome r results) w.state.now
+
+-- whatever a function may answer, this may be answered
+abbrev pub AnswersOnly : {F T : Type 0} → Closure F (HostView T) Val (Result (Unit {0}) HostStop) → F → ValuesAnswering T → Type 0
+AnswersOnly {F} {T} g f May = (type : TypeFunc) (reached : InView T) (params : List Val) (answer : Result (List Val) HostStop) (state : T) (ledger : LedgerState)
+    → MayGiveValues g f type reached params answer state ledger → May type reached params answer state ledger
 
 -- no function is called: each ask is refused, and nothing changes
 abbrev pub Refuses : {T : Type 0} → Answering T
@@ -99,17 +106,17 @@ module _ {T G P R : Type 0} (types : RustTypes P R) (May : TypedAnswering T P R)
   ServesTypes log2 refusals refusals2 = ServesLogged steps_of_types (λ told. log) asked log log2 refusals refusals2
 
 module _ {T G : Type 0} (gives : Giving T) (log : Option (List LoggedEntry)) (n : ℕ) (seen : G → Seen) (moves : GuestIn G → List Event → GuestIn G → Type 0) (asked : Asked) where
-  -- how a function over values is served
-  abbrev pub steps_of_values : Steps T G (Vec Val Global) (List Val) (List Val) (List Val)
-  steps_of_values = value_steps (CallsImport gives log n) seen moves asked
+  -- how a function over values is served, that may answer so
+  abbrev pub steps_of_values : ValuesAnswering T → Steps T G (Vec Val Global) (List Val) (List Val) (List Val)
+  steps_of_values may = value_steps (CallsImport gives may log n asked) seen moves asked
 
   -- the ask was served by such a call of a function over values
-  abbrev pub ServesWith : Parts T G → List ℕ → Result AskValues HostError → Parts T G → List ℕ → Type 0
-  ServesWith before words result after words2 = Serves (CallsImport gives log n) seen moves asked before words result after words2
+  abbrev pub ServesWith : ValuesAnswering T → Parts T G → List ℕ → Result AskValues HostError → Parts T G → List ℕ → Type 0
+  ServesWith may before words result after words2 = Serves (CallsImport gives may log n asked) seen moves asked before words result after words2
 
   -- The import was served in its form. The values of an ask over values are added to an exposed log.
   abbrev pub ServesForm : HostFuncForm T → Option (List LoggedEntry) → ℕ → ℕ → Parts T G → List ℕ → Result (Unit {0}) HostError → Parts T G → List ℕ → Type 0
-  ServesForm over_values log2 refusals refusals2 = ServesLogged steps_of_values (λ told. logged log (logged_entry n told)) asked log log2 refusals refusals2
+  ServesForm (over_values may) log2 refusals refusals2 = ServesLogged (steps_of_values may) (λ told. logged log (logged_entry n told)) asked log log2 refusals refusals2
   ServesForm (over_types types may) log2 refusals refusals2 = ServesTypes types may log seen moves asked log2 refusals refusals2
 
   abbrev pub ServesImport : Option (List LoggedEntry) → ℕ → ℕ → Parts T G → List ℕ → Result (Unit {0}) HostError → Parts T G → List ℕ → Type 0

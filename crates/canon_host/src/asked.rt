@@ -22,16 +22,22 @@ use std::alloc::{AllocError, Global};
 /// Where an ask is served: a core, and the type and the options of the function that is asked for.
 #[derive(Drop)]
 pub struct HostCx<'a, T, G> {
+    /// The core whose guest asks.
     pub core: &'a mut Core<T, G>,
+    /// The type of the function, in the component's table.
     pub ty: TypeFuncIndex,
+    /// The options that it is lowered under.
     pub options: OptionsIndex,
 }
 
 /// What is asked for: a function of a type, under options.
 #[derive(Clone, Copy)]
 pub struct Asked {
+    /// Its type, in the component's table.
     pub ty: TypeFuncIndex,
+    /// The same type, looked up.
     pub func: TypeFunc,
+    /// The options that it is lowered under.
     pub options: OptionsIndex,
 }
 

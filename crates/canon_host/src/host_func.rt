@@ -33,6 +33,7 @@ pub trait HostFn<T, G: Guest> {
     /// What is asked for, the core and the words before, the answer, and the core and the words after.
     ghost serves: { Self → Asked → Parts T G → List ℕ → Result Self.Log HostError → Parts T G → List ℕ → Type 0 };
 
+    /// Serves one ask: lifts the parameters, calls the function, and lowers its results into words or memory.
     fn serve(
         &self,
         alloc: Global,

@@ -29,10 +29,10 @@ pub trait Imports<T, G: Guest> {
     /// How many asks were refused for no fault.
     ghost refusals: { Self → ℕ };
 
-    /// By this plan and the log so far, the function of an import over values may answer so: for the data of the store and these
-    /// parameters with these results, also where they aren't of their types, or with why there are none, leaving this data. And by this
-    /// plan the import of a number has this form: one over Rust types says what its function may answer, whether a log is exposed or not.
-    /// Functions over Rust types expose none.
+    /// By this plan the import of a number has this form, which says what its function may answer, whether a log is exposed or not. And
+    /// by this plan and the log so far, the function of an import over values may answer so: for the data of the store and these
+    /// parameters with these results, also where they aren't of their types, or with why there are none, leaving this data. Functions
+    /// over Rust types expose no log.
     ghost gives: { Self.Plan → Giving T };
 
     /// Serves one ask of the import of this number.

@@ -6,6 +6,7 @@ ghost use Rattle.canon_context.specs.Component.{HasOptions};
 ghost use Rattle.canon_context.specs.Core.{component_types};
 ghost use Rattle.canon_context.specs.Host.{Keeps};
 ghost use Rattle.canon_host.specs.Asked.{HasRoomFor};
+ghost use Rattle.canon_host.specs.Forms.{AnyValues};
 ghost use Rattle.canon_host.specs.Imports.{GivesOnly, Refuses, RefusesAll, ServesWith};
 
 use crate::{DynamicHostFn, HostCx, HostError, HostFunc, HostStop, HostView, Imports};
@@ -21,6 +22,7 @@ pub struct NoImports {
 }
 
 impl NoImports {
+    /// No functions, and no ask refused yet.
     pub fn new() -> Self
         ensures { result.refusals ≡ 0 }
     {
@@ -44,7 +46,7 @@ fn refuse_by<
     requires func { HasFunc (component_types cx.core.now) cx.ty }
     requires options { HasOptions cx.core.now.component cx.options }
     requires room { HasRoomFor (component_types cx.core.now) cx.ty storage.old }
-    ensures serves { (n : ℕ) → IfSome (slice_get (component_types cx.entry.core.now).funcs cx.entry.ty) (λ t. ServesWith RefusesAll (Some []) n G.seen G.moves (record { ty = cx.entry.ty; func = t; options = cx.entry.options }) cx.entry.core.now storage.old (Err result) cx.exit.0.now storage.new) }
+    ensures serves { (n : ℕ) → IfSome (slice_get (component_types cx.entry.core.now).funcs cx.entry.ty) (λ t. ServesWith RefusesAll (Some []) n G.seen G.moves (record { ty = cx.entry.ty; func = t; options = cx.entry.options }) AnyValues cx.entry.core.now storage.old (Err result) cx.exit.0.now storage.new) }
     ensures same { cx.exit.0.now ≡ record cx.entry.core.now { state = cx.exit.0.now.state; guest = cx.exit.0.now.guest; memory = cx.exit.0.now.memory; ledger = cx.exit.0.now.ledger } }
 {
     let Err(error) = func.entrypoint(alloc, cx, storage) else {
@@ -58,7 +60,7 @@ fn refuse<T, G: Guest>(alloc: Global, cx: HostCx<'_, T, G>, storage: &mut [ValRa
     requires func { HasFunc (component_types cx.core.now) cx.ty }
     requires options { HasOptions cx.core.now.component cx.options }
     requires room { HasRoomFor (component_types cx.core.now) cx.ty storage.old }
-    ensures serves { (n : ℕ) → IfSome (slice_get (component_types cx.entry.core.now).funcs cx.entry.ty) (λ t. ServesWith RefusesAll (Some []) n G.seen G.moves (record { ty = cx.entry.ty; func = t; options = cx.entry.options }) cx.entry.core.now storage.old (Err result) cx.exit.0.now storage.new) }
+    ensures serves { (n : ℕ) → IfSome (slice_get (component_types cx.entry.core.now).funcs cx.entry.ty) (λ t. ServesWith RefusesAll (Some []) n G.seen G.moves (record { ty = cx.entry.ty; func = t; options = cx.entry.options }) AnyValues cx.entry.core.now storage.old (Err result) cx.exit.0.now storage.new) }
     ensures same { cx.exit.0.now ≡ record cx.entry.core.now { state = cx.exit.0.now.state; guest = cx.exit.0.now.guest; memory = cx.exit.0.now.memory; ledger = cx.exit.0.now.ledger } }
 {
     let func = HostFunc::func_new(|_view: &mut HostView<

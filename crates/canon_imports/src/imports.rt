@@ -6,7 +6,8 @@ ghost use Rattle.canon_context.specs.Component.{HasOptions};
 ghost use Rattle.canon_context.specs.Core.{component_types};
 ghost use Rattle.canon_host.specs.Asked.{HasRoomFor};
 ghost use Rattle.canon_context.specs.Host.{Keeps};
-ghost use Rattle.canon_host.specs.HostSide.{LoggedEntry, outcome};
+ghost use Rattle.canon_host.specs.Forms.{AnyValues, outcome};
+ghost use Rattle.canon_host.specs.HostSide.{LoggedEntry};
 ghost use Rattle.canon_host.specs.Imports.{GivesOnly, ServesWith};
 ghost use Rattle.canon_host.specs.Serves.{AnswersInRow};
 ghost use Rattle.canon_script.specs.Imports.{HostAnswer, answers_view};
@@ -24,8 +25,11 @@ use std::alloc::Global;
 /// An ask that was served: the number of its import, how many parameters it had, and these and then its results.
 #[derive(Drop)]
 pub struct Line {
+    /// The number of the import.
     pub index: u32,
+    /// How many of the values are parameters.
     pub given: usize,
+    /// The parameters, and then the results.
     pub values: Vec<Val>,
 }
 
@@ -124,7 +128,7 @@ fn answer_with<
     requires room { HasRoomFor (component_types cx.core.now) cx.ty storage.old }
     ensures serves { (answers : List (List HostAnswer)) (log : List LoggedEntry) (n : ℕ) → answer_told answer.entry ≡ answer_next answers log n
         → IfSome (slice_get (component_types cx.entry.core.now).funcs cx.entry.ty)
-        (λ t. AnswersInRow (λ told. ServesWith (GivesAnswers answers) (Some log) n G.seen G.moves (record { ty = cx.entry.ty; func = t; options = cx.entry.options }) cx.entry.core.now storage.old told cx.exit.0.now storage.new) result) }
+        (λ t. AnswersInRow (λ told. ServesWith (GivesAnswers answers) (Some log) n G.seen G.moves (record { ty = cx.entry.ty; func = t; options = cx.entry.options }) AnyValues cx.entry.core.now storage.old told cx.exit.0.now storage.new) result) }
     ensures same { cx.exit.0.now ≡ record cx.entry.core.now { state = cx.exit.0.now.state; guest = cx.exit.0.now.guest; memory = cx.exit.0.now.memory; ledger = cx.exit.0.now.ledger } }
 {
     func.entrypoint(alloc, cx, storage)
@@ -142,7 +146,7 @@ fn answer_by<T, G: Guest>(
     requires room { HasRoomFor (component_types cx.core.now) cx.ty storage.old }
     ensures serves { (answers : List (List HostAnswer)) (log : List LoggedEntry) (n : ℕ) → answer_told answer.entry ≡ answer_next answers log n
         → IfSome (slice_get (component_types cx.entry.core.now).funcs cx.entry.ty)
-        (λ t. AnswersInRow (λ told. ServesWith (GivesAnswers answers) (Some log) n G.seen G.moves (record { ty = cx.entry.ty; func = t; options = cx.entry.options }) cx.entry.core.now storage.old told cx.exit.0.now storage.new) result) }
+        (λ t. AnswersInRow (λ told. ServesWith (GivesAnswers answers) (Some log) n G.seen G.moves (record { ty = cx.entry.ty; func = t; options = cx.entry.options }) AnyValues cx.entry.core.now storage.old told cx.exit.0.now storage.new) result) }
     ensures same { cx.exit.0.now ≡ record cx.entry.core.now { state = cx.exit.0.now.state; guest = cx.exit.0.now.guest; memory = cx.exit.0.now.memory; ledger = cx.exit.0.now.ledger } }
 {
     let func = HostFunc::func_new(move |_view: &mut HostView<

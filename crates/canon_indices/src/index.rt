@@ -19,12 +19,14 @@ impl Model for TypeRecordIndex {
 }
 
 impl TypeRecordIndex {
+    /// The index of this number.
     pub fn from_u32(number: u32) -> Self
         ensures { result ≡ number }
     {
         TypeRecordIndex { number }
     }
 
+    /// Its number.
     pub fn as_u32(self) -> u32
         ensures { result ≡ self }
     {
@@ -47,12 +49,14 @@ impl Model for TypeVariantIndex {
 }
 
 impl TypeVariantIndex {
+    /// The index of this number.
     pub fn from_u32(number: u32) -> Self
         ensures { result ≡ number }
     {
         TypeVariantIndex { number }
     }
 
+    /// Its number.
     pub fn as_u32(self) -> u32
         ensures { result ≡ self }
     {
@@ -75,12 +79,14 @@ impl Model for TypeListIndex {
 }
 
 impl TypeListIndex {
+    /// The index of this number.
     pub fn from_u32(number: u32) -> Self
         ensures { result ≡ number }
     {
         TypeListIndex { number }
     }
 
+    /// Its number.
     pub fn as_u32(self) -> u32
         ensures { result ≡ self }
     {
@@ -103,12 +109,14 @@ impl Model for TypeTupleIndex {
 }
 
 impl TypeTupleIndex {
+    /// The index of this number.
     pub fn from_u32(number: u32) -> Self
         ensures { result ≡ number }
     {
         TypeTupleIndex { number }
     }
 
+    /// Its number.
     pub fn as_u32(self) -> u32
         ensures { result ≡ self }
     {
@@ -131,12 +139,14 @@ impl Model for TypeMapIndex {
 }
 
 impl TypeMapIndex {
+    /// The index of this number.
     pub fn from_u32(number: u32) -> Self
         ensures { result ≡ number }
     {
         TypeMapIndex { number }
     }
 
+    /// Its number.
     pub fn as_u32(self) -> u32
         ensures { result ≡ self }
     {
@@ -159,12 +169,14 @@ impl Model for TypeFlagsIndex {
 }
 
 impl TypeFlagsIndex {
+    /// The index of this number.
     pub fn from_u32(number: u32) -> Self
         ensures { result ≡ number }
     {
         TypeFlagsIndex { number }
     }
 
+    /// Its number.
     pub fn as_u32(self) -> u32
         ensures { result ≡ self }
     {
@@ -187,12 +199,14 @@ impl Model for TypeEnumIndex {
 }
 
 impl TypeEnumIndex {
+    /// The index of this number.
     pub fn from_u32(number: u32) -> Self
         ensures { result ≡ number }
     {
         TypeEnumIndex { number }
     }
 
+    /// Its number.
     pub fn as_u32(self) -> u32
         ensures { result ≡ self }
     {
@@ -215,12 +229,14 @@ impl Model for TypeOptionIndex {
 }
 
 impl TypeOptionIndex {
+    /// The index of this number.
     pub fn from_u32(number: u32) -> Self
         ensures { result ≡ number }
     {
         TypeOptionIndex { number }
     }
 
+    /// Its number.
     pub fn as_u32(self) -> u32
         ensures { result ≡ self }
     {
@@ -243,12 +259,14 @@ impl Model for TypeResultIndex {
 }
 
 impl TypeResultIndex {
+    /// The index of this number.
     pub fn from_u32(number: u32) -> Self
         ensures { result ≡ number }
     {
         TypeResultIndex { number }
     }
 
+    /// Its number.
     pub fn as_u32(self) -> u32
         ensures { result ≡ self }
     {
@@ -271,12 +289,14 @@ impl Model for TypeFixedLengthListIndex {
 }
 
 impl TypeFixedLengthListIndex {
+    /// The index of this number.
     pub fn from_u32(number: u32) -> Self
         ensures { result ≡ number }
     {
         TypeFixedLengthListIndex { number }
     }
 
+    /// Its number.
     pub fn as_u32(self) -> u32
         ensures { result ≡ self }
     {
@@ -299,12 +319,14 @@ impl Model for TypeResourceTableIndex {
 }
 
 impl TypeResourceTableIndex {
+    /// The index of this number.
     pub fn from_u32(number: u32) -> Self
         ensures { result ≡ number }
     {
         TypeResourceTableIndex { number }
     }
 
+    /// Its number.
     pub fn as_u32(self) -> u32
         ensures { result ≡ self }
     {
@@ -327,12 +349,14 @@ impl Model for TypeFuncIndex {
 }
 
 impl TypeFuncIndex {
+    /// The index of this number.
     pub fn from_u32(number: u32) -> Self
         ensures { result ≡ number }
     {
         TypeFuncIndex { number }
     }
 
+    /// Its number.
     pub fn as_u32(self) -> u32
         ensures { result ≡ self }
     {
@@ -355,12 +379,14 @@ impl Model for TypeStreamTableIndex {
 }
 
 impl TypeStreamTableIndex {
+    /// The index of this number.
     pub fn from_u32(number: u32) -> Self
         ensures { result ≡ number }
     {
         TypeStreamTableIndex { number }
     }
 
+    /// Its number.
     pub fn as_u32(self) -> u32
         ensures { result ≡ self }
     {
@@ -383,12 +409,14 @@ impl Model for TypeFutureTableIndex {
 }
 
 impl TypeFutureTableIndex {
+    /// The index of this number.
     pub fn from_u32(number: u32) -> Self
         ensures { result ≡ number }
     {
         TypeFutureTableIndex { number }
     }
 
+    /// Its number.
     pub fn as_u32(self) -> u32
         ensures { result ≡ self }
     {
@@ -411,12 +439,14 @@ impl Model for OptionsIndex {
 }
 
 impl OptionsIndex {
+    /// The index of this number.
     pub fn from_u32(number: u32) -> Self
         ensures { result ≡ number }
     {
         OptionsIndex { number }
     }
 
+    /// Its number.
     pub fn as_u32(self) -> u32
         ensures { result ≡ self }
     {
@@ -439,12 +469,14 @@ impl Model for ExportIndex {
 }
 
 impl ExportIndex {
+    /// The index of this number.
     pub fn from_u32(number: u32) -> Self
         ensures { result ≡ number }
     {
         ExportIndex { number }
     }
 
+    /// Its number.
     pub fn as_u32(self) -> u32
         ensures { result ≡ self }
     {
@@ -467,12 +499,14 @@ impl Model for RuntimeInstance {
 }
 
 impl RuntimeInstance {
+    /// The index of this number.
     pub fn from_u32(number: u32) -> Self
         ensures { result ≡ number }
     {
         RuntimeInstance { number }
     }
 
+    /// Its number.
     pub fn as_u32(self) -> u32
         ensures { result ≡ self }
     {
@@ -495,12 +529,14 @@ impl Model for StoreId {
 }
 
 impl StoreId {
+    /// The index of this number.
     pub fn from_u64(number: u64) -> Self
         ensures { result ≡ number }
     {
         StoreId { number }
     }
 
+    /// Its number.
     pub fn as_u64(self) -> u64
         ensures { result ≡ self }
     {

@@ -99,15 +99,19 @@ pub fn u32_of(v: &Value) -> Option<u32>
 
 /// A way to read a JSON value.
 pub trait Reader {
+    /// What is read.
     type Item: Drop;
 
     // What contracts see of what is read.
     ghost Seen: { Type 0 };
 
+    /// What contracts see of one.
     ghost seen: { Self.Item → Seen };
 
+    /// What a JSON value is read as, or none.
     ghost reads: { Self → Data → Option Seen };
 
+    /// What this value is read as, `BadScript` where there is none, or out of memory.
     fn read(&self, alloc: Global, v: &Value) -> Result<Self::Item, ScriptError>
         ensures { spec.Gives seen result (reads self.now (view v.now)) };
 }

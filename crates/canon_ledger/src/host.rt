@@ -14,8 +14,11 @@ const LAST_GENERATION: u32 = 4_294_967_292;
 /// the instance and the destructor of the resource.
 #[derive(Clone, Copy, Debug, PartialEq, Eq)]
 pub struct TableSlot {
+    /// The generation of the last insertion there.
     pub generation: u32,
+    /// The instance that defines the resource, where one does.
     pub instance: Option<RuntimeInstance>,
+    /// The core function that is its destructor, where it has one.
     pub dtor: Option<u32>,
 }
 

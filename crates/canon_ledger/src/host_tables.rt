@@ -49,6 +49,7 @@ fn with_its_slot(slot: Option<TableSlot>, rep: Option<u32>) -> Option<(u32, Tabl
 /// ledger; a function of the host that is lent them must take the host's steps alone.
 #[derive(Drop)]
 pub struct HostResourceTables<'a> {
+    /// The ledger, with the types and the scope that it is reached with.
     pub tables: ResourceTables<'a>,
 }
 

@@ -10,6 +10,7 @@ use canon_types::ComponentTypes;
 /// lender what it left.
 #[derive(Clone, Copy)]
 pub struct KnownTypes<'a> {
+    /// The table of the types, or nothing.
     pub list: &'a [ComponentTypes],
 }
 

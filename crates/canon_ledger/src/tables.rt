@@ -24,8 +24,11 @@ use canon_types::{InterfaceType, TypeResourceTableIndex};
 /// `Ledger::instances`; the handle is then one of that instance's table.
 #[derive(Drop)]
 pub struct ResourceTables<'a> {
+    /// The ledger, which each call changes by one step.
     pub ledger: &'a mut Ledger,
+    /// The types of the component, or none.
     pub types: KnownTypes<'a>,
+    /// The scope of the call that runs, or none.
     pub current_scope: Option<CurrentScope>,
 }
 

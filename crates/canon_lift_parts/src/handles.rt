@@ -20,8 +20,11 @@ use std::alloc::Global;
 /// A handle of the guest's, own or borrowed.
 #[derive(Drop)]
 pub struct Handle {
+    /// The table of its resource's type.
     pub ty: TypeResourceTableIndex,
+    /// Whether it is an own handle, and no borrow.
     pub owned: bool,
+    /// Its index in the instance's table.
     pub index: u32,
 }
 

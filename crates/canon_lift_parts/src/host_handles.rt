@@ -84,6 +84,7 @@ pub trait OfRepresentation: Drop {
     // it is the resource of such a type, own or borrowed, and a representation
     ghost made: { Kind → Bool → ℕ → Self → Type 0 };
 
+    /// The resource of this type, own or borrowed, and representation.
     fn make(kind: ResourceType, owned: bool, rep: u32) -> Self
     where
         Self: Sized,

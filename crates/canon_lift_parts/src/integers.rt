@@ -18,10 +18,12 @@ pub trait Integer: Drop {
     // it is the one that its bytes spell as this number
     ghost held: { Self → ℕ → Type 0 };
 
+    /// How many bytes it takes, at most 8.
     fn width() -> u64
         ensures width { result ≡ bytes }
         ensures few { bytes ≤ 8 };
 
+    /// The integer that the bytes from an address on spell.
     fn load(memory: &[u8], at: u64) -> Self
     where
         Self: Sized,

@@ -14,7 +14,9 @@ use canon_types::CanonicalAbiInfo;
 /// Where a text or a list stands, and its length: the code units of a text with the tag of its encoding, or the items of a list.
 #[derive(Clone, Copy)]
 pub struct Placed {
+    /// The address.
     pub pointer: u64,
+    /// The length.
     pub length: u64,
 }
 

@@ -29,10 +29,13 @@ use canon_types::{InterfaceType, TypeResourceTableIndex};
 
 /// A resource that the host holds.
 pub trait HeldResource {
+    /// Where its handle is.
     ghost state: { Self → State };
 
+    /// Its representation.
     ghost rep: { Self → ℕ };
 
+    /// The type of its resource.
     ghost kind: { Self → Kind };
 
     // it with its handle there

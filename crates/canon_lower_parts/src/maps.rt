@@ -12,9 +12,13 @@ use canon_types::{CanonicalAbiInfo, InstanceType, InterfaceType};
 /// The types of a map's keys and values, where the value begins in a pair, and how a pair lies.
 #[derive(Clone, Copy)]
 pub struct PairType {
+    /// The type of the keys.
     pub key: InterfaceType,
+    /// The type of the values.
     pub value: InterfaceType,
+    /// Bytes from a pair's address to its value, with pointers of 32 bits.
     pub second: u32,
+    /// How a pair lies.
     pub abi: CanonicalAbiInfo,
 }
 

@@ -14,24 +14,29 @@ pub type Asked = (u64, u64, u32, u64);
 /// goes on, at an ask and a return as the guest left it.
 #[derive(Debug, Drop)]
 pub enum Event {
+    /// The core function of this number was started with these words.
     Start {
         func: u32,
         words: Words,
         memory: Bytes,
     },
+    /// It asked for the import of this number, with these words.
     Ask {
         index: u32,
         words: Words,
         memory: Bytes,
     },
+    /// It went on with these words, the answer of its last ask.
     Resume {
         words: Words,
         memory: Bytes,
     },
+    /// It returned these words.
     Return {
         words: Words,
         memory: Bytes,
     },
+    /// It was asked for a block of `new_size` bytes in the place of `old_size` bytes at `old`, and answered an address.
     Realloc {
         old: u64,
         old_size: u64,
@@ -39,14 +44,17 @@ pub enum Event {
         new_size: u64,
         answer: u64,
     },
+    /// Its post-return function of this number ran on these words.
     Post {
         func: u32,
         words: Words,
     },
+    /// Its destructor of this number ran on this representation.
     Dtor {
         func: u32,
         rep: u32,
     },
+    /// It trapped, in this request for a block or in another call, at whose begin memory had so many bytes.
     Trap {
         asked: Option<Asked>,
         len: u64,
@@ -75,12 +83,14 @@ impl Events {
         }
     }
 
+    /// How many events there are.
     pub fn len(&self) -> u64
         ensures { result ≡ length self.now }
     {
         self.items.len() as u64
     }
 
+    /// Adds an event at the end. Out of memory leaves the list as it was.
     pub fn push(&mut self, item: Event) -> Result<(), MemoryError>
         ensures ok { OnOk result (self.new ≡ self.old ++ item ∷ []) }
         ensures err { OnErr result (self.new ≡ self.old) }
@@ -90,6 +100,7 @@ impl Events {
         Ok(())
     }
 
+    /// The events in order.
     pub fn as_slice(&self) -> &[Event]
         ensures { result.now ≡ self.now }
     {

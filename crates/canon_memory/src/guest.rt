@@ -11,7 +11,9 @@ use crate::{GuestFault, Memory, ValRaw, Words};
 /// What a guest does once it is let go: it returns these words, or asks for an import with them.
 #[derive(Debug, Drop)]
 pub enum Step {
+    /// It returns these words.
     Return(Words),
+    /// It asks for the import of this number, with these words.
     Import { index: u32, words: Words },
 }
 

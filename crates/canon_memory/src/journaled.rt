@@ -46,12 +46,14 @@ impl<G> Journaled<G> {
         }
     }
 
+    /// The guest itself.
     pub fn guest(&self) -> &G
         ensures { result.now ≡ self.now.guest }
     {
         &self.guest
     }
 
+    /// The guest itself, to be changed. What is done to it there isn't in the journal.
     pub fn guest_mut(&mut self) -> &mut G
         ensures* writes_back { sem 𝓛 (Lends (the_row G.row) G.row self.entry result (λ g. record self.old { guest = g })) }
         ensures value { result.now ≡ self.old.guest }
@@ -59,6 +61,7 @@ impl<G> Journaled<G> {
         &mut self.guest
     }
 
+    /// The events so far, in order.
     pub fn events(&self) -> &Events
         ensures { result.now ≡ self.now.events }
     {

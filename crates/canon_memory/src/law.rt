@@ -12,7 +12,9 @@ use std::marker::Model;
 /// What was seen of an answer of `realloc`: whether it kept the law, and whether no byte outside its block changed.
 #[derive(Clone, Copy, Debug)]
 pub struct AnswerMark {
+    /// It kept the law of `realloc`.
     pub lawful: bool,
+    /// No byte that memory had changed, but in the answered block.
     pub tidy: bool,
 }
 

@@ -37,12 +37,14 @@ impl Words {
         Ok(Words { items })
     }
 
+    /// How many words there are.
     pub fn len(&self) -> u64
         ensures { result ≡ length self.now }
     {
         self.items.len() as u64
     }
 
+    /// Adds a word at the end. Out of memory leaves the list as it was.
     pub fn push(&mut self, item: ValRaw) -> Result<(), MemoryError>
         ensures ok { OnOk result (self.new ≡ self.old ++ item ∷ []) }
         ensures err { OnErr result (self.new ≡ self.old) }
@@ -52,6 +54,7 @@ impl Words {
         Ok(())
     }
 
+    /// The words in order.
     pub fn as_slice(&self) -> &[ValRaw]
         ensures { result.now ≡ self.now }
     {
@@ -90,12 +93,14 @@ impl Bytes {
         Ok(Bytes { items })
     }
 
+    /// How many bytes there are.
     pub fn len(&self) -> u64
         ensures { result ≡ length self.now }
     {
         self.items.len() as u64
     }
 
+    /// Adds a byte at the end. Out of memory leaves the list as it was.
     pub fn push(&mut self, item: u8) -> Result<(), MemoryError>
         ensures ok { OnOk result (self.new ≡ self.old ++ item ∷ []) }
         ensures err { OnErr result (self.new ≡ self.old) }
@@ -105,6 +110,7 @@ impl Bytes {
         Ok(())
     }
 
+    /// The bytes in order.
     pub fn as_slice(&self) -> &[u8]
         ensures { result.now ≡ self.now }
     {

@@ -89,12 +89,14 @@ impl Memory {
         self.bytes.len() as u64
     }
 
+    /// All bytes, from address 0 on.
     pub fn as_slice(&self) -> &[u8]
         ensures { result.now ≡ self.now.bytes }
     {
         &self.bytes
     }
 
+    /// All bytes, to be written. Their number stays.
     pub fn as_slice_mut(&mut self) -> &mut [u8]
         ensures* writes_back { sem 𝓛 (Lends the_row (Array u8 0) self.entry result (λ w. record self.old { bytes = written_over self.old.bytes w })) }
         ensures value { result.now ≡ self.old.bytes }

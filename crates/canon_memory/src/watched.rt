@@ -62,12 +62,14 @@ impl<G> Watched<G> {
         }
     }
 
+    /// The guest itself.
     pub fn guest(&self) -> &G
         ensures { result.now ≡ self.now.guest }
     {
         &self.guest
     }
 
+    /// The guest itself, to be changed. What it answers there isn't tested.
     pub fn guest_mut(&mut self) -> &mut G
         ensures* writes_back { sem 𝓛 (Lends (the_row G.row) G.row self.entry result (λ g. record self.old { guest = g })) }
         ensures value { result.now ≡ self.old.guest }

@@ -14,7 +14,9 @@ use canon_types::{
 /// A case: its payload, and how many bytes of its name are charged; of an option's and a result's, none.
 #[derive(Clone, Copy)]
 pub struct CaseSlots {
+    /// The type of its payload, or none.
     pub payload: Slots,
+    /// The bytes of its name that are charged.
     pub name_length: u64,
 }
 
@@ -99,6 +101,7 @@ fn payload_slots(ty: Option<InterfaceType>) -> Slots
     }
 }
 
+/// The plan of a variant: how its cases lie.
 pub fn variant_plan(types: &ComponentTypes, i: TypeVariantIndex) -> Plan
     requires known { Knows types.now (InterfaceType.Variant i) }
     ensures { Plans types.now (InterfaceType.Variant i) result }
@@ -106,6 +109,7 @@ pub fn variant_plan(types: &ComponentTypes, i: TypeVariantIndex) -> Plan
     Plan::Case(types.variant(i).info)
 }
 
+/// The plan of an enum, whose cases have no payloads.
 pub fn enum_plan(types: &ComponentTypes, i: TypeEnumIndex) -> Plan
     requires known { Knows types.now (InterfaceType.Enum i) }
     ensures { Plans types.now (InterfaceType.Enum i) result }
@@ -113,6 +117,7 @@ pub fn enum_plan(types: &ComponentTypes, i: TypeEnumIndex) -> Plan
     Plan::Case(types.enum_(i).info)
 }
 
+/// The plan of an option: the cases 0, for none, and 1.
 pub fn option_plan(types: &ComponentTypes, i: TypeOptionIndex) -> Plan
     requires known { Knows types.now (InterfaceType.Option i) }
     ensures { Plans types.now (InterfaceType.Option i) result }
@@ -120,6 +125,7 @@ pub fn option_plan(types: &ComponentTypes, i: TypeOptionIndex) -> Plan
     Plan::Case(types.option(i).info)
 }
 
+/// The plan of a result: the cases 0, for ok, and 1.
 pub fn result_plan(types: &ComponentTypes, i: TypeResultIndex) -> Plan
     requires known { Knows types.now (InterfaceType.Result i) }
     ensures { Plans types.now (InterfaceType.Result i) result }

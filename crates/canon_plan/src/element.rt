@@ -11,6 +11,7 @@ use canon_types::{CanonicalAbiInfo, ComponentTypes, InterfaceType, TypeMapIndex}
 /// Where the types of one element stand.
 #[derive(Clone, Copy)]
 pub enum Element {
+    /// An item of a list, of this type.
     Item(InterfaceType),
     /// A key and its value, in a map.
     Pair(TypeMapIndex),

@@ -18,8 +18,11 @@ use canon_types::{
 /// Where the types of values in a row stand.
 #[derive(Clone, Copy)]
 pub enum Slots {
+    /// The fields of a record.
     Fields(TypeRecordIndex),
+    /// The members of a tuple.
     Places(TypeTupleIndex),
+    /// So many items of one type.
     Items(InterfaceType, u64),
     /// A payload: none, or one of this type.
     Empty,
@@ -31,26 +34,36 @@ pub enum Slots {
 /// One of them: its type, and how many bytes its name has; where there are no names, none.
 #[derive(Clone, Copy)]
 pub struct Slot {
+    /// The type.
     pub ty: InterfaceType,
+    /// The bytes of the name that are charged.
     pub name_length: u64,
 }
 
 /// The type of a handle: whether it is an own or a borrow handle, and of which resource.
 #[derive(Clone, Copy)]
 pub struct HandleType {
+    /// Whether it is an own handle, and no borrow.
     pub owned: bool,
+    /// The table of the resource's type.
     pub resource: TypeResourceTableIndex,
 }
 
+/// What the values of a type are lifted as.
 pub enum Plan {
+    /// A number, a bool or a char: one word.
     Scalar,
+    /// A text, in a block of its own.
     Text,
+    /// A handle of this type.
     Handle(HandleType),
     /// A list or a map, whose elements stand in a block of their own.
     List(Element),
+    /// Members in a row: of a record, a tuple or a list of fixed length.
     Members(Slots),
     /// A case: the bytes of its discriminant, and where its payload begins.
     Case(VariantInfo),
+    /// Flags, by their type.
     Flags(TypeFlagsIndex),
 }
 

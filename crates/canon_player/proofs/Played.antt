@@ -122,7 +122,7 @@ lives_as args its P Q Leaves gives callee limits before after host left called e
   late_trap = h.late_trap;
   tail = h.tail;
   starts = h.starts;
-  lived = λ told. asks_so P Q f h.turns h.late_guest.live h.tail events (h.lived told);
+  lived = asks_so P Q f h.turns h.late_guest.live h.tail events h.lived;
   asks = h.asks;
   accepted = h.accepted;
   marks = h.marks;
@@ -193,7 +193,7 @@ module _ {R : Type 0} (args : Arguments) (its : ReturnedValues R) (Told : R → 
       lives_by entered.so in
       let one : Calls [] left.core.guest.events entered.events = subst (λ (es : List Event). Calls es left.core.guest.events entered.events) empty so in
       let two : Calls [] r.events entered.events = subst (λ (es : List Event). Calls [] es entered.events) (sym events) one in
-      let moved : StoreMoves (guest_of loaded.core) entered.events (guest_of left.core) = on_answered called _ short (entered.moves refl) in
+      let moved : StoreMoves (guest_of loaded.core) entered.events (guest_of left.core) = on_answered called _ short entered.moves in
       let did = moved.moves in
       record {
         ended = called;
@@ -295,7 +295,7 @@ entered_with : (callee : Callee) (params : List Val) (before left : ScriptStore)
 entered_with callee params before left called results h = record {
   events = h.events;
   added = h.added;
-  moves = λ some. on_answered_with called results _ (h.moves some);
+  moves = on_answered_with called results _ h.moves;
   so = lives_as (dynamic callee params) (dynamic_results callee) (EnteredLives before left called) (EnteredLives before left (with_results called results)) LeavesSame (GivesAnswers (answers_of before)) callee (limits_of before)
       (moment_of journaled before.core) (moment_of journaled left.core) (side_of before) (side_of left) (with_results called results) h.events
       (legs_so StoreMoves (λ j. (journaled j.guest).live) (λ j rest. OnAnswered called (StoreMoves j rest (guest_of left.core))) (λ j rest. OnAnswered (with_results called results) (StoreMoves j rest (guest_of left.core)))

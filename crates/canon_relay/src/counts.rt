@@ -8,8 +8,11 @@ use canon_memory::GuestFault;
 /// How many blocks it gave, how often it trapped, and how often it was out of memory.
 #[derive(Debug, Drop)]
 pub struct Counts {
+    /// How many blocks the guest gave.
     pub blocks: u64,
+    /// How often it trapped.
     pub traps: u64,
+    /// How often it was out of memory.
     pub shortages: u64,
 }
 

@@ -10,8 +10,11 @@ use std::marker::Model;
 /// its own making, which has the representation and no handle.
 #[derive(Clone, Copy, Debug, PartialEq, Eq)]
 pub enum ResourceAnyHandle {
+    /// An own handle of the host's table.
     Own(HostResourceIndex),
+    /// A borrow handle of the host's table.
     Borrow(HostResourceIndex),
+    /// A borrow without a handle, of this representation.
     Synthetic(u32),
 }
 

@@ -31,8 +31,10 @@ pub trait HostResourceType<D> {
     ghost use Rattle.std.specs.Prelude.{◌≡◌, Option, Some};
     ghost use Rattle.canon_types.specs.declared.resource.ResourceType.{ResourceType as Kind};
 
+    /// What gives a resource type, where it is one of this kind.
     ghost checked: { Kind → Option D };
 
+    /// The resource type that it gives.
     ghost type_of: { D → Kind };
 
     /// What gives a resource type, where it is one of this kind.

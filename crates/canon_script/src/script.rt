@@ -27,9 +27,13 @@ pub struct CallItem {
 /// The parameters of a typed call, by its signature.
 #[derive(Debug, Drop)]
 pub enum TypedParams {
+    /// Of a function over one `u32`.
     Number(u32),
+    /// Of a function over one text.
     Text(String),
+    /// Of a function over one list of `u32`.
     Numbers(Vec<u32>),
+    /// Of a function over a list of pairs and an optional bool.
     Pairs(Vec<(String, u64)>, Option<bool>),
 }
 
@@ -53,6 +57,7 @@ pub struct TypedItem {
 pub struct NewItem {
     /// The number that gives its type.
     pub ty: u32,
+    /// Its representation.
     pub rep: u32,
     /// Whether it is a borrow, and no own handle.
     pub borrow: bool,
@@ -112,5 +117,6 @@ pub struct Script {
     pub imports: Vec<Import>,
     /// The answers of each import, in order: the results of a function of the host, or none where it refuses.
     pub answers: Vec<Vec<Option<Vec<Val>>>>,
+    /// What is done, in order.
     pub items: Vec<Item>,
 }

@@ -19,7 +19,9 @@ use canon_types::StringEncoding;
 /// Where a text stands, and its length.
 #[derive(Clone, Copy)]
 pub struct TextBlock {
+    /// The address of its block.
     pub pointer: u64,
+    /// Its length in bytes or in units, with the tag of its encoding.
     pub length: u64,
 }
 

@@ -10,7 +10,9 @@ use std::alloc::{AllocError, AllocFailed};
 /// units for UTF-16.
 #[derive(Clone, Copy, Debug, PartialEq, Eq)]
 pub enum TextError {
+    /// In UTF-8, in bytes.
     InvalidUtf8(u64),
+    /// In UTF-16, in units of two bytes.
     InvalidUtf16(u64),
 }
 
@@ -31,7 +33,9 @@ impl TextError {
 /// Why bytes give no text.
 #[derive(Clone, Copy, Debug, PartialEq, Eq)]
 pub enum DecodeError {
+    /// They spell no text.
     Text(TextError),
+    /// There was no room for it.
     OutOfMemory,
 }
 
@@ -54,6 +58,8 @@ impl<T: Drop> From<AllocFailed<T>> for DecodeError {
 /// How much a pass has read and written, in units of the source and of the destination.
 #[derive(Clone, Copy, Debug, PartialEq, Eq)]
 pub struct SizePair {
+    /// Units of the source that were read.
     pub src_read: u64,
+    /// Units of the destination that were written.
     pub dst_written: u64,
 }

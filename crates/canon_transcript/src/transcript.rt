@@ -36,11 +36,13 @@ pub type Served = (u32, Vec<Val>, Vec<Val>);
 /// What an item did.
 #[derive(Debug, Drop)]
 pub struct Record {
+    /// Which item it was.
     pub head: Head,
     /// What the guest was asked and did, in order.
     pub events: Events,
     /// The asks that functions of the host served, in order.
     pub served: Vec<Served>,
+    /// How it ended.
     pub answer: Answer,
     /// How many handles live after the item.
     pub live: u64,

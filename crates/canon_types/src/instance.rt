@@ -25,6 +25,7 @@ impl InstanceType {
     ghost use Rattle.canon_types.specs.Table.{HasResource};
     ghost use Rattle.canon_types.specs.Resource.{resource_type_at};
 
+    /// These types in the store of this number.
     pub fn new(types: ComponentTypes, store: StoreId) -> Self
         ensures types { result.types ≡ types }
         ensures store { result.store ≡ store }
@@ -32,6 +33,7 @@ impl InstanceType {
         InstanceType { types, store }
     }
 
+    /// The table of the types.
     pub fn types(&self) -> &ComponentTypes
         ensures { result.now ≡ self.now.types }
     {

@@ -7,8 +7,10 @@ use crate::{RuntimeInstance, StoreId};
 /// A Rust type that stands for a type of the host's resources, with a number that no other such
 /// type has.
 pub trait HostType {
+    /// The number, for contracts.
     ghost ID: { ℕ };
 
+    /// The number.
     const ID: u32;
 }
 

@@ -23,8 +23,11 @@ use canon_types::TypeTupleIndex;
 /// Where a text or a list stands, its length, and the place of the value after it.
 #[derive(Clone, Copy)]
 pub struct Placed {
+    /// The address of its block.
     pub pointer: u64,
+    /// Its length: items, or the units of a text with the tag of its encoding.
     pub length: u64,
+    /// The place of the value after it.
     pub next: u64,
 }
 

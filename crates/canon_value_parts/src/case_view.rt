@@ -17,8 +17,11 @@ use canon_val::Val;
 /// How the type's cases lie, the number of the value's, and its payload.
 #[derive(Clone, Copy)]
 pub struct Case<'a> {
+    /// How the type's cases lie.
     pub info: VariantInfo,
+    /// The number of the value's case.
     pub tag: u32,
+    /// The payload: one value, or none.
     pub payload: Members<'a>,
 }
 

@@ -10,7 +10,9 @@ use canon_val::Val;
 /// A list's elements, and where their types stand.
 #[derive(Clone, Copy)]
 pub enum Elements<'a> {
+    /// The items of a list, of this type.
     Items(InterfaceType, &'a Vec<Val>),
+    /// The pairs of a map of this type.
     Pairs(TypeMapIndex, &'a Vec<(Val, Val)>),
 }
 

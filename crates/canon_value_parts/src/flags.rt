@@ -214,7 +214,9 @@ fn mark_word(dst: &mut [ValRaw], first: usize, k: usize)
 /// Where the bits of flags are read: in bytes from an address on, or in the low halves of words from one on.
 #[derive(Clone, Copy)]
 pub enum Marks<'a> {
+    /// These bytes, from this address on.
     Bytes(&'a [u8], u64),
+    /// These words, from this one on.
     Words(&'a [ValRaw], usize),
 }
 

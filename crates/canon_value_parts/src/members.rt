@@ -17,8 +17,11 @@ use canon_val::Val;
 /// Values in a row, and where their types stand.
 #[derive(Clone, Copy)]
 pub enum Members<'a> {
+    /// The fields of a record, each with its name.
     Fields(TypeRecordIndex, &'a [(String, Val)]),
+    /// The members of a tuple.
     Places(TypeTupleIndex, &'a [Val]),
+    /// Items of one type.
     Items(InterfaceType, &'a [Val]),
     /// The payload of a case that has none.
     Empty,
@@ -31,8 +34,11 @@ pub enum Members<'a> {
 /// One of them: its type, the value, and whether it has its type's name.
 #[derive(Clone, Copy)]
 pub struct Member<'a> {
+    /// The type.
     pub ty: InterfaceType,
+    /// The value.
     pub value: &'a Val,
+    /// Whether it has the name of its field; true of a member without one.
     pub is_named: bool,
 }
 

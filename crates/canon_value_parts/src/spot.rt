@@ -6,7 +6,9 @@ ghost use Rattle.canon_value_parts.specs.Words.{behind_tag, inside};
 /// Where a value stands: its first word, and its place among the values.
 #[derive(Clone, Copy)]
 pub struct Spot {
+    /// The index of its first word.
     pub word: usize,
+    /// Its place, by which a fault names it.
     pub place: u64,
 }
 

@@ -20,15 +20,19 @@ use canon_types::{
 };
 use canon_val::Val;
 
+/// What a value is by the shape of its type.
 pub enum View<'a> {
     /// A scalar's word.
     Scalar(u64),
+    /// A text, in a block of its own.
     Text(&'a String),
     /// A resource where a handle of this type is wanted.
     Handle(HandleType, ResourceAny),
     /// The elements of a list or a map, which stand in a block of their own.
     List(Elements<'a>),
+    /// Members in a row: of a record, a tuple or a list of fixed length.
     Members(Members<'a>),
+    /// A case with its payload: of a variant, an enum, an option or a result.
     Case(Case<'a>),
     /// The names of flags that are set.
     Flags(&'a Vec<String>),
