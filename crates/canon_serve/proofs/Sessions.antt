@@ -22,10 +22,6 @@ use Rattle.canon_serve.specs.declared.command.Command.TheVariants as command
 use Rattle.canon_serve.specs.declared.serving.End.{End}
 use Rattle.canon_serve.specs.declared.serving.End.TheVariants as end
 
-pub map_if_some : {A : Type 0} (P Q : A → Type 0) → ((a : A) → P a → Q a) → (o : Option A) → IfSome o P → IfSome o Q
-map_if_some P Q f (Some a) h = f a h
-map_if_some P Q f None h = h
-
 -- ---- one more turn
 
 messages_more : (ts : List CommandTurn) (t : CommandTurn) → command_messages (ts ++ t ∷ []) ≡ command_messages ts ++ one_turn_messages t
@@ -69,6 +65,11 @@ module _ {E H : Type 0} (log : E → Option (List Message)) where
   cut_command a b c s t asked end.NoComponent heard cut = absurd cut
   cut_command a b c s t asked end.NotInstantiated heard cut = absurd cut
 
+  pub cut_ends : (a b c : Option (List Message)) (s t : EngineStore E H) (asked : Command) (r : Option End) → PassesMessages a b (HearsCommand asked) → IfSome r (λ why. CutsCommand log why asked s t b c)
+      → IfSome r (λ why. PassesMessages a c (EndsSession log why s))
+  cut_ends a b c s t asked None heard cut = cut
+  cut_ends a b c s t asked (Some why) heard cut = cut_command a b c s t asked why heard cut
+
   -- nothing more was heard
   pub unheard_last : (a b : Option (List Message)) (s : EngineStore E H) (why : End) → IsUnheardEnd why → PassesMessages a b HearsNone → PassesMessages a b (EndsSession log why s)
   unheard_last a b s end.Broken is heard = (heard.0, heard.1, inl heard.2)
@@ -89,8 +90,17 @@ unheard_first a b end.Asked is heard = absurd is
 unheard_first a b end.NoComponent is heard = absurd is
 unheard_first a b end.NotInstantiated is heard = absurd is
 
+-- it is none that begins a session
+pub other_first : (asked : Command) → ((all : Bool) (json : Vec ℕ Global) → asked ≡ command.Begin all json → ⊥) → IsFirstAnswer asked (answer.Senseless senseless.NoCommand)
+other_first (command.Begin all json) not = absurd (not all json refl)
+other_first (command.Call export params) not = tt
+other_first command.End not = tt
+other_first command.Live not = tt
+other_first command.Marks not = tt
+other_first command.Unknown not = tt
+
 module _ (a b c : Option (List Message)) (asked : Command) (answered : Answer) (heard : PassesMessages a b (HearsCommand asked)) (first : IsFirstAnswer asked answered) where
-  turn : CommandTurn
+  abbrev turn : CommandTurn
   turn = record { asked = asked; heard = heard.0; answered = answered }
 
   -- an answer was told in part
