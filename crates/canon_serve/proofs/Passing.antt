@@ -1,5 +1,5 @@
 -- Messages that are the first of all.
-use Rattle.std.proofs.Common.{List, Option, [], refl, ◌++◌, ◌∷◌}
+use Rattle.std.proofs.Common.{List, Option, [], refl, ◌∷◌}
 use Rattle.canon_relay.specs.Channel.{AddsMessages, Message}
 use Rattle.canon_relay.specs.Relay.{PassesMessages, adds_both}
 use Rattle.canon_serve.specs.Messages.{IsFirstOf}

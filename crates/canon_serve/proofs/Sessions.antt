@@ -1,5 +1,5 @@
 -- A session, command by command.
-use Rattle.std.proofs.Common.{Bool, List, None, Option, Some, Vec, [], ap, inl, inr, refl, subst, sym, ℕ, ◌++◌, ◌∙◌, ◌∷◌, ◌≡◌, ◌⊎◌}
+use Rattle.std.proofs.Common.{Bool, List, None, Option, Some, Vec, [], ap, inl, inr, refl, subst, sym, ℕ, ◌++◌, ◌∙◌, ◌∷◌, ◌≡◌}
 use Rattle.std.specs.Prelude.{IfSome}
 use Rattle.std.specs.declared.alloc.Global.{Global}
 use Rattle.std.proofs.lemmas.List.{append-nil, append_assoc}
@@ -8,9 +8,9 @@ use Rattle.canon_func.specs.declared.error.Error.TheVariants as error
 use Rattle.canon_relay.specs.Channel.{AddsMessages, Message}
 use Rattle.canon_relay.specs.Relay.{PassesMessages, adds_both, adds_none}
 use Rattle.canon_serve.specs.Begins.{HasComponent, HasNoComponent, IsBegun}
-use Rattle.canon_serve.specs.Carries.{AnswersShort, CarriesOutCommand, EngineStore}
+use Rattle.canon_serve.specs.Carries.{CarriesOutCommand, EngineStore}
 use Rattle.canon_serve.specs.Messages.{HearsCommand, HearsNone, IsFirstOf, answer_messages}
-use Rattle.canon_serve.specs.Sessions.{BeginsSession, CommandTurn, CutsCommand, EndsAtOnce, EndsSession, EndsUnbegun, IsFirstAnswer, IsFirstTurn, IsSession, IsUnheardEnd, ServesAll, ServesOne, ServesSession, ServesTurn, ServesTurns, ServesUntil, ToldOrCut, command_messages, one_turn_messages}
+use Rattle.canon_serve.specs.Sessions.{CommandTurn, CutsCommand, EndsAtOnce, EndsSession, EndsUnbegun, IsFirstAnswer, IsFirstTurn, IsSession, IsUnheardEnd, ServesAll, ServesOne, ServesTurn, ServesTurns, ServesUntil, ToldOrCut, command_messages, one_turn_messages}
 use Rattle.canon_serve.specs.declared.answer.Answer.{Answer}
 use Rattle.canon_serve.specs.declared.answer.Answer.TheVariants as answer
 use Rattle.canon_serve.specs.declared.answer.Senseless.{Senseless}

@@ -1,5 +1,5 @@
 -- What a command does in a store whose code runs in an engine.
-use Rattle.std.specs.Prelude.{Bool, Err, IfSome, IsNone, List, None, Ok, OnErr, OnOk, Option, Result, Some, Vec, [], false, if◌then◌else◌, length, map, true, ℕ, ◌+◌, ◌++◌, ◌<◌, ◌^◌, ◌∷◌, ◌≡◌, ◌≤◌, ◌⊎◌}
+use Rattle.std.specs.Prelude.{Bool, Err, IfSome, IsNone, List, None, Ok, OnErr, OnOk, Option, Result, Some, Vec, [], false, if◌then◌else◌, length, map, true, ℕ, ◌+◌, ◌<◌, ◌^◌, ◌≡◌, ◌⊎◌}
 use Rattle.std.specs.declared.alloc.Global.{Global}
 use Rattle.canon_image_parts.specs.Read.{IsRead}
 use Rattle.canon_image_parts.specs.Written.{IsImaged}
