@@ -29,6 +29,7 @@ use Rattle.canon_func.specs.Stores.{Callee}
 use Rattle.canon_func.specs.declared.error.Error.{Error}
 use Rattle.canon_func.specs.declared.error.Error.TheVariants as error
 use Rattle.canon_func.proofs.Refusals.{calm_so}
+use Rattle.canon_lowering.specs.Stages.{Stage, bare, moment_at}
 
 -- ---- counts
 
@@ -40,8 +41,8 @@ calm_later entry late to counts calm = (λ rose. calm.0 (rose_sooner _ _ _ count
 
 -- ---- results that were lowered
 
-lowering_stands : (places : List Block) (from to : Moment) (ending : Ending) (answers : List Answer) (trap : Option Trap) (fresh : List Block) → Lowering from to places ending answers trap fresh
-    → Calm refused from.guest to.guest → StandsBut places from to answers
+lowering_stands : {K : Type 0} (places : List Block) (from to : Stage K) (ending : Ending) (answers : List Answer) (trap : Option Trap) (fresh : List Block) → Lowering from to places ending answers trap fresh
+    → Calm refused from.guest to.guest → StandsBut places (moment_at from) (moment_at to) answers
 lowering_stands places from to ending answers trap fresh h calm = record {
   tidy = h.tidy (calm_so ending from.guest to.guest calm);
   lawful = λ lawful. (h.lawful (calm_so ending from.guest to.guest calm) lawful).kept;
@@ -76,15 +77,15 @@ form_keeps : {T : Type 0} (form : HostFuncForm T) → KeepsMemory (ask_form form
 form_keeps (over_values may) callee asked at from to results low answers trap l n f calm h = ⊎_elim
     (λ far. let w = h.crosses.lowered.far far in
     subst (λ xs. StandsBut (result_places callee asked at) from to xs) w.1 (far_stands callee asked at from to w.0.answers far
-    (stands_more _ _ from to w.0.answers (span_within callee asked at from to w.0.answers) (lowering_stands _ from to h.crosses.ending w.0.answers w.0.trap w.0.fresh w.0.lowering calm))))
+    (stands_more _ _ from to w.0.answers (span_within callee asked at from to w.0.answers) (lowering_stands _ (bare from) (bare to) h.crosses.ending w.0.answers w.0.trap w.0.fresh w.0.lowering calm))))
     (λ near. let w = h.crosses.lowered.near near in
-    subst (λ xs. StandsBut (result_places callee asked at) from to xs) w.1 (near_stands callee asked at from to w.0.answers near (lowering_stands [] from to h.crosses.ending w.0.answers w.0.trap w.0.fresh w.0.lowering calm)))
+    subst (λ xs. StandsBut (result_places callee asked at) from to xs) w.1 (near_stands callee asked at from to w.0.answers near (lowering_stands [] (bare from) (bare to) h.crosses.ending w.0.answers w.0.trap w.0.fresh w.0.lowering calm)))
     (cases_lt max_results (members_flat (asked_results callee asked)))
 form_keeps (over_types types may) callee asked at from to results low answers trap l n f calm h = ⊎_elim
     (λ far. let w = h.lowered.far far in
-    subst (λ xs. StandsBut (result_places callee asked at) from to xs) w.1 (far_stands callee asked at from to w.0.answers far (lowering_stands _ from to h.ending w.0.answers w.0.trap w.0.fresh w.0.lowering calm)))
+    subst (λ xs. StandsBut (result_places callee asked at) from to xs) w.1 (far_stands callee asked at from to w.0.answers far (lowering_stands _ (bare from) (bare to) h.ending w.0.answers w.0.trap w.0.fresh w.0.lowering calm)))
     (λ near. let w = h.lowered.near near in
-    subst (λ xs. StandsBut (result_places callee asked at) from to xs) w.1 (near_stands callee asked at from to w.0.answers near (lowering_stands [] from to h.ending w.0.answers w.0.trap w.0.fresh w.0.lowering calm)))
+    subst (λ xs. StandsBut (result_places callee asked at) from to xs) w.1 (near_stands callee asked at from to w.0.answers near (lowering_stands [] (bare from) (bare to) h.ending w.0.answers w.0.trap w.0.fresh w.0.lowering calm)))
     (cases_lt max_results (members_flat (asked_results callee asked)))
 
 -- ---- an ask of a function of the host

@@ -50,5 +50,5 @@ module _ {T G : Type 0} (L : GuestLaws G) (gives : Giving T) (log log2 : Option 
   pub imports_served : row_words (asked_results (export_callee a.component export) asked) ≤ length storage2 → Imported (Ok tt) → Asking (Ok tt)
   imports_served room h = served_by (gives.form index) room h
 
-  pub imports_stopped : moves (guest_of a) [] (guest_of a) → (e : HostError) → Imported (Err e) → Asking (Err (host_error index e))
+  pub imports_stopped : L.moves (guest_of a) [] (guest_of a) → (e : HostError) → Imported (Err e) → Asking (Err (host_error index e))
   imports_stopped stays e h = stopped_by (gives.form index) stays e h

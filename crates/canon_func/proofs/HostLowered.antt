@@ -1,5 +1,5 @@
 -- What lowering the results of a function of the host did, by how it ended.
-use Rattle.std.proofs.Common.{Bool, Err, List, None, Ok, Option, Result, Some, [], arith, inl, inr, length, refl, subst, sym, ℕ, ⊎_elim, ◌++◌, ◌+◌, ◌<◌, ◌∙◌, ◌≡◌, ◌≤◌, ◌⊎◌}
+use Rattle.std.proofs.Common.{Bool, Err, false, List, None, Ok, Option, Result, Some, [], arith, inl, inr, length, refl, subst, sym, ℕ, ⊎_elim, ◌++◌, ◌+◌, ◌<◌, ◌∙◌, ◌≡◌, ◌≤◌, ◌⊎◌}
 use Rattle.std.proofs.lemmas.Bool.{cases_lt, le-leb, lt-leb}
 use Rattle.std.specs.Prelude.{IfErr, if◌then◌else◌, nat_le, take}
 use Rattle.canon_model.specs.Flat.{max_results}
@@ -40,7 +40,7 @@ use Rattle.canon_func.proofs.Prefixes.{last_lawful}
 use Rattle.canon_lowering.specs.Stages.{GoesBy, Stage, moment_at}
 use Rattle.canon_context.proofs.Moves.{GuestLaws, moved_by}
 use Rattle.canon_lowering.proofs.Lowerings.{unless}
-use Rattle.canon_lowering.proofs.Attempts.{attempt_bare}
+use Rattle.canon_lowering.proofs.Attempts.{attempt_bare, bare_asked}
 
 -- ---- words
 
@@ -81,12 +81,11 @@ not_far n a b = omega (arith, a, b)
 
 module _ {K : Type 0} (callee : Callee) (asked : Asked) (at : ℕ) (a b : Stage K) (results : List Val) (words : List ℕ) where
   pub into_by : (hs : List ℕ) (ending : Ending) → LowersResults a b (asked_origin callee asked a.bytes).encoding (asked_results callee asked) (HaveTrees (asked_results callee asked) results) at words hs ending → IntoBy callee asked at a b results words hs ending
-  unfolding attempt_bare
   into_by hs ending h = ⊎_elim
       (λ far. let low = h.far far in record {
         answers = low.answers;
         trap = low.trap;
-        into = record { near = λ near. absurd (not_far (members_flat (asked_results callee asked)) near far); far = λ again. (attempt_bare false a b _ _ ending low, refl, refl) };
+        into = record { near = λ near. absurd (not_far (members_flat (asked_results callee asked)) near far); far = λ again. (attempt_bare false a b _ _ ending low, (bare_asked false a b _ _ ending low).0, (bare_asked false a b _ _ ending low).1) };
         goes = low.lowering.goes;
         moves = low.lowering.moves;
         cause = low.lowering.cause;
@@ -94,7 +93,7 @@ module _ {K : Type 0} (callee : Callee) (asked : Asked) (at : ℕ) (a b : Stage 
       (λ near. let low = h.near near in record {
         answers = low.answers;
         trap = low.trap;
-        into = record { near = λ again. (attempt_bare false a b _ _ ending low, refl, refl); far = λ far. absurd (not_far (members_flat (asked_results callee asked)) near far) };
+        into = record { near = λ again. (attempt_bare false a b _ _ ending low, (bare_asked false a b _ _ ending low).0, (bare_asked false a b _ _ ending low).1); far = λ far. absurd (not_far (members_flat (asked_results callee asked)) near far) };
         goes = low.lowering.goes;
         moves = low.lowering.moves;
         cause = low.lowering.cause;

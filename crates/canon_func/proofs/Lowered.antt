@@ -5,6 +5,7 @@ use Rattle.std.proofs.Math.Seq.{take-append_seam}
 use Rattle.std.proofs.lemmas.Bool.{false≢true}
 use Rattle.canon_model.specs.Homes.{host_texts}
 use Rattle.canon_model.specs.Flat.{max_params}
+use Rattle.canon_model.specs.Memory.{Block}
 use Rattle.canon_model.specs.Layout.{members_flat}
 use Rattle.canon_model.specs.Shape.{Members}
 use Rattle.canon_model.specs.Text.{Encoding}
@@ -16,8 +17,8 @@ use Rattle.canon_types.specs.declared.types.TypeFunc.{TypeFunc}
 use Rattle.canon_ledger.specs.Ledger.{LedgerState}
 use Rattle.canon_leaves.specs.Parts.{LeavesStop, LeavesTake, PassedResource, lower_parts}
 use Rattle.canon_lowering.proofs.Lowerings.{none_answered}
-use Rattle.canon_lowering.proofs.Attempts.{attempt_bare}
-use Rattle.canon_lowering.specs.Attempt.{LowersArgs}
+use Rattle.canon_lowering.proofs.Attempts.{attempt_bare, bare_asked}
+use Rattle.canon_lowering.specs.Attempt.{Aim, Attempt, LowersArgs, args_in}
 use Rattle.canon_lowering.specs.Lowering.{Answer, CauseOf, Ending, Trap, UnlessShort, done, events_of, marks_of, refused, short}
 use Rattle.canon_lowering.specs.Stages.{GoesBy, Stage, bare, moment_at}
 use Rattle.canon_context.specs.Core.{Parts}
@@ -120,6 +121,14 @@ ended_moves V (fault.BadDiscriminant at d) ending P ends m = subst (λ end. Unle
 ended_moves V fault.HostcallFuelExhausted ending P ends m = subst (λ end. UnlessShort end P) ends m
 ended_moves V (fault.Resource r) ending P ends m = subst (λ end. UnlessShort end P) ends m
 
+-- what is said of the answers is said of them where nothing is said of how the guest goes on
+as_bare : {K : Type 0} {X : Type 0} {hs : List ℕ} (a b : Stage K) (places : List Block) (aim : Aim X) (e : Ending) (h : Attempt false a b places aim hs e) (P : List Answer → Option Trap → Type 0) → P h.answers h.trap
+    → let r = attempt_bare false a b places aim e h in P r.answers r.trap
+as_bare a b places aim e h P p =
+    let r = attempt_bare false a b places aim e h in
+    let same = bare_asked false a b places aim e h in
+    subst (λ t. P r.answers t) (sym same.1) (subst (λ xs. P xs h.trap) (sym same.0) p)
+
 -- parameters of these members, whatever they are, were lowered
 module _ {K : Type 0} (a b : Stage K) (enc : Encoding) (ms : Members) (args : Arguments) (l l2 : LedgerState) (hs : List ℕ) where
   -- where nothing was asked for
@@ -134,14 +143,22 @@ module _ {K : Type 0} (a b : Stage K) (enc : Encoding) (ms : Members) (args : Ar
       → Lowers words done → args.small → ((es : List Event) → GoesBy a b es → M es) → LeavesTake l args.parts hs l2
       → Adding (moment_at a) (moment_at b) M (λ es. (handles : List ℕ) × (low : LowersArgs false (bare (moment_at a)) (bare (moment_at b)) (host_texts enc) ms args.are words handles done)
       × (es ≡ events_of low.answers low.trap) × (length words ≡ words_within max_params ms) × AsksByTypes ms done low.answers low.trap × args.small × LeavesTake l args.parts handles l2)
-  unfolding attempt_bare
   args_done words M count same both small new takes =
       let mine = both.lowered in
+      let aim = args_in false (host_texts enc) ms words args.are in
       record {
         events = events_of mine.answers mine.trap;
         added = mine.lowering.goes.events;
         moves = new (events_of mine.answers mine.trap) mine.lowering.moves;
-        so = (hs, attempt_bare false a b [] _ done mine, refl, count, (asks_nothing mine.answers mine.trap mine.lowering.goes.marks (λ quiet near. mine.lowering.cause) same, both.asks), small, takes);
+        so = (
+          hs,
+          attempt_bare false a b [] aim done mine,
+          as_bare a b [] aim done mine (λ xs t. events_of mine.answers mine.trap ≡ events_of xs t) refl,
+          count,
+          as_bare a b [] aim done mine (λ xs t. AsksByTypes ms done xs t) (asks_nothing mine.answers mine.trap mine.lowering.goes.marks (λ quiet near. mine.lowering.cause) same, both.asks),
+          small,
+          takes,
+        );
       }
 
   pub args_refused : (f : Fault) (words : List ℕ) (ending : Ending) (M : List Event → Type 0) → Lowers words ending → EndsFor f ending → args.blames f → told_fault f ≡ f
@@ -149,9 +166,9 @@ module _ {K : Type 0} (a b : Stage K) (enc : Encoding) (ms : Members) (args : Ar
       → ((es : List Event) → UnlessShort ending (GoesBy a b es) → M es) → LeavesStop (stop_of f) l args.parts l2
       → Adding (moment_at a) (moment_at b) M (λ es. ((f ≡ fault.OutOfMemory) × (moment_at b ≡ moment_at a) × (l2 ≡ l) × (es ≡ [])) ⊎ ((words handles : List ℕ) × (end : Ending) × (low : LowersArgs false (bare (moment_at a)) (bare (moment_at b)) (host_texts enc) ms args.are words handles end)
       × EndsFor f end × args.blames f × (told_fault f ≡ f) × (es ≡ events_of low.answers low.trap) × AsksByTypes ms end low.answers low.trap × LeavesStop (stop_of f) l args.parts l2))
-  unfolding attempt_bare
   args_refused f words ending M both ends blames is_told same new stops =
       let mine = both.lowered in
+      let aim = args_in false (host_texts enc) ms words args.are in
       record {
         events = events_of mine.answers mine.trap;
         added = mine.lowering.goes.events;
@@ -160,12 +177,12 @@ module _ {K : Type 0} (a b : Stage K) (enc : Encoding) (ms : Members) (args : Ar
           words,
           hs,
           ending,
-          attempt_bare false a b [] _ ending mine,
+          attempt_bare false a b [] aim ending mine,
           ends,
           blames,
           is_told,
-          refl,
-          (
+          as_bare a b [] aim ending mine (λ xs t. events_of mine.answers mine.trap ≡ events_of xs t) refl,
+          as_bare a b [] aim ending mine (λ xs t. AsksByTypes ms ending xs t) (
             asks_nothing mine.answers mine.trap mine.lowering.goes.marks (λ quiet near. untrapped (moment_at a) (moment_at b) mine.answers mine.trap ending mine.lowering.cause (same near quiet).1) (λ near quiet. (same near quiet).0),
             both.asks,
           ),

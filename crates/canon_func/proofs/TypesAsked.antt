@@ -49,7 +49,7 @@ use Rattle.canon_func.proofs.HostLowered.{asked_moves, no_lawful, no_lawful_end,
 use Rattle.canon_func.proofs.Lowered.{untrapped}
 use Rattle.canon_lowering.specs.Stages.{GoesBy, Stage, moment_at}
 use Rattle.canon_context.proofs.Moves.{GuestLaws, moved_by}
-use Rattle.canon_lowering.proofs.Attempts.{attempt_bare}
+use Rattle.canon_lowering.proofs.Attempts.{attempt_bare, bare_asked}
 
 same_fault : (e f : Fault) → ◌≡◌ {A = Result (Unit {0}) Fault} (Err e) (Err f) → e ≡ f
 same_fault e f h = cc
@@ -175,12 +175,11 @@ record TupleBy {K : Type 0} (callee : Callee) (asked : Asked) (at : ℕ) (a b : 
 
 tuple_by : {K : Type 0} (callee : Callee) (asked : Asked) (at : ℕ) (a b : Stage K) (Has : Tree → Type 0) (words : List ℕ) (hs : List ℕ) (ending : Ending) → LowersTuple a b (asked_origin callee asked a.bytes).encoding (asked_results callee asked) (InParts Has) at words hs ending
     → TupleBy callee asked at a b Has words hs ending
-unfolding attempt_bare
 tuple_by callee asked at a b Has words hs ending h = ⊎_elim
     (λ far. let low = h.far far in record {
       answers = low.answers;
       trap = low.trap;
-      into = record { near = λ near. absurd (not_far (members_flat (asked_results callee asked)) near far); far = λ again. (attempt_bare false a b _ _ ending low, refl, refl) };
+      into = record { near = λ near. absurd (not_far (members_flat (asked_results callee asked)) near far); far = λ again. (attempt_bare false a b _ _ ending low, (bare_asked false a b _ _ ending low).0, (bare_asked false a b _ _ ending low).1) };
       goes = low.lowering.goes;
       moves = low.lowering.moves;
       cause = low.lowering.cause;
@@ -188,7 +187,7 @@ tuple_by callee asked at a b Has words hs ending h = ⊎_elim
     (λ near. let low = h.near near in record {
       answers = low.answers;
       trap = low.trap;
-      into = record { near = λ again. (attempt_bare false a b _ _ ending low, refl, refl); far = λ far. absurd (not_far (members_flat (asked_results callee asked)) near far) };
+      into = record { near = λ again. (attempt_bare false a b _ _ ending low, (bare_asked false a b _ _ ending low).0, (bare_asked false a b _ _ ending low).1); far = λ far. absurd (not_far (members_flat (asked_results callee asked)) near far) };
       goes = low.lowering.goes;
       moves = low.lowering.moves;
       cause = low.lowering.cause;

@@ -189,8 +189,8 @@ module _ {T G : Type 0} (may : ValuesAnswering T) (L : GuestLaws G) (gives : Giv
     declines = λ e why. ap (host_error index) why;
     lifts = λ l r lifted h. (subst (λ ws. (over : ℕ) × LiftsParams (asked_origin callee asked a.memory) ws (asked_params callee asked) l a.fuel r lifted.ledger over) first_is h.0, h.1);
     fails = λ before after e h. h;
-    gives = λ before after params results h. (h.steps, h.same, (h.may_give, h.by_log));
-    stops = λ before after params why left h. (h.steps, h.same, (h.may_give, h.by_log));
+    gives = λ before after params results h. (h.steps, h.same, (h.may_give, h.by_log, h.counted));
+    stops = λ before after params why left h. (h.steps, h.same, (h.may_give, h.by_log, tt));
     logs = λ params told same. ap (λ ps. logged log (entry index ps told.results)) same;
     lowers = lowered;
     state = λ s l at results r h. ap (λ (k : Parts T G). k.state) h.same;

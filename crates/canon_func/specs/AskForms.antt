@@ -1,5 +1,5 @@
 -- What is said of an ask of a function of the host, whatever its form is.
-use Rattle.std.specs.Prelude.{IfSome, List, None, Option, Result, Vec, ℕ, ◌≡◌, ◌⊎◌}
+use Rattle.std.specs.Prelude.{IfSome, List, None, Option, Result, Vec, ℕ, ◌≡◌, ◌⊎◌, IfOk, length}
 use Rattle.std.specs.declared.alloc.Global.{Global}
 use Rattle.canon_ledger.specs.Ledger.{LedgerState}
 use Rattle.canon_memory.specs.Guest.{Moment}
@@ -18,6 +18,8 @@ use Rattle.canon_func.specs.AskValues.{AskLiftable, AskLifts, AskLowerable, AskL
 use Rattle.canon_func.specs.Stores.{Callee}
 use Rattle.canon_func.specs.declared.error.Error.{Error}
 use Rattle.canon_func.specs.declared.error.Error.TheVariants as error
+use Rattle.canon_model.specs.Shape.{member_count}
+use Rattle.canon_types.specs.Table.{result_members}
 
 -- `Params` are what parameters are lifted as, and `Results` what the function gives; `T` is the data of the store.
 pub record AskForm (T : Type 0) : Type 1 where
@@ -45,7 +47,8 @@ pub record AskForm (T : Type 0) : Type 1 where
   -- what their handles do, in order
   pub gives : Callee → Asked → Results → List (List Part)
 
--- Over values, which may answer so. If the asks that were served are exposed, it left the ledger as it was, and may answer so by them too.
+-- Over values, which may answer so, with a value for each result. If the asks that were served are exposed, it left the ledger as it was, and
+-- may answer so by them too.
 abbrev pub ask_values : {T : Type 0} → ValuesAnswering T → AskForm T
 ask_values May = record {
   Params = Vec Val Global;
@@ -55,7 +58,8 @@ ask_values May = record {
   liftable = λ store. AskLiftable;
   parts = λ store. ask_param_parts;
   gave = λ answers index log asked reached params answer state ledger. May asked.func reached params.items answer state ledger
-      × IfSome log (λ entries. (ledger ≡ reached.ledger) × answers entries index reached.state params.items answer state);
+      × IfSome log (λ entries. (ledger ≡ reached.ledger) × answers entries index reached.state params.items answer state)
+      × IfOk answer (λ results. length results ≡ member_count (result_members reached.types.types asked.func));
   logged_with = λ log index params results. logged log (entry index params.items results);
   lowers = AskLowers;
   lowerable = AskLowerable;

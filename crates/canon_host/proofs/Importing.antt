@@ -16,10 +16,11 @@ use Rattle.canon_ledger.specs.Reached.{ledger_in}
 use Rattle.canon_memory.specs.Guest.{GuestIn, Seen}
 use Rattle.canon_memory.specs.declared.event.Event.{Event}
 use Rattle.canon_model.specs.Shape.{member_count}
-use Rattle.canon_types.specs.Table.{HasFunc, param_members}
+use Rattle.canon_types.specs.Table.{HasFunc, param_members, result_members}
 use Rattle.canon_types.specs.declared.types.TypeFunc.{TypeFunc}
 use Rattle.canon_model.specs.Memory.{cap}
 use Rattle.canon_val.specs.declared.val.Val.{Val}
+use Rattle.canon_val.specs.declared.val.Val.TheVariants as val
 use Rattle.canon_host.specs.Forms.{DoneOn, IsOfOthers, IsOfThese, MayGive, MayGiveValues, RustTypes, TypedAnswering, ValuesAnswering, in_view, outcome, over_values}
 use Rattle.canon_host.specs.HostSide.{LoggedEntry, Giving}
 use Rattle.canon_host.specs.Imports.{AnswersOnly, CallsImport, CallsUnlogged, Declines, GivesOnly, LiftsOf, ServedByTyped, ServesForm, ServesTypes, ServesWith, logged, logged_entry, steps_of_types}
@@ -29,6 +30,7 @@ use Rattle.canon_host.specs.declared.asked.Asked.{Asked}
 use Rattle.canon_host.specs.declared.error.HostError.{HostError}
 use Rattle.canon_host.specs.declared.error.HostError.TheVariants as error
 use Rattle.canon_host.proofs.Serving.{serves_changed, told_count}
+use Rattle.std.proofs.lemmas.List.{length-replicate}
 
 -- what is asked for by a type and options
 abbrev pub asked_by : ℕ → TypeFunc → ℕ → Asked
@@ -74,6 +76,7 @@ module _ {F T G : Type 0} (g : Closure F (HostView T) Val (Result (Unit {0}) Hos
     steps = h.steps;
     same = h.same;
     may_give = so asked.func (in_view b) params (outcome r results) a.state a.ledger (values_may g f asked b a params results r h);
+    counted = h.counted ∙ length-replicate (member_count (result_members (component_types b) asked.func)) (val.Bool false);
     by_log = moved_to params (outcome r results) _ _ _ _ _ _ _ _ h.gave.state_is h.gave.state_left h.gave.ledger_is h.gave.ledger_left
         (gave_only log only h.gave.view h.gave.left asked.func params _ results r h.gave.outside h.gave.returned);
   }

@@ -55,13 +55,14 @@ whole n nv items hn hl =
 
 module _ {F T G : Type 0} (g : Closure F (HostView T) Val (Result (Unit {0}) HostStop)) (f : F) (asked : Asked) where
   pub called : (before after : Parts T G) (n : ℕ) (values front back new : List Val) (r : Result (Unit {0}) HostStop) (o : Option TypeFunc) → o ≡ Some asked.func → IfSome o (λ t. Gave g f before after t front back r new)
-      → HostSteps before.ledger after.ledger → after ≡ record before { state = after.state; ledger = after.ledger } → front ≡ take n values → back ≡ drop n values → length front ≡ n
+      → HostSteps before.ledger after.ledger → after ≡ record before { state = after.state; ledger = after.ledger } → front ≡ take n values → back ≡ drop n values → length front ≡ n → length new ≡ length back
       → CallsFunction g f asked before (take n values) (drop n values) r after (drop n (front ++ new))
-  called before after n values front back new r o found gave steps same ef eb count =
+  called before after n values front back new r o found gave steps same ef eb count slots =
       let end : drop n (front ++ new) ≡ new = ap (λ m. drop m (front ++ new)) (sym count) ∙ drop-append_seam front new in
       let at : Gave g f before after asked.func front back r new = subst (λ p. IfSome p (λ t. Gave g f before after t front back r new)) found gave in
       record {
         gave = subst (λ xs. Gave g f before after asked.func (take n values) (drop n values) r xs) (sym end) (subst₂ (λ ps xs. Gave g f before after asked.func ps xs r new) ef eb at);
+        counted = ap length end ∙ slots ∙ ap length eb;
         steps = steps;
         same = same;
       }

@@ -5,7 +5,7 @@ use Rattle.std.proofs.lemmas.Bool.{cases_lt}
 use Rattle.canon_args.specs.Params.{InParts}
 use Rattle.canon_args.specs.Results.{StoresTuple}
 use Rattle.canon_context.specs.Asks.{SameButHandles}
-use Rattle.canon_context.specs.Core.{Parts, component_types, encoding_by, stage_of}
+use Rattle.canon_context.specs.Core.{Parts, component_types, encoding_by, moment_of, stage_of}
 use Rattle.canon_context.specs.Host.{StaticClosure}
 use Rattle.canon_context.specs.declared.host.HostStop.{HostStop}
 use Rattle.canon_context.specs.declared.host.HostView.{HostView}
@@ -39,6 +39,7 @@ use Rattle.canon_types.specs.Instance.{Instance}
 use Rattle.canon_types.specs.Table.{result_members, shape_of}
 use Rattle.canon_types.specs.declared.types.InterfaceType.{InterfaceType}
 use Rattle.canon_types.specs.declared.types.InterfaceType.TheVariants.{Tuple}
+use Rattle.canon_lowering.specs.Stages.{GoesBy}
 
 done_by : (gives : List (List Part)) (ending : Ending) → EndsBy {T = Unit {0}} gives (Ok tt) ending → ending ≡ done
 done_by gives ending (inl is) = is
@@ -91,7 +92,8 @@ module _ {F T G P R : Type 0} (g : StaticClosure F (HostView T) P (Result R Host
       trees = (in_row few).shown.it;
       walked = (in_row few).shown.is;
       answers = (in_row few).answers;
-      goes = subst (λ (t : Option Trap). Goes (stage_of seen moves before) (stage_of seen moves after) (marks_of (in_row few).answers) (events_of (in_row few).answers t)) (in_row few).lowering.cause (in_row few).lowering.goes;
+      goes = subst (λ (t : Option Trap). Goes (moment_of seen before) (moment_of seen after) (marks_of (in_row few).answers) (events_of (in_row few).answers t)) (in_row few).lowering.cause (in_row few).lowering.goes;
+      went = subst (λ (t : Option Trap). GoesBy (stage_of seen moves before) (stage_of seen moves after) (events_of (in_row few).answers t)) (in_row few).lowering.cause (in_row few).lowering.moves;
       requested = subst (λ (t : Option Trap). Requested (members_requests false (host_asks enc) ms (in_row few).shown.it) done (in_row few).answers t) (in_row few).lowering.cause
           ((in_row few).requested (in_row few).shown.it (in_row few).shown.is);
       given = given_so (handle_numbers (members_leaves ms (in_row few).shown.it)) (in_row few).shown.handles;
@@ -118,7 +120,8 @@ module _ {F T G P R : Type 0} (g : StaticClosure F (HostView T) P (Result R Host
       trees = (in_area many).shown.it;
       walked = (in_area many).shown.is;
       answers = (in_area many).answers;
-      goes = subst (λ (t : Option Trap). Goes (stage_of seen moves before) (stage_of seen moves after) (marks_of (in_area many).answers) (events_of (in_area many).answers t)) (in_area many).lowering.cause (in_area many).lowering.goes;
+      goes = subst (λ (t : Option Trap). Goes (moment_of seen before) (moment_of seen after) (marks_of (in_area many).answers) (events_of (in_area many).answers t)) (in_area many).lowering.cause (in_area many).lowering.goes;
+      went = subst (λ (t : Option Trap). GoesBy (stage_of seen moves before) (stage_of seen moves after) (events_of (in_area many).answers t)) (in_area many).lowering.cause (in_area many).lowering.moves;
       requested = subst (λ (t : Option Trap). Requested (members_requests false (host_asks enc) ms (in_area many).shown.it) done (in_area many).answers t) (in_area many).lowering.cause
           ((in_area many).requested (in_area many).shown.it (in_area many).shown.is);
       given = given_so (handle_numbers (members_leaves ms (in_area many).shown.it)) (in_area many).shown.handles;

@@ -1,7 +1,7 @@
 -- What the imports of a component do with one ask.
-use Rattle.std.specs.Prelude.{Err, IfSome, List, None, Ok, Option, Result, Vec, [], option_map, ℕ, ◌+◌, ◌++◌, ◌∷◌, ◌≡◌, ◌⊎◌}
+use Rattle.std.specs.Prelude.{Err, IfSome, List, None, Ok, Option, Result, Vec, [], option_map, ℕ, ◌+◌, ◌++◌, ◌∷◌, ◌≡◌, ◌⊎◌, length}
 use Rattle.std.specs.declared.alloc.Global.{Global}
-use Rattle.canon_context.specs.Core.{Parts}
+use Rattle.canon_context.specs.Core.{Parts, component_types}
 use Rattle.canon_ledger.specs.Ledger.{LedgerState}
 use Rattle.canon_ledger.specs.Reached.{ledger_in}
 use Rattle.canon_context.specs.Host.{Closure, HostSteps, IsOutside, Returns, StaticClosure}
@@ -22,6 +22,8 @@ use Rattle.canon_host.specs.ServesTyped.{LiftsTyped, ServesTyped, typed_steps_by
 use Rattle.canon_host.specs.declared.asked.Asked.{Asked}
 use Rattle.canon_host.specs.declared.error.HostError.{HostError}
 use Rattle.canon_host.specs.declared.error.HostError.TheVariants as error
+use Rattle.canon_model.specs.Shape.{member_count}
+use Rattle.canon_types.specs.Table.{result_members}
 
 -- ---- the log
 
@@ -34,12 +36,13 @@ logged log last = option_map (λ entries. entries ++ last ∷ []) log
 
 -- ---- the call
 
--- The function of an import was called. Of the core it changed the data, and the ledger by the host's steps. It answered as it may; and where
--- the log is exposed, it left the ledger as it was, and may answer so by the log.
+-- The function of an import was called. Of the core it changed the data, and the ledger by the host's steps. It answered as it may, with a
+-- value for each result; and where the log is exposed, it left the ledger as it was, and may answer so by the log.
 pub record CallsImport {T G : Type 0} (gives : Giving T) (may : ValuesAnswering T) (log : Option (List LoggedEntry)) (n : ℕ) (asked : Asked) (before : Parts T G) (params : List Val) (result : Result (Unit {0}) HostStop) (after : Parts T G) (results : List Val) : Type 0 where
   pub steps : HostSteps before.ledger after.ledger
   pub same : after ≡ record before { state = after.state; ledger = after.ledger }
   pub may_give : may asked.func (in_view before) params (outcome result results) after.state after.ledger
+  pub counted : length results ≡ member_count (result_members (component_types before) asked.func)
   pub by_log : IfSome log (λ entries. (after.ledger ≡ before.ledger) × gives.answers entries n before.state params (outcome result results) after.state)
 
 -- The same of a function over Rust types, whose parameters and results are of no values: it answered as it may, and its imports expose no log.

@@ -1,6 +1,6 @@
 -- How one ask is served, step by step: from one core to another, with the words before and after. A refusal leaves what the steps before
 -- it left.
-use Rattle.std.specs.Prelude.{◌++◌, ◌<◌, ◌≡◌, ◌≤◌, ◌⊎◌, Err, IfErr, List, Ok, OnOk, Result, Vec, false, replicate, take, ℕ}
+use Rattle.std.specs.Prelude.{◌++◌, ◌<◌, ◌≡◌, ◌≤◌, ◌⊎◌, Err, IfErr, List, Ok, OnOk, Result, Vec, false, replicate, take, ℕ, length}
 use Rattle.std.specs.declared.alloc.Global.{Global}
 use Rattle.canon_context.specs.Asks.{SameButHandles}
 use Rattle.canon_context.specs.Core.{Parts, SameButLedger, component_types, encoding_by, stage_of}
@@ -140,6 +140,7 @@ Calling T G = Parts T G → List Val → Result (Unit {0}) HostStop → Parts T 
 -- the function is called once, and leaves these results in its slots
 pub record CallsFunction {F T G : Type 0} (g : Closure F (HostView T) Val (Result (Unit {0}) HostStop)) (f : F) (asked : Asked) (before : Parts T G) (params slots : List Val) (result : Result (Unit {0}) HostStop) (after : Parts T G) (results : List Val) : Type 0 where
   pub gave : Gave g f before after asked.func params slots result results
+  pub counted : length results ≡ length slots
   pub steps : HostSteps before.ledger after.ledger
   pub same : after ≡ record before { state = after.state; ledger = after.ledger }
 

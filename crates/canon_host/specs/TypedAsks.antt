@@ -2,7 +2,7 @@
 use Rattle.std.specs.Prelude.{Err, List, None, Ok, Result, [], false, length, take, true, ℕ, ◌<◌, ◌∷◌, ◌≡◌, ◌≤◌, ◌⊎◌}
 use Rattle.canon_args.specs.Exactly.{passed_steps}
 use Rattle.canon_context.specs.Asks.{SameButHandles}
-use Rattle.canon_context.specs.Core.{Parts, component_types, encoding_by, stage_of}
+use Rattle.canon_context.specs.Core.{Parts, component_types, encoding_by, moment_of, stage_of}
 use Rattle.canon_context.specs.Host.{HostSteps, StaticClosure}
 use Rattle.canon_context.specs.declared.fault.Fault.{Fault}
 use Rattle.canon_context.specs.declared.fault.Fault.TheVariants as fault
@@ -37,6 +37,7 @@ use Rattle.canon_types.specs.declared.types.InterfaceType.{InterfaceType}
 use Rattle.canon_types.specs.declared.types.InterfaceType.TheVariants.{Tuple}
 use Rattle.canon_types.specs.declared.types.TypeFunc.{TypeFunc}
 use Rattle.canon_value_parts.specs.Args.{args_words}
+use Rattle.canon_lowering.specs.Stages.{GoesBy}
 
 -- ---- the parameters
 
@@ -150,7 +151,8 @@ module _ {F T G P R : Type 0} (g : StaticClosure F (HostView T) P (Result R Host
     pub trees : Trees
     pub walked : walks through.results (parts trees)
     pub answers : List Answer
-    pub goes : Goes (stage_of seen moves before) (stage_of seen moves after) (marks_of answers) (events_of answers None)
+    pub goes : Goes (moment_of seen before) (moment_of seen after) (marks_of answers) (events_of answers None)
+    pub went : GoesBy (stage_of seen moves before) (stage_of seen moves after) (events_of answers None)
     pub requested : Requested (members_requests false (host_asks (encoding_by before asked.options)) (result_members (component_types before) asked.func) trees) done answers None
     pub given : LeavesTake (leave (do_step (ExitScope (top_scope through.called.ledger.handles)) through.called.ledger).after) (given_parts gives asked before through.results)
         (handle_numbers (members_leaves (result_members (component_types before) asked.func) trees)) after.ledger

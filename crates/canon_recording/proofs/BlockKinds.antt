@@ -10,7 +10,7 @@ use Rattle.canon_types.specs.Keeps.{cases_type, enum_type}
 use Rattle.canon_types.specs.declared.types.TypeEnum.{TypeEnum}
 use Rattle.canon_types.specs.declared.types.InterfaceType.{InterfaceType}
 use Rattle.canon_types.specs.Table.{Definition, EnumType, FixedListType, FlagsType, IsDefined, Knows, ListType, MapType, OptionType, RecordType, ResultType, TupleType, TypeTable, VariantType, all_shapes, cases_in, defined_shape, fields_in, members_in, members_of, parts, shape_in, shape_of}
-use Rattle.canon_context.specs.Quiet.{have_block, cases_have_block, has_block}
+use Rattle.canon_context.specs.Quiet.{cases_have_block, has_block, have_block}
 
 block-fields : (known : List Shape) (fs : List (Name × InterfaceType)) → have_block (fields_in known fs) ≡ have_block (members_in known (map (λ f. f.1) fs))
 block-fields known [] = refl

@@ -9,7 +9,7 @@ use Rattle.canon_model.specs.Requests.{Call}
 use Rattle.canon_memory.specs.declared.event.Event.{Event}
 use Rattle.canon_memory.specs.declared.event.Event.TheVariants as event
 use Rattle.canon_func.specs.Runs.{AskTurn, Each, Grows, IsOneRun, IsRealloc, events_in, last_len, posts}
-use Rattle.canon_recording.specs.Stages.{IsLeft, IsServedOn, LeadsTo, RunsOn, after_asks, after_before, after_runs, is_end, len_in}
+use Rattle.canon_recording.specs.Stages.{IsLeftOfRun, IsServedOn, LeadsTo, RunsOn, after_asks, after_before, after_runs, is_end, len_in}
 use Rattle.canon_recording.specs.declared.runs.Stage.{Stage}
 use Rattle.canon_recording.specs.declared.runs.Stage.TheVariants as stage
 
@@ -276,7 +276,7 @@ not_asks post s = by_answers s.answers s.is
     by_answers (x ∷ xs) e = omega (arith, ap length e)
 
 module _ (func : ℕ) (returned : List ℕ) where
-  pub end_left : (post : Option ℕ) (s : Stage) → is_end post s ≡ true → IsLeft func post s returned []
+  pub end_left : (post : Option ℕ) (s : Stage) → is_end post s ≡ true → IsLeftOfRun func post s returned []
   end_left None stage.Before e = absurd (true≢false (sym e))
   end_left None stage.Runs e = absurd (true≢false (sym e))
   end_left None stage.Asks e = absurd (true≢false (sym e))
@@ -288,7 +288,7 @@ module _ (func : ℕ) (returned : List ℕ) where
   end_left (Some p) stage.Returned e = absurd (true≢false (sym e))
   end_left (Some p) stage.Ended e = refl
 
-  pub left_end : (post : Option ℕ) (s : Stage) → IsLeft func post s returned [] → is_end post s ≡ true
+  pub left_end : (post : Option ℕ) (s : Stage) → IsLeftOfRun func post s returned [] → is_end post s ≡ true
   left_end None stage.Before h = absurd (not_before func None h)
   left_end None stage.Runs h = absurd (not_runs None h)
   left_end None stage.Asks h = absurd (not_asks None h)

@@ -9,13 +9,13 @@ use Rattle.canon_recording_parts.proofs.Formats.{exactly_sound}
 use Rattle.canon_recording_parts.proofs.Laws.{any_sound, event_sound, events_sound, pair_sound, words_sound}
 use Rattle.canon_recording_parts.proofs.Formats.{number_sound}
 use Rattle.canon_recording_parts.specs.Events.{an_event, ask_event, byte_list, post_event, raw, realloc_event, request, resume_event, return_event, start_event, tagged, two_numbers, word_list, words_and_memory}
-use Rattle.canon_recording_parts.specs.Format.{Format, IsFormat, also, any_number, as_, counted, each, number, row, then_, times}
+use Rattle.canon_recording_parts.specs.Format.{Format, IsFormat, also, any_number, as_, counted_row, for_each, in_a_row, number, so_many, then_}
 use Rattle.canon_recording_parts.specs.declared.error.ReplayError.{ReplayError}
 use Rattle.canon_recording_parts.specs.declared.error.ReplayError.TheVariants as error
 use Rattle.canon_recording.proofs.Sound.{call_sound, format_sound, passed_sound}
-use Rattle.canon_recording.specs.Coded.{IsDecoded, IsFollowed, IsSameDecoding}
+use Rattle.canon_recording.specs.Coded.{IsDecoded, IsRecordingFollowed, IsSameDecoding}
 use Rattle.canon_recording.specs.Fits.{AreRuns, IsNoRunAt, IsRunFrom}
-use Rattle.canon_recording.specs.Recordings.{Functions, RecordedCall, a_call, calls_in, exports_of, imports_of, letters, passed, read_recording, recording_format}
+use Rattle.canon_recording.specs.Recordings.{Functions, RecordedCall, a_call, calls_in, exports_of, imports_of, letters, passed_values, read_recording, recording_format}
 use Rattle.canon_recording.specs.declared.recording.Recording.{Recording}
 
 -- ---- one thing has these bytes
@@ -43,16 +43,16 @@ then_tells k Good G g t a b xs (n, rest, good, f, h) (m, end, good2, f2, h2) =
     let r = field_once k n m xs rest end f f2 in
     t n good a b rest h (subst (λ l. (G n).writes b l) (sym r.1) (subst (λ i. (G i).writes b end) (sym r.0) h2))
 
-each_tells : {I A D : Type 0} (F : I → Format A) (g : A → D) → ((i : I) → IsFormat (F i)) → ((i : I) → Tells g (F i)) → (is : List I) → Tells (map g) (each F is)
+each_tells : {I A D : Type 0} (F : I → Format A) (g : A → D) → ((i : I) → IsFormat (F i)) → ((i : I) → Tells g (F i)) → (is : List I) → Tells (map g) (for_each F is)
 each_tells F g sound t [] a b xs (ae, h) (be, k) = ap (map g) (ae ∙ sym be)
 each_tells F g sound t (i ∷ is) a b xs (x, ae, (x1, x2, xe, h, h2)) (y, be, (y1, y2, ye, k, k2)) =
     let r = (sound i).apart x.0 y.0 x1 y1 x2 y2 h k (sym xe ∙ ye) in
     let first = t i x.0 y.0 x1 h (subst (λ l. (F i).writes y.0 l) (sym r.0) k) in
-    let others = each_tells F g sound t is x.1 y.1 x2 h2 (subst (λ l. (each F is).writes y.1 l) (sym r.1) k2) in
+    let others = each_tells F g sound t is x.1 y.1 x2 h2 (subst (λ l. (for_each F is).writes y.1 l) (sym r.1) k2) in
     ap (map g) ae ∙ (ap₂ (λ v l. v ∷ l) first others ∙ sym (ap (map g) be))
 
-counted_tells : {A D : Type 0} (F : Format A) (k : ℕ) (g : A → D) → IsFormat F → Tells g F → Tells (map g) (counted k F)
-counted_tells F k g sound t = then_tells k (λ n. ⊤) (row F) (map g) (λ n good. each_tells (λ (u : Unit {0}). F) g (λ u. sound) (λ u. t) (times n))
+counted_tells : {A D : Type 0} (F : Format A) (k : ℕ) (g : A → D) → IsFormat F → Tells g F → Tells (map g) (counted_row k F)
+counted_tells F k g sound t = then_tells k (λ n. ⊤) (in_a_row F) (map g) (λ n good. each_tells (λ (u : Unit {0}). F) g (λ u. sound) (λ u. t) (so_many n))
 
 -- ---- events
 
@@ -91,8 +91,8 @@ module _ (imports : ℕ) where
   tagged_tells (suc (suc (suc (suc (suc zero))))) = same_tells post_event (also (any_number 4) word_list) (also_tells (λ (n : ℕ). n) (λ (xs : List ℕ). xs) (any_number 4) word_list (any_sound 4) (number_tells 4 (λ n. ⊤)) words_tell)
   tagged_tells (suc (suc (suc (suc (suc (suc n)))))) = λ a b xs h k. absurd h
 
-  events_tell : Tells (λ (es : List Event). es) (counted 4 (an_event imports))
-  events_tell = list_tells (counted 4 (an_event imports)) (counted_tells (an_event imports) 4 (λ (e : Event). e) (event_sound imports) (then_tells 1 (λ n. n < 6) (tagged imports) (λ (e : Event). e) (λ n good. tagged_tells n)))
+  events_tell : Tells (λ (es : List Event). es) (counted_row 4 (an_event imports))
+  events_tell = list_tells (counted_row 4 (an_event imports)) (counted_tells (an_event imports) 4 (λ (e : Event). e) (event_sound imports) (then_tells 1 (λ n. n < 6) (tagged imports) (λ (e : Event). e) (λ n good. tagged_tells n)))
 
 -- ---- calls
 
@@ -104,16 +104,16 @@ module _ (exports imports : Functions) where
   call_tells : Tells run_of (a_call true exports imports)
   call_tells a b xs (n, rest, good, f, (x, xe, (x1, x2, re, h, (e1, e2, ee, he, ha)))) (m, end, good2, f2, (y, ye, (y1, y2, te, k, (d1, d2, de, ke, ka)))) =
       let r = field_once 4 n m xs rest end f f2 in
-      let k2 = subst (λ i. (passed true exports i).writes y.0 y1) (sym r.0) k in
+      let k2 = subst (λ i. (passed_values true exports i).writes y.0 y1) (sym r.0) k in
       let p = (passed_sound true exports n).apart x.0 y.0 x1 y1 x2 y2 h k2 (sym re ∙ (r.1 ∙ te)) in
       let q = (events_sound imports.count 4).apart x.1.0 y.1.0 e1 d1 e2 d2 he ke (sym ee ∙ (p.1 ∙ de)) in
-      let events = events_tell imports.count x.1.0 y.1.0 e1 he (subst (λ l. (counted 4 (an_event imports.count)).writes y.1.0 l) (sym q.0) ke) in
+      let events = events_tell imports.count x.1.0 y.1.0 e1 he (subst (λ l. (counted_row 4 (an_event imports.count)).writes y.1.0 l) (sym q.0) ke) in
       ap run_of xe ∙ (ap₂ (λ i es. (i, es)) r.0 events ∙ sym (ap run_of ye))
 
   recording_tells : Tells (map run_of) (recording_format true exports imports)
   recording_tells a b xs (x, xe, (x1, x2, le, h, g)) (y, ye, (y1, y2, me, k, j)) =
       let p = (exactly_sound letters).apart x.0 y.0 x1 y1 x2 y2 h k (sym le ∙ me) in
-      ap (map run_of) xe ∙ (counted_tells (a_call true exports imports) 4 run_of (call_sound true exports imports) call_tells x.1 y.1 x2 g (subst (λ l. (counted 4 (a_call true exports imports)).writes y.1 l) (sym p.1) j) ∙ sym (ap (map run_of) ye))
+      ap (map run_of) xe ∙ (counted_tells (a_call true exports imports) 4 run_of (call_sound true exports imports) call_tells x.1 y.1 x2 g (subst (λ l. (counted_row 4 (a_call true exports imports)).writes y.1 l) (sym p.1) j) ∙ sym (ap (map run_of) ye))
 
 -- ---- runs
 
@@ -162,13 +162,13 @@ module _ (c : Component) (bs : List ℕ) where
   tells : Tells (map run_of) F
   tells = recording_tells (exports_of c) (imports_of c)
 
-  whole_or : (calls : List RecordedCall) (p : ℕ) → F.writes calls bs → ¬ (F.stops bs p ⊎ IsFollowed c bs p)
+  whole_or : (calls : List RecordedCall) (p : ℕ) → F.writes calls bs → ¬ (F.stops bs p ⊎ IsRecordingFollowed c bs p)
   whole_or calls p h (inl s) = sound.whole calls bs bs [] p (sym (append-nil bs)) h s
   whole_or calls p h (inr (others, xs, rest, e, g, pe, some)) =
       let r = sound.apart calls others bs xs [] rest h g (append-nil bs ∙ e) in
       omega (arith, some, ap length r.1)
 
-  bad_once : (p q : ℕ) → (F.stops bs p ⊎ IsFollowed c bs p) → (F.stops bs q ⊎ IsFollowed c bs q) → p ≡ q
+  bad_once : (p q : ℕ) → (F.stops bs p ⊎ IsRecordingFollowed c bs p) → (F.stops bs q ⊎ IsRecordingFollowed c bs q) → p ≡ q
   bad_once p q (inl s) (inl t) = sound.once bs p q s t
   bad_once p q (inl s) (inr (calls, xs, rest, e, g, qe, some)) = absurd (sound.whole calls bs xs rest p e g s)
   bad_once p q (inr (calls, xs, rest, e, g, pe, some)) (inl t) = absurd (sound.whole calls bs xs rest q e g t)

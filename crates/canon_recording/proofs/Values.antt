@@ -19,9 +19,9 @@ use Rattle.canon_val.specs.Value.{HasTree}
 use Rattle.canon_val.specs.declared.val.Val.{Val}
 use Rattle.canon_image_parts.specs.Written.{IsTypeFault}
 use Rattle.canon_recording_parts.proofs.Formats.{before_sound, nothing_sound, sized_sound}
-use Rattle.canon_recording_parts.specs.Format.{Format, IsFormat, before, each}
-use Rattle.canon_recording.specs.Fits.{AreGiven, AreOf, IsValueOf}
-use Rattle.canon_recording.specs.Recordings.{Spells, value, values}
+use Rattle.canon_recording_parts.specs.Format.{Format, IsFormat, before, for_each}
+use Rattle.canon_recording.specs.Fits.{ArePlainValues, AreValuesOf, IsValueOf}
+use Rattle.canon_recording.specs.Recordings.{SpellsValue, value, values}
 
 -- ---- a value has one image
 
@@ -32,7 +32,7 @@ one_tree : (s : Shape) (v : Val) (t u : Tree) → HasTree s v t → HasTree s v 
 one_tree s v t u h g =
     only_one t u (trees_one (member [] s no_members) (v ∷ []) (tree t no_trees) (tree u no_trees) (v, [], t, no_trees, refl, refl, h, (refl, refl)) (v, [], u, no_trees, refl, refl, g, (refl, refl)))
 
-pub spelled_once : (s : Shape) (v : Val) (xs ys : List ℕ) → Spells false s v xs → Spells false s v ys → xs ≡ ys
+pub spelled_once : (s : Shape) (v : Val) (xs ys : List ℕ) → SpellsValue false s v xs → SpellsValue false s v ys → xs ≡ ys
 spelled_once s v xs ys (t, h, is) (u, g, is2) = image_bytes s t u xs ys is is2 (one_tree s v t u h g)
 
 -- ---- a value of the type has no fault
@@ -57,12 +57,12 @@ no_fault s v e told blames (t, has) =
 abbrev pub typed : Bool → TypeTable → InterfaceType → Format Val
 typed lifted t ty = value lifted (shape_of t ty)
 
-pub values_each : (lifted : Bool) (t : TypeTable) (tys : List InterfaceType) → each (typed lifted t) tys ≡ values lifted (members_of t tys)
+pub values_each : (lifted : Bool) (t : TypeTable) (tys : List InterfaceType) → for_each (typed lifted t) tys ≡ values lifted (members_of t tys)
 values_each lifted t [] = refl
 values_each lifted t (ty ∷ tys) = ap (before (value lifted (shape_of t ty))) (values_each lifted t tys)
 
 pub value_sound : (s : Shape) → IsFormat (value false s)
-value_sound s = sized_sound (Spells false s) (spelled_once s) 8
+value_sound s = sized_sound (SpellsValue false s) (spelled_once s) 8
 
 pub typed_sound : (t : TypeTable) (ty : InterfaceType) → IsFormat (typed false t ty)
 typed_sound t ty = value_sound (shape_of t ty)
@@ -77,7 +77,7 @@ pub record IsGivenAt (t : TypeTable) (ty : InterfaceType) (v : Val) : Type 0 whe
   pub no_handle : HasNoHandle (shape_of t ty)
   pub of : IsValueOf (shape_of t ty) v
 
-pub given_count : (t : TypeTable) (tys : List InterfaceType) (vs : List Val) → AreOf (members_of t tys) vs → length vs ≡ length tys
+pub given_count : (t : TypeTable) (tys : List InterfaceType) (vs : List Val) → AreValuesOf (members_of t tys) vs → length vs ≡ length tys
 given_count t [] vs (ts, (e, f)) = ap length e
 given_count t (ty ∷ tys) vs (ts, (v, others, u, us, e, f, h, g)) = ap length e ∙ ap suc (given_count t tys others (us, g))
 
@@ -93,7 +93,7 @@ and_right false b h = absurd (omega_no h)
     omega_no e = cc
 
 pub given_at : (t : TypeTable) (tys : List InterfaceType) (vs : List Val) (k : ℕ) (ty : InterfaceType) (v : Val) → k < length tys → slice_index_or tys k ty ≡ ty → slice_index_or vs k v ≡ v
-    → All (Knows t) tys → AreGiven (members_of t tys) vs → IsGivenAt t ty v
+    → All (Knows t) tys → ArePlainValues (members_of t tys) vs → IsGivenAt t ty v
 given_at t [] vs k ty v more te ve known given = absurd (omega (arith, more))
 given_at t (x ∷ tys) vs zero ty v more te ve known given =
     let (ts, (w, others, u, us, e, f, h, g)) = given.are in

@@ -23,20 +23,20 @@ IsEncoded c calls (Err error.OutOfMemory) = ⊤
 IsEncoded c calls (Err _) = ⊥
 
 -- the first p bytes are a recording, and more follow
-abbrev pub IsFollowed : Component → List ℕ → ℕ → Type 0
-IsFollowed c bs p = (calls : List RecordedCall) × (xs rest : List ℕ) × (bs ≡ xs ++ rest) × (read_recording c).writes calls xs × (p ≡ length xs) × (0 < length rest)
+abbrev pub IsRecordingFollowed : Component → List ℕ → ℕ → Type 0
+IsRecordingFollowed c bs p = (calls : List RecordedCall) × (xs rest : List ℕ) × (bs ≡ xs ++ rest) × (read_recording c).writes calls xs × (p ≡ length xs) × (0 < length rest)
 
 -- reading all of these bytes gives these calls, or stops
 abbrev pub IsReadWhole : Component → List ℕ → Result (List RecordedCall) ReplayError → Type 0
 IsReadWhole c bs (Ok calls) = (read_recording c).writes calls bs
-IsReadWhole c bs (Err (error.BadRecording p)) = (read_recording c).stops bs p ⊎ IsFollowed c bs p
+IsReadWhole c bs (Err (error.BadRecording p)) = (read_recording c).stops bs p ⊎ IsRecordingFollowed c bs p
 IsReadWhole c bs (Err error.OutOfMemory) = ⊤
 IsReadWhole c bs (Err _) = ⊥
 
 -- `decode` of these bytes answers so
 abbrev pub IsDecoded : Component → List ℕ → Result Recording ReplayError → Type 0
 IsDecoded c bs (Ok r) = (read_recording c).writes (calls_in r) bs × AreRuns c 0 (calls_in r)
-IsDecoded c bs (Err (error.BadRecording p)) = (read_recording c).stops bs p ⊎ IsFollowed c bs p
+IsDecoded c bs (Err (error.BadRecording p)) = (read_recording c).stops bs p ⊎ IsRecordingFollowed c bs p
 IsDecoded c bs (Err (error.NotARun k)) = (calls : List RecordedCall) × (read_recording c).writes calls bs × IsNoRunAt c 0 calls k
 IsDecoded c bs (Err error.OutOfMemory) = ⊤
 IsDecoded c bs (Err error.TooLong) = ⊥

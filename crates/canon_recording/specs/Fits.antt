@@ -30,33 +30,33 @@ pub record IsRecordable (c : Component) : Type 0 where
 -- ---- recordings
 
 -- the values are of these types
-abbrev pub AreOf : Members → List Val → Type 0
-AreOf ms vs = (ts : Trees) × HaveTrees ms vs ts
+abbrev pub AreValuesOf : Members → List Val → Type 0
+AreValuesOf ms vs = (ts : Trees) × HaveTrees ms vs ts
 
 -- a value is of the type
 abbrev pub IsValueOf : Shape → Val → Type 0
 IsValueOf s v = (t : Tree) × HasTree s v t
 
 -- they are, and the types reach no handle
-pub record AreGiven (ms : Members) (vs : List Val) : Type 0 where
+pub record ArePlainValues (ms : Members) (vs : List Val) : Type 0 where
   pub no_handle : HaveNoHandle ms
-  pub are : AreOf ms vs
+  pub are : AreValuesOf ms vs
 
 -- the number is that of one of the functions, and the values are of its types
-pub record IsOf (functions : Functions) (n : ℕ) (given answered : List Val) : Type 0 where
+pub record IsOfFunction (functions : Functions) (n : ℕ) (given answered : List Val) : Type 0 where
   pub known : n < functions.count
-  pub params : AreOf (functions.params n) given
-  pub results : AreOf (functions.results n) answered
+  pub params : AreValuesOf (functions.params n) given
+  pub results : AreValuesOf (functions.results n) answered
 
-abbrev pub IsAskOf : Functions → ServedAsk → Type 0
-IsAskOf imports s = IsOf imports s.import s.params s.results
+abbrev pub IsServedAskOf : Functions → ServedAsk → Type 0
+IsServedAskOf imports s = IsOfFunction imports s.import s.params s.results
 
 -- the call is one of a component with these functions
-pub record IsCallOf (exports imports : Functions) (call : RecordedCall) : Type 0 where
-  pub its : IsOf exports call.export call.params call.results
+pub record IsRecordedCallOf (exports imports : Functions) (call : RecordedCall) : Type 0 where
+  pub its : IsOfFunction exports call.export call.params call.results
   pub few : length call.events < 2 ^ 32
   pub asks : All (IsWritten imports.count) call.events
-  pub served : All (IsAskOf imports) call.served
+  pub served : All (IsServedAskOf imports) call.served
 
 abbrev pub callee_of_call : Component → RecordedCall → Callee
 callee_of_call c call = callee_in c (slice_get c.exports.items call.export)
@@ -77,7 +77,7 @@ IsNoRunAt c len (call ∷ calls) zero = ¬ IsRunFrom c len call
 IsNoRunAt c len (call ∷ calls) (suc k) = IsRunFrom c len call × IsNoRunAt c (last_len len call.events) calls k
 
 -- the recording is one of the component
-pub record Fits (c : Component) (calls : List RecordedCall) : Type 0 where
+pub record FitsComponent (c : Component) (calls : List RecordedCall) : Type 0 where
   pub few : length calls < 2 ^ 32
-  pub are : All (IsCallOf (exports_of c) (imports_of c)) calls
+  pub are : All (IsRecordedCallOf (exports_of c) (imports_of c)) calls
   pub runs : AreRuns c 0 calls

@@ -12,7 +12,7 @@ use Rattle.canon_context.specs.declared.component.Import.TheVariants as import
 use Rattle.canon_val.specs.Value.{HasTreeAs}
 use Rattle.canon_val.specs.declared.val.Val.{Val}
 use Rattle.canon_func.specs.Stores.{callee_in, params_in, results_in}
-use Rattle.canon_recording_parts.specs.Format.{Format, also, as_, before, block, counted, exactly, nothing, then_}
+use Rattle.canon_recording_parts.specs.Format.{Format, also, as_, before, counted_row, empty_list, exactly, sized_field, then_}
 use Rattle.canon_recording_parts.specs.Events.{an_event}
 use Rattle.canon_recording.specs.declared.recording.Recorded.{Recorded}
 use Rattle.canon_recording.specs.declared.recording.Recording.{Recording}
@@ -79,8 +79,8 @@ imports_of c = record {
 -- ---- values
 
 -- The bytes are the image of the value. Where it was lifted its flags are named in their type's order, each once, else in any order.
-abbrev pub Spells : Bool → Shape → Val → List ℕ → Type 0
-Spells lifted s v bs = (t : Tree) × HasTreeAs lifted s v t × Image s t bs
+abbrev pub SpellsValue : Bool → Shape → Val → List ℕ → Type 0
+SpellsValue lifted s v bs = (t : Tree) × HasTreeAs lifted s v t × Image s t bs
 
 abbrev pub letters : List ℕ
 letters = codes "CNR1"
@@ -88,40 +88,40 @@ letters = codes "CNR1"
 module _ (lifted : Bool) where
   -- an image behind its length, as one field
   abbrev pub value : Shape → Format Val
-  value s = then_ 8 (λ n. ⊤) (λ n. block (Spells lifted s) n)
+  value s = then_ 8 (λ n. ⊤) (λ n. sized_field (SpellsValue lifted s) n)
 
   abbrev pub values : Members → Format (List Val)
-  values no_members = nothing
+  values no_members = empty_list
   values (member name s ms) = before (value s) (values ms)
 
   -- ---- calls
 
-  abbrev pub ask_of : ℕ → List Val × List Val → ServedAsk
-  ask_of n x = record { import = n; params = x.0; results = x.1 }
+  abbrev pub served_ask_of : ℕ → List Val × List Val → ServedAsk
+  served_ask_of n x = record { import = n; params = x.0; results = x.1 }
 
-  abbrev pub call_of : ℕ → (List Val × List Val) × (List Event × List ServedAsk) → RecordedCall
-  call_of n x = record { export = n; params = x.0.0; results = x.0.1; events = x.1.0; served = x.1.1 }
+  abbrev pub recorded_call_of : ℕ → (List Val × List Val) × (List Event × List ServedAsk) → RecordedCall
+  recorded_call_of n x = record { export = n; params = x.0.0; results = x.0.1; events = x.1.0; served = x.1.1 }
 
   -- the parameters and the results of a function
-  abbrev pub passed : Functions → ℕ → Format (List Val × List Val)
-  passed functions n = also (values (functions.params n)) (values (functions.results n))
+  abbrev pub passed_values : Functions → ℕ → Format (List Val × List Val)
+  passed_values functions n = also (values (functions.params n)) (values (functions.results n))
 
   module _ (exports imports : Functions) where
     -- an ask of an import that there is
     abbrev pub an_ask : Format ServedAsk
-    an_ask = then_ 4 (λ n. n < imports.count) (λ n. as_ (ask_of n) (passed imports n))
+    an_ask = then_ 4 (λ n. n < imports.count) (λ n. as_ (served_ask_of n) (passed_values imports n))
 
     -- a guest's events, and which asks were served
     abbrev pub what_was_done : Format (List Event × List ServedAsk)
-    what_was_done = also (counted 4 (an_event imports.count)) (counted 4 an_ask)
+    what_was_done = also (counted_row 4 (an_event imports.count)) (counted_row 4 an_ask)
 
     -- a call of an export that there is
     abbrev pub a_call : Format RecordedCall
-    a_call = then_ 4 (λ n. n < exports.count) (λ n. as_ (call_of n) (also (passed exports n) what_was_done))
+    a_call = then_ 4 (λ n. n < exports.count) (λ n. as_ (recorded_call_of n) (also (passed_values exports n) what_was_done))
 
     -- the letters CNR1, how many calls there are, and they
     abbrev pub recording_format : Format (List RecordedCall)
-    recording_format = as_ (λ x. x.1) (also (exactly letters) (counted 4 a_call))
+    recording_format = as_ (λ x. x.1) (also (exactly letters) (counted_row 4 a_call))
 
 -- what two vectors of values hold; and what events and asks
 abbrev pub passed_in : Vec Val Global × Vec Val Global → List Val × List Val

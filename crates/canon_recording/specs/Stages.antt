@@ -24,12 +24,12 @@ pub record IsServedOn (post : Option ℕ) (events : List Event) : Type 0 where
   pub runs : RunsOn post rest
 
 -- of a run of this function and this post-return, where these words were returned last
-abbrev pub IsLeft : ℕ → Option ℕ → Stage → List ℕ → List Event → Type 0
-IsLeft func post stage.Before returned events = IsOneRun func post events
-IsLeft func post stage.Runs returned events = RunsOn post events
-IsLeft func post stage.Asks returned events = IsServedOn post events
-IsLeft func post stage.Returned returned events = events ≡ posts post returned
-IsLeft func post stage.Ended returned events = events ≡ []
+abbrev pub IsLeftOfRun : ℕ → Option ℕ → Stage → List ℕ → List Event → Type 0
+IsLeftOfRun func post stage.Before returned events = IsOneRun func post events
+IsLeftOfRun func post stage.Runs returned events = RunsOn post events
+IsLeftOfRun func post stage.Asks returned events = IsServedOn post events
+IsLeftOfRun func post stage.Returned returned events = events ≡ posts post returned
+IsLeftOfRun func post stage.Ended returned events = events ≡ []
 
 -- the stage to which an event leads, if any: while blocks are asked for, while the guest runs, and after it asked for an import
 abbrev pub after_before : ℕ → Event → Option Stage
@@ -59,8 +59,8 @@ returned_after returned _ = returned
 
 -- The event leads from a stage to this one, or to none.
 abbrev pub LeadsTo : ℕ → Option ℕ → Stage → List ℕ → Event → Option Stage → Type 0
-LeadsTo func post s returned e None = (events : List Event) → ¬ IsLeft func post s returned (e ∷ events)
-LeadsTo func post s returned e (Some next) = (events : List Event) → IsLeft func post s returned (e ∷ events) ↔ IsLeft func post next (returned_after returned e) events
+LeadsTo func post s returned e None = (events : List Event) → ¬ IsLeftOfRun func post s returned (e ∷ events)
+LeadsTo func post s returned e (Some next) = (events : List Event) → IsLeftOfRun func post s returned (e ∷ events) ↔ IsLeftOfRun func post next (returned_after returned e) events
 
 -- the length of the memory that the event tells, or of memory before it
 abbrev pub len_in : Event → ℕ → ℕ

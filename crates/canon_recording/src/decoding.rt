@@ -4,11 +4,11 @@ ghost use Rattle.std.specs.Prelude.{◌<◌, ◌≡◌, ◌≤◌, ◌++◌, ◌
 ghost use Rattle.canon_context.specs.Component.{IsComponent};
 ghost use Rattle.canon_types.specs.Table.{HasTuple, IsOver, Knows, members_of, param_members, result_members, shape_of, tuple_members};
 ghost use Rattle.canon_plan.specs.NoHandle.{HasNoHandle, HaveNoHandle};
-ghost use Rattle.canon_recording_parts.specs.Format.{also, counted, exactly, row};
-ghost use Rattle.canon_recording_parts.specs.Read.{ReadsTo, seen_as};
+ghost use Rattle.canon_recording_parts.specs.Format.{also, counted_row, exactly, in_a_row};
+ghost use Rattle.canon_recording_parts.specs.Read.{ReadsFormat, seen_as};
 ghost use Rattle.canon_recording.specs.Coded.{IsDecoded, IsOnlyDecoding, IsReadWhole, told_as};
 ghost use Rattle.canon_recording.specs.Fits.{IsRecordable};
-ghost use Rattle.canon_recording.specs.Recordings.{a_call, an_ask, exports_of, imports_of, letters, passed, passed_in, read_recording, recorded_call, recorded_calls, served_ask, served_asks, value, values, what_was_done, done_in};
+ghost use Rattle.canon_recording.specs.Recordings.{a_call, an_ask, done_in, exports_of, imports_of, letters, passed_in, passed_values, read_recording, recorded_call, recorded_calls, served_ask, served_asks, value, values, what_was_done};
 
 use crate::functions::{export_count, export_type, import_count, import_type};
 use crate::runs::first_no_run;
@@ -76,7 +76,7 @@ fn read_recording(
     requires sound { IsComponent c.now }
     requires recordable { IsRecordable c.now }
     requires inside { at.old ≤ length bytes.now }
-    ensures reads { ReadsTo (read_recording c.now) bytes.now at.old at.new (seen_as (λ calls. recorded_calls calls.items) result) }
+    ensures reads { ReadsFormat (read_recording c.now) bytes.now at.old at.new (seen_as (λ calls. recorded_calls calls.items) result) }
 {
     match read_letters(bytes, at) {
         Ok(()) => read_calls(alloc, c, bytes, at),
@@ -87,7 +87,7 @@ fn read_recording(
 /// The letters CNR1.
 fn read_letters(bytes: &[u8], at: &mut u64) -> Result<(), ReplayError>
     requires inside { at.old ≤ length bytes.now }
-    ensures reads { ReadsTo (exactly letters) bytes.now at.old at.new result }
+    ensures reads { ReadsFormat (exactly letters) bytes.now at.old at.new result }
 {
     let letters = 0x3152_4E43; // the lowest byte first
     let start = *at;
@@ -113,7 +113,7 @@ fn read_calls(
     requires sound { IsComponent c.now }
     requires recordable { IsRecordable c.now }
     requires inside { at.old ≤ length bytes.now }
-    ensures reads { ReadsTo (counted 4 (a_call true (exports_of c.now) (imports_of c.now))) bytes.now at.old at.new (seen_as (λ calls. recorded_calls calls.items) result) }
+    ensures reads { ReadsFormat (counted_row 4 (a_call true (exports_of c.now) (imports_of c.now))) bytes.now at.old at.new (seen_as (λ calls. recorded_calls calls.items) result) }
 {
     match read_u32(bytes, at) {
         Ok(count) => read_call_row(alloc, c, bytes, at, count),
@@ -131,7 +131,7 @@ fn read_call_row(
     requires sound { IsComponent c.now }
     requires recordable { IsRecordable c.now }
     requires inside { at.old ≤ length bytes.now }
-    ensures reads { ReadsTo (row (a_call true (exports_of c.now) (imports_of c.now)) count) bytes.now at.old at.new (seen_as (λ calls. recorded_calls calls.items) result) }
+    ensures reads { ReadsFormat (in_a_row (a_call true (exports_of c.now) (imports_of c.now)) count) bytes.now at.old at.new (seen_as (λ calls. recorded_calls calls.items) result) }
 {
     let mut calls = Vec::new(alloc);
     for _ in 0..count {
@@ -156,7 +156,7 @@ fn read_call(
     requires sound { IsComponent c.now }
     requires recordable { IsRecordable c.now }
     requires inside { at.old ≤ length bytes.now }
-    ensures reads { ReadsTo (a_call true (exports_of c.now) (imports_of c.now)) bytes.now at.old at.new (seen_as recorded_call result) }
+    ensures reads { ReadsFormat (a_call true (exports_of c.now) (imports_of c.now)) bytes.now at.old at.new (seen_as recorded_call result) }
 {
     match read_below(bytes, at, export_count(c)) {
         Ok(export) => match read_known_call(alloc, c, export, bytes, at) {
@@ -185,7 +185,7 @@ fn read_known_call(
     requires recordable { IsRecordable c.now }
     requires known { export < length c.now.exports.items }
     requires inside { at.old ≤ length bytes.now }
-    ensures reads { ReadsTo (also (passed true (exports_of c.now) export) (what_was_done true (exports_of c.now) (imports_of c.now))) bytes.now at.old at.new
+    ensures reads { ReadsFormat (also (passed_values true (exports_of c.now) export) (what_was_done true (exports_of c.now) (imports_of c.now))) bytes.now at.old at.new
         (seen_as (λ x. (passed_in x.0, done_in x.1)) result) }
 {
     match read_export(alloc, c, export, bytes, at) {
@@ -207,7 +207,7 @@ fn read_done(
     requires sound { IsComponent c.now }
     requires recordable { IsRecordable c.now }
     requires inside { at.old ≤ length bytes.now }
-    ensures reads { ReadsTo (what_was_done true (exports_of c.now) (imports_of c.now)) bytes.now at.old at.new (seen_as done_in result) }
+    ensures reads { ReadsFormat (what_was_done true (exports_of c.now) (imports_of c.now)) bytes.now at.old at.new (seen_as done_in result) }
 {
     match read_events(alloc, bytes, at, import_count(c)) {
         Ok(events) => match read_asks(alloc, c, bytes, at) {
@@ -228,7 +228,7 @@ fn read_asks(
     requires sound { IsComponent c.now }
     requires recordable { IsRecordable c.now }
     requires inside { at.old ≤ length bytes.now }
-    ensures reads { ReadsTo (counted 4 (an_ask true (exports_of c.now) (imports_of c.now))) bytes.now at.old at.new (seen_as (λ asks. served_asks asks.items) result) }
+    ensures reads { ReadsFormat (counted_row 4 (an_ask true (exports_of c.now) (imports_of c.now))) bytes.now at.old at.new (seen_as (λ asks. served_asks asks.items) result) }
 {
     match read_u32(bytes, at) {
         Ok(count) => read_ask_row(alloc, c, bytes, at, count),
@@ -246,7 +246,7 @@ fn read_ask_row(
     requires sound { IsComponent c.now }
     requires recordable { IsRecordable c.now }
     requires inside { at.old ≤ length bytes.now }
-    ensures reads { ReadsTo (row (an_ask true (exports_of c.now) (imports_of c.now)) count) bytes.now at.old at.new (seen_as (λ asks. served_asks asks.items) result) }
+    ensures reads { ReadsFormat (in_a_row (an_ask true (exports_of c.now) (imports_of c.now)) count) bytes.now at.old at.new (seen_as (λ asks. served_asks asks.items) result) }
 {
     let mut asks = Vec::new(alloc);
     for _ in 0..count {
@@ -266,7 +266,7 @@ fn read_ask(alloc: Global, c: &Component, bytes: &[u8], at: &mut u64) -> Result<
     requires sound { IsComponent c.now }
     requires recordable { IsRecordable c.now }
     requires inside { at.old ≤ length bytes.now }
-    ensures reads { ReadsTo (an_ask true (exports_of c.now) (imports_of c.now)) bytes.now at.old at.new (seen_as served_ask result) }
+    ensures reads { ReadsFormat (an_ask true (exports_of c.now) (imports_of c.now)) bytes.now at.old at.new (seen_as served_ask result) }
 {
     match read_below(bytes, at, import_count(c)) {
         Ok(import) => match read_import(alloc, c, import, bytes, at) {
@@ -293,7 +293,7 @@ fn read_export(
     requires recordable { IsRecordable c.now }
     requires known { export < length c.now.exports.items }
     requires inside { at.old ≤ length bytes.now }
-    ensures reads { ReadsTo (passed true (exports_of c.now) export) bytes.now at.old at.new (seen_as passed_in result) }
+    ensures reads { ReadsFormat (passed_values true (exports_of c.now) export) bytes.now at.old at.new (seen_as passed_in result) }
 {
     let func = export_type(c, export);
     read_passed(alloc, c, func, bytes, at)
@@ -311,7 +311,7 @@ fn read_import(
     requires recordable { IsRecordable c.now }
     requires known { import < length c.now.imports.items }
     requires inside { at.old ≤ length bytes.now }
-    ensures reads { ReadsTo (passed true (imports_of c.now) import) bytes.now at.old at.new (seen_as passed_in result) }
+    ensures reads { ReadsFormat (passed_values true (imports_of c.now) import) bytes.now at.old at.new (seen_as passed_in result) }
 {
     let func = import_type(c, import);
     read_passed(alloc, c, func, bytes, at)
@@ -329,7 +329,7 @@ fn read_passed(
     requires params { HaveNoHandle (param_members c.now.types.types func) }
     requires results { HaveNoHandle (result_members c.now.types.types func) }
     requires inside { at.old ≤ length bytes.now }
-    ensures reads { ReadsTo (also (values true (param_members c.now.types.types func)) (values true (result_members c.now.types.types func))) bytes.now at.old at.new (seen_as passed_in result) }
+    ensures reads { ReadsFormat (also (values true (param_members c.now.types.types func)) (values true (result_members c.now.types.types func))) bytes.now at.old at.new (seen_as passed_in result) }
 {
     match read_tuple(alloc, c, func.params, bytes, at) {
         Ok(params) => match read_tuple(alloc, c, func.results, bytes, at) {
@@ -351,7 +351,7 @@ fn read_tuple(
     requires tuple { HasTuple c.now.types.types tuple }
     requires no_handle { HaveNoHandle (tuple_members c.now.types.types tuple) }
     requires inside { at.old ≤ length bytes.now }
-    ensures reads { ReadsTo (values true (tuple_members c.now.types.types tuple)) bytes.now at.old at.new (seen_as (λ vals. vals.items) result) }
+    ensures reads { ReadsFormat (values true (tuple_members c.now.types.types tuple)) bytes.now at.old at.new (seen_as (λ vals. vals.items) result) }
 {
     let types = c.types.types();
     let tys = types.tuple(tuple).types.as_slice();
@@ -368,7 +368,7 @@ fn read_values(
     requires known { All (Knows types.now) tys.now }
     requires no_handle { HaveNoHandle (members_of types.now tys.now) }
     requires inside { at.old ≤ length bytes.now }
-    ensures reads { ReadsTo (values true (members_of types.now tys.now)) bytes.now at.old at.new (seen_as (λ vals. vals.items) result) }
+    ensures reads { ReadsFormat (values true (members_of types.now tys.now)) bytes.now at.old at.new (seen_as (λ vals. vals.items) result) }
 {
     let mut vals = Vec::new(alloc);
     for ty in tys {
@@ -394,7 +394,7 @@ fn read_value(
     requires known { Knows types.now ty.now }
     requires no_handle { HasNoHandle (shape_of types.now ty.now) }
     requires inside { at.old ≤ length bytes.now }
-    ensures reads { ReadsTo (value true (shape_of types.now ty.now)) bytes.now at.old at.new result }
+    ensures reads { ReadsFormat (value true (shape_of types.now ty.now)) bytes.now at.old at.new result }
 {
     match read_bytes(bytes, at) {
         Ok(image) => match read_image(alloc, types, ty, image) {

@@ -3,12 +3,12 @@
 ghost use Rattle.std.specs.Prelude.{◌≡◌, All, false, length};
 ghost use Rattle.canon_context.specs.Component.{IsComponent};
 ghost use Rattle.canon_types.specs.Table.{HasTuple, IsOver, Knows, members_of, param_members, result_members, shape_of, tuple_members};
-ghost use Rattle.canon_plan.specs.NoHandle.{HaveNoHandle, HasNoHandle};
-ghost use Rattle.canon_recording_parts.specs.Format.{also, counted, row};
-ghost use Rattle.canon_recording_parts.specs.Written.{WritesTo};
+ghost use Rattle.canon_plan.specs.NoHandle.{HasNoHandle, HaveNoHandle};
+ghost use Rattle.canon_recording_parts.specs.Format.{also, counted_row, in_a_row};
+ghost use Rattle.canon_recording_parts.specs.Written.{WritesFormat};
 ghost use Rattle.canon_recording.specs.Coded.{IsEncoded};
-ghost use Rattle.canon_recording.specs.Fits.{AreGiven, Fits, IsAskOf, IsCallOf, IsOf, IsRecordable, IsValueOf};
-ghost use Rattle.canon_recording.specs.Recordings.{a_call, an_ask, calls_in, exports_of, imports_of, passed, recorded_call, recorded_calls, recording, served_ask, served_asks, value, values, what_was_done};
+ghost use Rattle.canon_recording.specs.Fits.{ArePlainValues, FitsComponent, IsOfFunction, IsRecordable, IsRecordedCallOf, IsServedAskOf, IsValueOf};
+ghost use Rattle.canon_recording.specs.Recordings.{a_call, an_ask, calls_in, exports_of, imports_of, passed_values, recorded_call, recorded_calls, recording, served_ask, served_asks, value, values, what_was_done};
 
 use crate::functions::{export_type, import_count, import_type};
 use crate::{Recorded, Recording, ReplayError, Served};
@@ -23,7 +23,7 @@ use std::alloc::Global;
 pub fn encode(alloc: Global, c: &Component, r: &Recording) -> Result<Vec<u8>, ReplayError>
     requires sound { IsComponent c.now }
     requires recordable { IsRecordable c.now }
-    requires fits { Fits c.now (calls_in r.now) }
+    requires fits { FitsComponent c.now (calls_in r.now) }
     ensures is { IsEncoded c.now (calls_in r.now) result }
 {
     let mut bytes = Vec::new(alloc);
@@ -41,8 +41,8 @@ fn put_recording(
 ) -> Result<(), ReplayError>
     requires sound { IsComponent c.now }
     requires recordable { IsRecordable c.now }
-    requires are { All (IsCallOf (exports_of c.now) (imports_of c.now)) (recorded_calls calls.now) }
-    ensures writes { WritesTo (recording c.now) (recorded_calls calls.now) bytes.old.items bytes.new.items result }
+    requires are { All (IsRecordedCallOf (exports_of c.now) (imports_of c.now)) (recorded_calls calls.now) }
+    ensures writes { WritesFormat (recording c.now) (recorded_calls calls.now) bytes.old.items bytes.new.items result }
 {
     match append(bytes, b"CNR1") {
         Ok(()) => put_calls(alloc, c, calls, bytes),
@@ -59,8 +59,8 @@ fn put_calls(
 ) -> Result<(), ReplayError>
     requires sound { IsComponent c.now }
     requires recordable { IsRecordable c.now }
-    requires are { All (IsCallOf (exports_of c.now) (imports_of c.now)) (recorded_calls calls.now) }
-    ensures writes { WritesTo (counted 4 (a_call false (exports_of c.now) (imports_of c.now))) (recorded_calls calls.now) bytes.old.items bytes.new.items result }
+    requires are { All (IsRecordedCallOf (exports_of c.now) (imports_of c.now)) (recorded_calls calls.now) }
+    ensures writes { WritesFormat (counted_row 4 (a_call false (exports_of c.now) (imports_of c.now))) (recorded_calls calls.now) bytes.old.items bytes.new.items result }
 {
     match put_count(bytes, calls.len()) {
         Ok(()) => put_call_row(alloc, c, calls, bytes),
@@ -76,8 +76,8 @@ fn put_call_row(
 ) -> Result<(), ReplayError>
     requires sound { IsComponent c.now }
     requires recordable { IsRecordable c.now }
-    requires are { All (IsCallOf (exports_of c.now) (imports_of c.now)) (recorded_calls calls.now) }
-    ensures writes { WritesTo (row (a_call false (exports_of c.now) (imports_of c.now)) (length calls.now)) (recorded_calls calls.now) bytes.old.items bytes.new.items result }
+    requires are { All (IsRecordedCallOf (exports_of c.now) (imports_of c.now)) (recorded_calls calls.now) }
+    ensures writes { WritesFormat (in_a_row (a_call false (exports_of c.now) (imports_of c.now)) (length calls.now)) (recorded_calls calls.now) bytes.old.items bytes.new.items result }
 {
     for call in calls {
         match put_call(alloc, c, call, bytes) {
@@ -97,8 +97,8 @@ fn put_call(
 ) -> Result<(), ReplayError>
     requires sound { IsComponent c.now }
     requires recordable { IsRecordable c.now }
-    requires of { IsCallOf (exports_of c.now) (imports_of c.now) (recorded_call call.now) }
-    ensures writes { WritesTo (a_call false (exports_of c.now) (imports_of c.now)) (recorded_call call.now) bytes.old.items bytes.new.items result }
+    requires of { IsRecordedCallOf (exports_of c.now) (imports_of c.now) (recorded_call call.now) }
+    ensures writes { WritesFormat (a_call false (exports_of c.now) (imports_of c.now)) (recorded_call call.now) bytes.old.items bytes.new.items result }
 {
     match put_u32(bytes, call.export) {
         Ok(()) => put_known_call(alloc, c, call, bytes),
@@ -115,8 +115,8 @@ fn put_known_call(
 ) -> Result<(), ReplayError>
     requires sound { IsComponent c.now }
     requires recordable { IsRecordable c.now }
-    requires of { IsCallOf (exports_of c.now) (imports_of c.now) (recorded_call call.now) }
-    ensures writes { WritesTo (also (passed false (exports_of c.now) call.now.export) (what_was_done false (exports_of c.now) (imports_of c.now)))
+    requires of { IsRecordedCallOf (exports_of c.now) (imports_of c.now) (recorded_call call.now) }
+    ensures writes { WritesFormat (also (passed_values false (exports_of c.now) call.now.export) (what_was_done false (exports_of c.now) (imports_of c.now)))
         ((call.now.params.items, call.now.results.items), (call.now.events, served_asks call.now.served.items)) bytes.old.items bytes.new.items result }
 {
     match put_export(
@@ -141,8 +141,8 @@ fn put_done(
 ) -> Result<(), ReplayError>
     requires sound { IsComponent c.now }
     requires recordable { IsRecordable c.now }
-    requires of { IsCallOf (exports_of c.now) (imports_of c.now) (recorded_call call.now) }
-    ensures writes { WritesTo (what_was_done false (exports_of c.now) (imports_of c.now)) (call.now.events, served_asks call.now.served.items) bytes.old.items bytes.new.items result }
+    requires of { IsRecordedCallOf (exports_of c.now) (imports_of c.now) (recorded_call call.now) }
+    ensures writes { WritesFormat (what_was_done false (exports_of c.now) (imports_of c.now)) (call.now.events, served_asks call.now.served.items) bytes.old.items bytes.new.items result }
 {
     match put_events(bytes, call.events.as_slice(), import_count(c)) {
         Ok(()) => put_asks(alloc, c, call.served.as_slice(), bytes),
@@ -159,8 +159,8 @@ fn put_asks(
 ) -> Result<(), ReplayError>
     requires sound { IsComponent c.now }
     requires recordable { IsRecordable c.now }
-    requires of { All (IsAskOf (imports_of c.now)) (served_asks asks.now) }
-    ensures writes { WritesTo (counted 4 (an_ask false (exports_of c.now) (imports_of c.now))) (served_asks asks.now) bytes.old.items bytes.new.items result }
+    requires of { All (IsServedAskOf (imports_of c.now)) (served_asks asks.now) }
+    ensures writes { WritesFormat (counted_row 4 (an_ask false (exports_of c.now) (imports_of c.now))) (served_asks asks.now) bytes.old.items bytes.new.items result }
 {
     match put_count(bytes, asks.len()) {
         Ok(()) => put_ask_row(alloc, c, asks, bytes),
@@ -176,8 +176,8 @@ fn put_ask_row(
 ) -> Result<(), ReplayError>
     requires sound { IsComponent c.now }
     requires recordable { IsRecordable c.now }
-    requires of { All (IsAskOf (imports_of c.now)) (served_asks asks.now) }
-    ensures writes { WritesTo (row (an_ask false (exports_of c.now) (imports_of c.now)) (length asks.now)) (served_asks asks.now) bytes.old.items bytes.new.items result }
+    requires of { All (IsServedAskOf (imports_of c.now)) (served_asks asks.now) }
+    ensures writes { WritesFormat (in_a_row (an_ask false (exports_of c.now) (imports_of c.now)) (length asks.now)) (served_asks asks.now) bytes.old.items bytes.new.items result }
 {
     for ask in asks {
         match put_ask(alloc, c, ask, bytes) {
@@ -197,8 +197,8 @@ fn put_ask(
 ) -> Result<(), ReplayError>
     requires sound { IsComponent c.now }
     requires recordable { IsRecordable c.now }
-    requires of { IsAskOf (imports_of c.now) (served_ask ask.now) }
-    ensures writes { WritesTo (an_ask false (exports_of c.now) (imports_of c.now)) (served_ask ask.now) bytes.old.items bytes.new.items result }
+    requires of { IsServedAskOf (imports_of c.now) (served_ask ask.now) }
+    ensures writes { WritesFormat (an_ask false (exports_of c.now) (imports_of c.now)) (served_ask ask.now) bytes.old.items bytes.new.items result }
 {
     match put_u32(bytes, ask.import) {
         Ok(()) => put_import(
@@ -224,8 +224,8 @@ fn put_export(
 ) -> Result<(), ReplayError>
     requires sound { IsComponent c.now }
     requires recordable { IsRecordable c.now }
-    requires of { IsOf (exports_of c.now) export params.now results.now }
-    ensures writes { WritesTo (passed false (exports_of c.now) export) (params.now, results.now) bytes.old.items bytes.new.items result }
+    requires of { IsOfFunction (exports_of c.now) export params.now results.now }
+    ensures writes { WritesFormat (passed_values false (exports_of c.now) export) (params.now, results.now) bytes.old.items bytes.new.items result }
 {
     let func = export_type(c, export);
     put_passed(alloc, c, func, params, results, bytes)
@@ -242,8 +242,8 @@ fn put_import(
 ) -> Result<(), ReplayError>
     requires sound { IsComponent c.now }
     requires recordable { IsRecordable c.now }
-    requires of { IsOf (imports_of c.now) import params.now results.now }
-    ensures writes { WritesTo (passed false (imports_of c.now) import) (params.now, results.now) bytes.old.items bytes.new.items result }
+    requires of { IsOfFunction (imports_of c.now) import params.now results.now }
+    ensures writes { WritesFormat (passed_values false (imports_of c.now) import) (params.now, results.now) bytes.old.items bytes.new.items result }
 {
     let func = import_type(c, import);
     put_passed(alloc, c, func, params, results, bytes)
@@ -259,9 +259,9 @@ fn put_passed(
     bytes: &mut Vec<u8>,
 ) -> Result<(), ReplayError>
     requires over { IsOver c.now.types.types func }
-    requires params { AreGiven (param_members c.now.types.types func) params.now }
-    requires results { AreGiven (result_members c.now.types.types func) results.now }
-    ensures writes { WritesTo (also (values false (param_members c.now.types.types func)) (values false (result_members c.now.types.types func))) (params.now, results.now) bytes.old.items bytes.new.items result }
+    requires params { ArePlainValues (param_members c.now.types.types func) params.now }
+    requires results { ArePlainValues (result_members c.now.types.types func) results.now }
+    ensures writes { WritesFormat (also (values false (param_members c.now.types.types func)) (values false (result_members c.now.types.types func))) (params.now, results.now) bytes.old.items bytes.new.items result }
 {
     match put_tuple(alloc, c, func.params, params, bytes) {
         Ok(()) => put_tuple(alloc, c, func.results, results, bytes),
@@ -278,8 +278,8 @@ fn put_tuple(
     bytes: &mut Vec<u8>,
 ) -> Result<(), ReplayError>
     requires tuple { HasTuple c.now.types.types tuple }
-    requires given { AreGiven (tuple_members c.now.types.types tuple) vals.now }
-    ensures writes { WritesTo (values false (tuple_members c.now.types.types tuple)) vals.now bytes.old.items bytes.new.items result }
+    requires given { ArePlainValues (tuple_members c.now.types.types tuple) vals.now }
+    ensures writes { WritesFormat (values false (tuple_members c.now.types.types tuple)) vals.now bytes.old.items bytes.new.items result }
 {
     let types = c.types.types();
     let tys = types.tuple(tuple).types.as_slice();
@@ -295,8 +295,8 @@ fn put_values(
 ) -> Result<(), ReplayError>
     requires known { All (Knows types.now) tys.now }
     requires count { length vals.now ≡ length tys.now }
-    requires given { AreGiven (members_of types.now tys.now) vals.now }
-    ensures writes { WritesTo (values false (members_of types.now tys.now)) vals.now bytes.old.items bytes.new.items result }
+    requires given { ArePlainValues (members_of types.now tys.now) vals.now }
+    ensures writes { WritesFormat (values false (members_of types.now tys.now)) vals.now bytes.old.items bytes.new.items result }
 {
     for k in 0..tys.len() {
         match put_value(alloc, types, &tys[k], &vals[k], bytes) {
@@ -318,7 +318,7 @@ fn put_value(
     requires known { Knows types.now ty.now }
     requires no_handle { HasNoHandle (shape_of types.now ty.now) }
     requires of { IsValueOf (shape_of types.now ty.now) val.now }
-    ensures writes { WritesTo (value false (shape_of types.now ty.now)) val.now bytes.old.items bytes.new.items result }
+    ensures writes { WritesFormat (value false (shape_of types.now ty.now)) val.now bytes.old.items bytes.new.items result }
 {
     match image(alloc, types, ty, val) {
         Ok(image) => put_bytes(bytes, image.as_slice()),

@@ -3,7 +3,7 @@ use Rattle.std.proofs.Common.{List, [], append_assoc, ap, ap₂, arith, inl, inr
 use Rattle.std.specs.Prelude.{⊤}
 use Rattle.canon_model.specs.Image.{IsField, le_bytes}
 use Rattle.canon_recording_parts.proofs.Fields.{append_parts, field_front, field_length, field_once, field_then, length-join}
-use Rattle.canon_recording_parts.specs.Format.{Format, IsFormat, also, as_, before, block, counted, each, exactly, none, nothing, number, prepend, row, then_, times}
+use Rattle.canon_recording_parts.specs.Format.{Format, IsFormat, also, as_, before, counted_row, empty_list, exactly, for_each, in_a_row, none, number, prepend, sized_field, so_many, then_}
 
 -- ---- lists
 
@@ -111,11 +111,11 @@ module _ (k : ℕ) (Good : ℕ → Type 0) where
 
 -- bytes of which a thing is spelled in one way
 module _ {A : Type 0} (Spell : A → List ℕ → Type 0) (one : (a : A) (xs ys : List ℕ) → Spell a xs → Spell a ys → xs ≡ ys) where
-  block_whole : (n : ℕ) (a : A) (bs xs rest : List ℕ) (p : ℕ) → bs ≡ xs ++ rest → (block Spell n).writes a xs → ¬ (block Spell n).stops bs p
+  block_whole : (n : ℕ) (a : A) (bs xs rest : List ℕ) (p : ℕ) → bs ≡ xs ++ rest → (sized_field Spell n).writes a xs → ¬ (sized_field Spell n).stops bs p
   block_whole n a bs xs rest p e (l, h) (pe, inl s) = omega (arith, l, s, ap length e, length-join xs rest)
   block_whole n a bs xs rest p e (l, h) (pe, inr (ys, end, be, m, bad)) = bad a (subst (Spell a) (append_parts xs ys rest end (l ∙ sym m) (sym e ∙ be)).0 h)
 
-  pub block_sound : (n : ℕ) → IsFormat (block Spell n)
+  pub block_sound : (n : ℕ) → IsFormat (sized_field Spell n)
   block_sound n = record {
     apart = λ a b xs ys more rest h k e. append_parts xs ys more rest (h.0 ∙ sym k.0) e;
     whole = block_whole n;
@@ -123,12 +123,12 @@ module _ {A : Type 0} (Spell : A → List ℕ → Type 0) (one : (a : A) (xs ys 
     one_way = λ a xs ys h k. one a xs ys h.1 k.1;
   }
 
-  block_one : (n m : ℕ) (a : A) (xs ys : List ℕ) → (block Spell n).writes a xs → (block Spell m).writes a ys → n ≡ m
+  block_one : (n m : ℕ) (a : A) (xs ys : List ℕ) → (sized_field Spell n).writes a xs → (sized_field Spell m).writes a ys → n ≡ m
   block_one n m a xs ys h k = sym h.0 ∙ ap length (one a xs ys h.1 k.1) ∙ k.0
 
   -- behind their number
-  pub sized_sound : (k : ℕ) → IsFormat (then_ k (λ n. ⊤) (block Spell))
-  sized_sound k = then_sound k (λ n. ⊤) (block Spell) (λ n t. block_sound n) block_one
+  pub sized_sound : (k : ℕ) → IsFormat (then_ k (λ n. ⊤) (sized_field Spell))
+  sized_sound k = then_sound k (λ n. ⊤) (sized_field Spell) (λ n t. block_sound n) block_one
 
 pub exactly_sound : (letters : List ℕ) → IsFormat (exactly letters)
 exactly_sound letters = record {
@@ -141,7 +141,7 @@ exactly_sound letters = record {
 pub none_sound : {A : Type 0} → IsFormat (none {A = A})
 none_sound = record { apart = λ a b xs ys more rest h k e. absurd h; whole = λ a bs xs rest p e h s. h; once = λ bs p q s t. s ∙ sym t; one_way = λ a xs ys h k. absurd h }
 
-pub nothing_sound : {A : Type 0} → IsFormat (nothing {A = A})
+pub nothing_sound : {A : Type 0} → IsFormat (empty_list {A = A})
 nothing_sound = record {
   apart = λ a b xs ys more rest h k e. append_parts xs ys more rest (ap length (h.1 ∙ sym k.1)) e;
   whole = λ a bs xs rest p e h s. s;
@@ -160,21 +160,21 @@ prepend_one x y e =
 pub before_sound : {A : Type 0} (F : Format A) (G : Format (List A)) → IsFormat F → IsFormat G → IsFormat (before F G)
 before_sound {A} F G f g = as_sound (prepend {A = A}) (also F G) (also_sound F G f g) (prepend_one {A = A})
 
-pub each_sound : {I A : Type 0} (F : I → Format A) → ((i : I) → IsFormat (F i)) → (is : List I) → IsFormat (each F is)
+pub each_sound : {I A : Type 0} (F : I → Format A) → ((i : I) → IsFormat (F i)) → (is : List I) → IsFormat (for_each F is)
 each_sound F f [] = nothing_sound
-each_sound F f (i ∷ is) = before_sound (F i) (each F is) (f i) (each_sound F f is)
+each_sound F f (i ∷ is) = before_sound (F i) (for_each F is) (f i) (each_sound F f is)
 
-pub each_count : {I A : Type 0} (F : I → Format A) (is : List I) (things : List A) (bs : List ℕ) → (each F is).writes things bs → length things ≡ length is
+pub each_count : {I A : Type 0} (F : I → Format A) (is : List I) (things : List A) (bs : List ℕ) → (for_each F is).writes things bs → length things ≡ length is
 each_count F [] things bs (e, h) = ap length e
 each_count F (i ∷ is) things bs (x, e, (xs, ys, be, h, k)) = ap length e ∙ ap suc (each_count F is x.1 ys k)
 
-length-times : (n : ℕ) → length (times n) ≡ n
+length-times : (n : ℕ) → length (so_many n) ≡ n
 length-times zero = refl
 length-times (suc n) = ap suc (length-times n)
 
-pub row_count : {A : Type 0} (F : Format A) (n : ℕ) (things : List A) (bs : List ℕ) → (row F n).writes things bs → length things ≡ n
-row_count F n things bs h = each_count (λ (u : Unit {0}). F) (times n) things bs h ∙ length-times n
+pub row_count : {A : Type 0} (F : Format A) (n : ℕ) (things : List A) (bs : List ℕ) → (in_a_row F n).writes things bs → length things ≡ n
+row_count F n things bs h = each_count (λ (u : Unit {0}). F) (so_many n) things bs h ∙ length-times n
 
-pub counted_sound : {A : Type 0} (F : Format A) (k : ℕ) → IsFormat F → IsFormat (counted k F)
-counted_sound {A} F k f = then_sound k (λ n. ⊤) (row F) (λ n t. each_sound (λ (u : Unit {0}). F) (λ u. f) (times n))
+pub counted_sound : {A : Type 0} (F : Format A) (k : ℕ) → IsFormat F → IsFormat (counted_row k F)
+counted_sound {A} F k f = then_sound k (λ n. ⊤) (in_a_row F) (λ n t. each_sound (λ (u : Unit {0}). F) (λ u. f) (so_many n))
     (λ n m b xs ys h g. sym (row_count F n b xs h) ∙ row_count F m b ys g)

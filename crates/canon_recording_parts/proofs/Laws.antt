@@ -4,7 +4,7 @@ use Rattle.std.specs.Prelude.{⊤}
 use Rattle.canon_memory.specs.declared.event.Event.{Event}
 use Rattle.canon_memory.specs.declared.event.Event.TheVariants as event
 use Rattle.canon_recording_parts.proofs.Formats.{also_sound, as_sound, counted_sound, none_sound, number_sound, sized_sound, then_sound}
-use Rattle.canon_recording_parts.specs.Format.{IsFormat, also, any_number, counted, number}
+use Rattle.canon_recording_parts.specs.Format.{IsFormat, also, any_number, counted_row, number}
 use Rattle.canon_recording_parts.specs.Events.{IsWritten, an_event, ask_event, byte_list, post_event, realloc_event, request, resume_event, return_event, start_event, tag_of, tagged, two_numbers, word_list, words_and_memory}
 
 pub any_sound : (k : ℕ) → IsFormat (any_number k)
@@ -79,7 +79,7 @@ module _ (imports : ℕ) where
   pub event_sound : IsFormat (an_event imports)
   event_sound = then_sound 1 (λ n. n < 6) (tagged imports) (λ n h. tagged_sound n) (λ n m e xs ys h k. sym (tag_is n e xs h) ∙ tag_is m e ys k)
 
-  pub events_sound : (k : ℕ) → IsFormat (counted k (an_event imports))
+  pub events_sound : (k : ℕ) → IsFormat (counted_row k (an_event imports))
   events_sound k = counted_sound (an_event imports) k event_sound
 
 pub tag_small : (imports : ℕ) (e : Event) → IsWritten imports e → tag_of e < 6

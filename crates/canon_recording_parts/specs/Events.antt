@@ -2,15 +2,15 @@
 use Rattle.std.specs.Prelude.{List, suc, zero, ℕ, ⊤, ◌<◌, ◌≡◌}
 use Rattle.canon_memory.specs.declared.event.Event.{Event}
 use Rattle.canon_memory.specs.declared.event.Event.TheVariants as event
-use Rattle.canon_recording_parts.specs.Format.{Format, also, any_number, as_, block, counted, none, number, then_}
+use Rattle.canon_recording_parts.specs.Format.{Format, also, any_number, as_, counted_row, none, number, sized_field, then_}
 
 -- words by their number
 abbrev pub word_list : Format (List ℕ)
-word_list = counted 4 (any_number 8)
+word_list = counted_row 4 (any_number 8)
 
 -- so many bytes, which stand for themselves: one field
 abbrev pub raw : ℕ → Format (List ℕ)
-raw n = block (λ xs bs. bs ≡ xs) n
+raw n = sized_field (λ xs bs. bs ≡ xs) n
 
 -- bytes by their number
 abbrev pub byte_list : Format (List ℕ)

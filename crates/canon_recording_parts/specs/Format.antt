@@ -36,8 +36,8 @@ exactly xs = record {
 }
 
 -- so many bytes in one field, which spell a thing
-abbrev pub block : {A : Type 0} → (A → List ℕ → Type 0) → ℕ → Format A
-block {A} Spell n = record {
+abbrev pub sized_field : {A : Type 0} → (A → List ℕ → Type 0) → ℕ → Format A
+sized_field {A} Spell n = record {
   writes = λ a bs. (length bs ≡ n) × Spell a bs;
   stops = λ bs p. (p ≡ 0) × ((length bs < n) ⊎ ((xs : List ℕ) × (rest : List ℕ) × (bs ≡ xs ++ rest) × (length xs ≡ n) × ((a : A) → ¬ Spell a xs)));
 }
@@ -47,8 +47,8 @@ abbrev pub none : {A : Type 0} → Format A
 none = record { writes = λ a bs. ⊥; stops = λ bs p. p ≡ 0 }
 
 -- an empty list, in no bytes
-abbrev pub nothing : {A : Type 0} → Format (List A)
-nothing = record { writes = λ xs bs. (xs ≡ []) × (bs ≡ []); stops = λ bs p. ⊥ }
+abbrev pub empty_list : {A : Type 0} → Format (List A)
+empty_list = record { writes = λ xs bs. (xs ≡ []) × (bs ≡ []); stops = λ bs p. ⊥ }
 
 -- ---- one after another
 
@@ -79,17 +79,17 @@ abbrev pub before : {A : Type 0} → Format A → Format (List A) → Format (Li
 before F G = as_ prepend (also F G)
 
 -- for each of these one thing in its format, in a row
-abbrev pub each : {I A : Type 0} → (I → Format A) → List I → Format (List A)
-each F [] = nothing
-each F (i ∷ is) = before (F i) (each F is)
+abbrev pub for_each : {I A : Type 0} → (I → Format A) → List I → Format (List A)
+for_each F [] = empty_list
+for_each F (i ∷ is) = before (F i) (for_each F is)
 
 -- n of them in a row
-abbrev pub times : ℕ → List (Unit {0})
-times n = replicate n tt
+abbrev pub so_many : ℕ → List (Unit {0})
+so_many n = replicate n tt
 
-abbrev pub row : {A : Type 0} → Format A → ℕ → Format (List A)
-row F n = each (λ u. F) (times n)
+abbrev pub in_a_row : {A : Type 0} → Format A → ℕ → Format (List A)
+in_a_row F n = for_each (λ u. F) (so_many n)
 
 -- their number in k bytes, and they
-abbrev pub counted : {A : Type 0} → ℕ → Format A → Format (List A)
-counted k F = then_ k (λ n. ⊤) (row F)
+abbrev pub counted_row : {A : Type 0} → ℕ → Format A → Format (List A)
+counted_row k F = then_ k (λ n. ⊤) (in_a_row F)

@@ -5,22 +5,22 @@ use Rattle.canon_recording_parts.specs.declared.error.ReplayError.{ReplayError}
 use Rattle.canon_recording_parts.specs.declared.error.ReplayError.TheVariants as error
 
 -- these bytes xs stand from one place to another
-pub record Spans (bs : List ℕ) (from to : ℕ) (xs : List ℕ) : Type 0 where
+pub record StandBetween (bs : List ℕ) (from to : ℕ) (xs : List ℕ) : Type 0 where
   pub is : drop from bs ≡ xs ++ drop to bs
   pub to_is : to ≡ from + length xs
   pub inside : to ≤ length bs
 
 -- Reading from place `from` on gave a thing, whose bytes end at place `to`; or it stopped at the reported place; or memory was short.
-abbrev pub ReadsTo : {A : Type 0} → Format A → List ℕ → ℕ → ℕ → Result A ReplayError → Type 0
-ReadsTo F bs from to (Ok a) = (xs : List ℕ) × Spans bs from to xs × F.writes a xs
-ReadsTo F bs from to (Err (error.BadRecording p)) = (j : ℕ) × (p ≡ from + j) × F.stops (drop from bs) j
-ReadsTo F bs from to (Err error.OutOfMemory) = ⊤
-ReadsTo F bs from to (Err _) = ⊥
+abbrev pub ReadsFormat : {A : Type 0} → Format A → List ℕ → ℕ → ℕ → Result A ReplayError → Type 0
+ReadsFormat F bs from to (Ok a) = (xs : List ℕ) × StandBetween bs from to xs × F.writes a xs
+ReadsFormat F bs from to (Err (error.BadRecording p)) = (j : ℕ) × (p ≡ from + j) × F.stops (drop from bs) j
+ReadsFormat F bs from to (Err error.OutOfMemory) = ⊤
+ReadsFormat F bs from to (Err _) = ⊥
 
 -- these were read so far, each in its format
-pub record AreRead {A : Type 0} (F : Format (List A)) (bs : List ℕ) (from to : ℕ) (things : List A) : Type 0 where
+pub record IsReadSoFar {A : Type 0} (F : Format (List A)) (bs : List ℕ) (from to : ℕ) (things : List A) : Type 0 where
   pub xs : List ℕ
-  pub span : Spans bs from to xs
+  pub span : StandBetween bs from to xs
   pub are : F.writes things xs
 
 -- an answer, with what is said of the thing

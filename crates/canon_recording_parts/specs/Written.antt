@@ -12,8 +12,8 @@ pub record IsAdded {A : Type 0} (F : Format A) (a : A) (old new : List ℕ) : Ty
   pub few : length old ≤ 2 ^ 30 → length new ≤ 2 ^ 30
 
 -- It was; or with each way to write it there are too many bytes; or memory was short.
-abbrev pub WritesTo : {A : Type 0} → Format A → A → List ℕ → List ℕ → Result (Unit {0}) ReplayError → Type 0
-WritesTo F a old new (Ok done) = IsAdded F a old new
-WritesTo {A} F a old new (Err error.TooLong) = (xs : List ℕ) → F.writes a xs → 2 ^ 30 < length old + length xs
-WritesTo F a old new (Err error.OutOfMemory) = ⊤
-WritesTo F a old new (Err _) = ⊥
+abbrev pub WritesFormat : {A : Type 0} → Format A → A → List ℕ → List ℕ → Result (Unit {0}) ReplayError → Type 0
+WritesFormat F a old new (Ok done) = IsAdded F a old new
+WritesFormat {A} F a old new (Err error.TooLong) = (xs : List ℕ) → F.writes a xs → 2 ^ 30 < length old + length xs
+WritesFormat F a old new (Err error.OutOfMemory) = ⊤
+WritesFormat F a old new (Err _) = ⊥

@@ -2,8 +2,8 @@
 
 ghost use Rattle.std.specs.Prelude.{◌<◌, ◌≤◌, length};
 ghost use Rattle.canon_recording_parts.specs.Events.{an_event, byte_list, tagged, two_numbers, word_list, words_and_memory};
-ghost use Rattle.canon_recording_parts.specs.Format.{also, any_number, counted, number, row};
-ghost use Rattle.canon_recording_parts.specs.Read.{ReadsTo, seen_as};
+ghost use Rattle.canon_recording_parts.specs.Format.{also, any_number, counted_row, in_a_row, number};
+ghost use Rattle.canon_recording_parts.specs.Read.{ReadsFormat, seen_as};
 
 use crate::ReplayError;
 use canon_bytes::{load_u8, load_u32, load_u64};
@@ -18,7 +18,7 @@ pub fn read_events(
     imports: u64,
 ) -> Result<Events, ReplayError>
     requires inside { at.old ≤ length bytes.now }
-    ensures reads { ReadsTo (counted 4 (an_event imports)) bytes.now at.old at.new result }
+    ensures reads { ReadsFormat (counted_row 4 (an_event imports)) bytes.now at.old at.new result }
 {
     match read_u32(bytes, at) {
         Ok(count) => read_event_row(alloc, bytes, at, imports, count),
@@ -35,7 +35,7 @@ fn read_event_row(
     count: u32,
 ) -> Result<Events, ReplayError>
     requires inside { at.old ≤ length bytes.now }
-    ensures reads { ReadsTo (row (an_event imports) count) bytes.now at.old at.new result }
+    ensures reads { ReadsFormat (in_a_row (an_event imports) count) bytes.now at.old at.new result }
 {
     let mut events = Events::new(alloc);
     for _ in 0..count {
@@ -53,7 +53,7 @@ fn read_event_row(
 /// An event: a tag, and what stands behind it.
 fn read_event(alloc: Global, bytes: &[u8], at: &mut u64, imports: u64) -> Result<Event, ReplayError>
     requires inside { at.old ≤ length bytes.now }
-    ensures reads { ReadsTo (an_event imports) bytes.now at.old at.new result }
+    ensures reads { ReadsFormat (an_event imports) bytes.now at.old at.new result }
 {
     let start = *at;
     match read_u8(bytes, at) {
@@ -77,7 +77,7 @@ fn read_tagged(
 ) -> Result<Event, ReplayError>
     requires inside { at.old ≤ length bytes.now }
     requires tag { tag < 6 }
-    ensures reads { ReadsTo (tagged imports tag) bytes.now at.old at.new result }
+    ensures reads { ReadsFormat (tagged imports tag) bytes.now at.old at.new result }
 {
     match tag {
         0 => read_start(alloc, bytes, at),
@@ -97,7 +97,7 @@ fn read_tagged(
 
 fn read_start(alloc: Global, bytes: &[u8], at: &mut u64) -> Result<Event, ReplayError>
     requires inside { at.old ≤ length bytes.now }
-    ensures reads { ReadsTo (tagged 0 0) bytes.now at.old at.new result }
+    ensures reads { ReadsFormat (tagged 0 0) bytes.now at.old at.new result }
 {
     match read_u32(bytes, at) {
         Ok(func) => match read_words_and_memory(alloc, bytes, at) {
@@ -114,7 +114,7 @@ fn read_start(alloc: Global, bytes: &[u8], at: &mut u64) -> Result<Event, Replay
 
 fn read_ask(alloc: Global, bytes: &[u8], at: &mut u64, imports: u64) -> Result<Event, ReplayError>
     requires inside { at.old ≤ length bytes.now }
-    ensures reads { ReadsTo (tagged imports 1) bytes.now at.old at.new result }
+    ensures reads { ReadsFormat (tagged imports 1) bytes.now at.old at.new result }
 {
     match read_below(bytes, at, imports) {
         Ok(index) => match read_words_and_memory(alloc, bytes, at) {
@@ -131,7 +131,7 @@ fn read_ask(alloc: Global, bytes: &[u8], at: &mut u64, imports: u64) -> Result<E
 
 fn read_realloc(bytes: &[u8], at: &mut u64) -> Result<Event, ReplayError>
     requires inside { at.old ≤ length bytes.now }
-    ensures reads { ReadsTo (tagged 0 4) bytes.now at.old at.new result }
+    ensures reads { ReadsFormat (tagged 0 4) bytes.now at.old at.new result }
 {
     match read_pair(bytes, at) {
         Ok((old, old_size)) => match read_answer(bytes, at) {
@@ -151,7 +151,7 @@ fn read_realloc(bytes: &[u8], at: &mut u64) -> Result<Event, ReplayError>
 /// An alignment, and a new size and an answer.
 fn read_answer(bytes: &[u8], at: &mut u64) -> Result<(u32, (u64, u64)), ReplayError>
     requires inside { at.old ≤ length bytes.now }
-    ensures reads { ReadsTo (also (any_number 4) two_numbers) bytes.now at.old at.new result }
+    ensures reads { ReadsFormat (also (any_number 4) two_numbers) bytes.now at.old at.new result }
 {
     match read_u32(bytes, at) {
         Ok(align) => match read_pair(bytes, at) {
@@ -165,7 +165,7 @@ fn read_answer(bytes: &[u8], at: &mut u64) -> Result<(u32, (u64, u64)), ReplayEr
 /// Two numbers of 8 bytes each.
 fn read_pair(bytes: &[u8], at: &mut u64) -> Result<(u64, u64), ReplayError>
     requires inside { at.old ≤ length bytes.now }
-    ensures reads { ReadsTo two_numbers bytes.now at.old at.new result }
+    ensures reads { ReadsFormat two_numbers bytes.now at.old at.new result }
 {
     match read_u64(bytes, at) {
         Ok(first) => match read_u64(bytes, at) {
@@ -178,7 +178,7 @@ fn read_pair(bytes: &[u8], at: &mut u64) -> Result<(u64, u64), ReplayError>
 
 fn read_post(alloc: Global, bytes: &[u8], at: &mut u64) -> Result<Event, ReplayError>
     requires inside { at.old ≤ length bytes.now }
-    ensures reads { ReadsTo (tagged 0 5) bytes.now at.old at.new result }
+    ensures reads { ReadsFormat (tagged 0 5) bytes.now at.old at.new result }
 {
     match read_u32(bytes, at) {
         Ok(func) => match read_words(alloc, bytes, at) {
@@ -196,7 +196,7 @@ fn read_words_and_memory(
     at: &mut u64,
 ) -> Result<(Words, Bytes), ReplayError>
     requires inside { at.old ≤ length bytes.now }
-    ensures reads { ReadsTo words_and_memory bytes.now at.old at.new result }
+    ensures reads { ReadsFormat words_and_memory bytes.now at.old at.new result }
 {
     match read_words(alloc, bytes, at) {
         Ok(words) => match read_memory(alloc, bytes, at) {
@@ -210,7 +210,7 @@ fn read_words_and_memory(
 /// Words, by their number.
 fn read_words(alloc: Global, bytes: &[u8], at: &mut u64) -> Result<Words, ReplayError>
     requires inside { at.old ≤ length bytes.now }
-    ensures reads { ReadsTo word_list bytes.now at.old at.new result }
+    ensures reads { ReadsFormat word_list bytes.now at.old at.new result }
 {
     match read_u32(bytes, at) {
         Ok(count) => read_word_row(alloc, bytes, at, count),
@@ -226,7 +226,7 @@ fn read_word_row(
     count: u32,
 ) -> Result<Words, ReplayError>
     requires inside { at.old ≤ length bytes.now }
-    ensures reads { ReadsTo (row (any_number 8) count) bytes.now at.old at.new result }
+    ensures reads { ReadsFormat (in_a_row (any_number 8) count) bytes.now at.old at.new result }
 {
     let mut words = Words::new(alloc);
     for _ in 0..count {
@@ -244,7 +244,7 @@ fn read_word_row(
 /// A memory, by its length.
 fn read_memory(alloc: Global, bytes: &[u8], at: &mut u64) -> Result<Bytes, ReplayError>
     requires inside { at.old ≤ length bytes.now }
-    ensures reads { ReadsTo byte_list bytes.now at.old at.new result }
+    ensures reads { ReadsFormat byte_list bytes.now at.old at.new result }
 {
     match read_bytes(bytes, at) {
         Ok(memory) => match Bytes::from_slice(alloc, memory) {
@@ -258,7 +258,7 @@ fn read_memory(alloc: Global, bytes: &[u8], at: &mut u64) -> Result<Bytes, Repla
 /// Bytes, by their number.
 pub fn read_bytes<'a>(bytes: &'a [u8], at: &mut u64) -> Result<&'a [u8], ReplayError>
     requires inside { at.old ≤ length bytes.now }
-    ensures reads { ReadsTo byte_list bytes.now at.old at.new (seen_as (λ b. b.now) result) }
+    ensures reads { ReadsFormat byte_list bytes.now at.old at.new (seen_as (λ b. b.now) result) }
 {
     match read_u64(bytes, at) {
         Ok(count) => {
@@ -276,7 +276,7 @@ pub fn read_bytes<'a>(bytes: &'a [u8], at: &mut u64) -> Result<&'a [u8], ReplayE
 /// The number in the next 4 bytes, which is to be below `count`.
 pub fn read_below(bytes: &[u8], at: &mut u64, count: u64) -> Result<u32, ReplayError>
     requires inside { at.old ≤ length bytes.now }
-    ensures reads { ReadsTo (number 4 (λ n. n < count)) bytes.now at.old at.new result }
+    ensures reads { ReadsFormat (number 4 (λ n. n < count)) bytes.now at.old at.new result }
 {
     let start = *at;
     match read_u32(bytes, at) {
@@ -294,7 +294,7 @@ pub fn read_below(bytes: &[u8], at: &mut u64, count: u64) -> Result<u32, ReplayE
 /// The number in the next byte.
 fn read_u8(bytes: &[u8], at: &mut u64) -> Result<u8, ReplayError>
     requires inside { at.old ≤ length bytes.now }
-    ensures reads { ReadsTo (any_number 1) bytes.now at.old at.new result }
+    ensures reads { ReadsFormat (any_number 1) bytes.now at.old at.new result }
 {
     if bytes.len() as u64 - *at < 1 {
         return Err(ReplayError::BadRecording(*at));
@@ -307,7 +307,7 @@ fn read_u8(bytes: &[u8], at: &mut u64) -> Result<u8, ReplayError>
 /// The number in the next 4 bytes, the lowest byte first.
 pub fn read_u32(bytes: &[u8], at: &mut u64) -> Result<u32, ReplayError>
     requires inside { at.old ≤ length bytes.now }
-    ensures reads { ReadsTo (any_number 4) bytes.now at.old at.new result }
+    ensures reads { ReadsFormat (any_number 4) bytes.now at.old at.new result }
 {
     if bytes.len() as u64 - *at < 4 {
         return Err(ReplayError::BadRecording(*at));
@@ -320,7 +320,7 @@ pub fn read_u32(bytes: &[u8], at: &mut u64) -> Result<u32, ReplayError>
 /// The number in the next 8 bytes.
 fn read_u64(bytes: &[u8], at: &mut u64) -> Result<u64, ReplayError>
     requires inside { at.old ≤ length bytes.now }
-    ensures reads { ReadsTo (any_number 8) bytes.now at.old at.new result }
+    ensures reads { ReadsFormat (any_number 8) bytes.now at.old at.new result }
 {
     if bytes.len() as u64 - *at < 8 {
         return Err(ReplayError::BadRecording(*at));

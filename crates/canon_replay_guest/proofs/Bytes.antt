@@ -13,16 +13,16 @@ use Rattle.canon_memory.specs.Realloc.{IsTidy, ReallocLaw, new_block, old_block}
 use Rattle.canon_memory.specs.Watch.{IsSpared, LawHolds, is_block, relisted}
 use Rattle.canon_memory.proofs.Watch.{law_from, same_from, same_yes}
 use Rattle.canon_scripted.proofs.Bytes.{paste_in, paste_out}
-use Rattle.canon_replay_guest.specs.Lawful.{IsLawful}
-use Rattle.canon_replay_guest.specs.Replaying.{CanGrow, grown, moved}
+use Rattle.canon_replay_guest.specs.Lawful.{IsLawfulAnswer}
+use Rattle.canon_replay_guest.specs.Replaying.{CanGrow, grown_to, moved}
 
 -- ---- grown
 
-pub length-grown : (m : List ℕ) (n : ℕ) → CanGrow (length m) n → length (grown m n) ≡ n
+pub length-grown : (m : List ℕ) (n : ℕ) → CanGrow (length m) n → length (grown_to m n) ≡ n
 length-grown m n can = length-append m (replicate (n - length m) 0) ∙ omega (arith, can.0, length-replicate {A = ℕ} (n - length m) 0)
 
 -- it reads the same, since past an end there are zeros
-pub grown_same : (m : List ℕ) (n i : ℕ) → slice_index (grown m n) i ≡ slice_index m i
+pub grown_same : (m : List ℕ) (n i : ℕ) → slice_index (grown_to m n) i ≡ slice_index m i
 grown_same m n i = ⊎_elim
     (λ (lt : i < length m). get_or_append_left m (replicate (n - length m) 0) 0 i lt)
     (λ past.
@@ -57,19 +57,19 @@ module _ (m : List ℕ) (from to count : ℕ) (inside : from + count ≤ length 
 -- ---- the law
 
 -- A lawful answer in grown memory, with its bytes copied.
-module _ (live : List Block) (m : List ℕ) (n : ℕ) (after : List ℕ) (c : Call) (answer : ℕ) (can : CanGrow (length m) n) (law : IsLawful live n c answer)
-    (is : after ≡ moved (grown m n) c.old answer (kept c)) where
-  inside : c.old + kept c ≤ length (grown m n)
+module _ (live : List Block) (m : List ℕ) (n : ℕ) (after : List ℕ) (c : Call) (answer : ℕ) (can : CanGrow (length m) n) (law : IsLawfulAnswer live n c answer)
+    (is : after ≡ moved (grown_to m n) c.old answer (kept c)) where
+  inside : c.old + kept c ≤ length (grown_to m n)
   inside = omega (arith, law.from, length-grown m n can)
 
-  room : answer + kept c ≤ length (grown m n)
+  room : answer + kept c ≤ length (grown_to m n)
   room = omega (arith, law.inside, length-grown m n can)
 
   pub after_length : length after ≡ n
-  after_length = ap length is ∙ length-moved (grown m n) c.old answer (kept c) inside room ∙ length-grown m n can
+  after_length = ap length is ∙ length-moved (grown_to m n) c.old answer (kept c) inside room ∙ length-grown m n can
 
   out : (i : ℕ) → (i < answer) ⊎ (answer + kept c ≤ i) → slice_index after i ≡ slice_index m i
-  out i o = ap (λ (xs : List ℕ). slice_index xs i) is ∙ moved_out (grown m n) c.old answer (kept c) inside room i o ∙ grown_same m n i
+  out i o = ap (λ (xs : List ℕ). slice_index xs i) is ∙ moved_out (grown_to m n) c.old answer (kept c) inside room i o ∙ grown_same m n i
 
   outside : (i : ℕ) → (InBlocks (new_block c answer ∷ []) i → ⊥) → (i < answer) ⊎ (answer + kept c ≤ i)
   outside i o = ⊎_elim
@@ -95,7 +95,7 @@ module _ (live : List Block) (m : List ℕ) (n : ℕ) (after : List ℕ) (c : Ca
   holds = (
     law.aligned,
     omega (arith, law.inside, after_length),
-    λ k lt. ap (λ (xs : List ℕ). slice_index xs (answer + k)) is ∙ moved_in (grown m n) c.old answer (kept c) inside room k lt ∙ grown_same m n (c.old + k),
+    λ k lt. ap (λ (xs : List ℕ). slice_index xs (answer + k)) is ∙ moved_in (grown_to m n) c.old answer (kept c) inside room k lt ∙ grown_same m n (c.old + k),
     spared,
   )
 

@@ -14,18 +14,18 @@ use Rattle.canon_memory.specs.declared.event.Event.{Event}
 use Rattle.canon_memory.specs.declared.event.Event.TheVariants as event
 use Rattle.canon_memory.specs.declared.guest.Step.{Step}
 use Rattle.canon_memory.specs.Watch.{relisted}
-use Rattle.canon_replay_guest.specs.Lawful.{IsFree, IsLawful}
-use Rattle.canon_replay_guest.specs.Leaves.{Answers, Began, DoesEnd, DoesStep, IsShort, Reallocated, Stepped}
-use Rattle.canon_replay_guest.specs.Moves.{Begins, Grows, CannotBegin, Does, EndsItself, IsAnswer, IsNext, LetsGo, Request, answered, ended, posts, destroys, reallocates, resumes, starts, stepped, trapped}
-use Rattle.canon_replay_guest.specs.Replaying.{CanGrow, IsOpened, Replaying, events_now, grown, moved, next_event, start_length, stopped, trapped_again, wanted_length}
+use Rattle.canon_replay_guest.specs.Lawful.{IsFree, IsLawfulAnswer}
+use Rattle.canon_replay_guest.specs.Leaves.{AnswersAsRecorded, Began, DoesEnd, DoesStep, IsOutOfMemory, ReallocatesAsRecorded, StepsAsRecorded}
+use Rattle.canon_replay_guest.specs.Moves.{BeginsRequest, CannotBegin, EndsItself, GrowsMemory, GuestRequest, IsNext, IsRecordedAnswer, LetsGo, Replays, answered, destroys, ended, posts, reallocates, resumes, starts, stepped, trapped}
+use Rattle.canon_replay_guest.specs.Replaying.{CanGrow, IsOpened, Replaying, events_now, grown_to, moved, next_event, start_length, stopped_for, trapped_again, wanted_length}
 use Rattle.canon_replay_guest.specs.declared.stop.Stop.TheVariants as stop
 use Rattle.canon_replay_guest.proofs.Passing.{next_is}
 use Rattle.canon_replay_guest.proofs.Bytes.{after_length, length-grown}
 
 -- a request that may be the first of a call began, from one state and memory to others
-pub record IsBegun (q : Request) (g : Replaying) (m : List ℕ) (mid : Replaying) (m1 : List ℕ) : Type 0 where
+pub record IsBegun (q : GuestRequest) (g : Replaying) (m : List ℕ) (mid : Replaying) (m1 : List ℕ) : Type 0 where
   pub none : g.stop ≡ None
-  pub begins : Begins q g (length m) mid (length m1)
+  pub begins : BeginsRequest q g (length m) mid (length m1)
   pub short : (mid ≡ g) ⊎ IsOpened g mid
 
 begun : (g mid : Replaying) (m m1 : List ℕ) → Began g m mid m1 (Ok tt) → (g.stop ≡ None) × IsOpened g mid × (length m1 ≡ wanted_length mid (length m)) × CanGrow (length m) (length m1)
@@ -44,22 +44,22 @@ resume_begun g mid m words n o = record { none = n; begins = (o, refl); short = 
 
 -- ---- traps
 
-pub begin_trapped : (q : Request) (g h : Replaying) (m m1 : List ℕ) → Grows q → Began g m h m1 (Err fault.Trap) → Does g (trapped q m (length m1)) h
+pub begin_trapped : (q : GuestRequest) (g h : Replaying) (m m1 : List ℕ) → GrowsMemory q → Began g m h m1 (Err fault.Trap) → Replays g (trapped q m (length m1)) h
 begin_trapped q g h m m1 b (e, inl (some, again)) = inr (some, ap length e, again)
 begin_trapped q g h m m1 b (e, inr (none, (mid, o, cannot, s))) = inl (none, (mid, inl ((b, o, cannot), ap length e, s)))
 
-pub begin_short : (g h : Replaying) (m m1 : List ℕ) → Began g m h m1 (Err fault.OutOfMemory) → IsShort g h
+pub begin_short : (g h : Replaying) (m m1 : List ℕ) → Began g m h m1 (Err fault.OutOfMemory) → IsOutOfMemory g h
 begin_short g h m m1 (e, (mid, o, s)) = (mid, inr o, s)
 
-pub differs : (q : Request) (g mid h : Replaying) (m m1 : List ℕ) → IsBegun q g m mid m1 → ¬ (IsNext (next_event mid) q) → h ≡ stopped mid stop.Differs → Does g (trapped q m (length m1)) h
+pub differs : (q : GuestRequest) (g mid h : Replaying) (m m1 : List ℕ) → IsBegun q g m mid m1 → ¬ (IsNext (next_event mid) q) → h ≡ stopped_for mid stop.Differs → Replays g (trapped q m (length m1)) h
 differs q g mid h m m1 b n e = inl (b.none, (mid, inr (stop.Differs, b.begins, n, e)))
 
-pub again : (q : Request) (g h : Replaying) (m : List ℕ) → g.stop ≢ None → h ≡ trapped_again g → Does g (trapped q m (length m)) h
+pub again : (q : GuestRequest) (g h : Replaying) (m : List ℕ) → g.stop ≢ None → h ≡ trapped_again g → Replays g (trapped q m (length m)) h
 again q g h m n e = inr (n, refl, e)
 
 -- ---- steps
 
-pub steps : (q : Request) (g mid h : Replaying) (m m1 m2 : List ℕ) (r : Result Step GuestFault) → IsBegun q g m mid m1 → IsNext (next_event mid) q → LetsGo q → Stepped mid m1 h m2 r → DoesStep q g m h m2 r
+pub steps : (q : GuestRequest) (g mid h : Replaying) (m m1 m2 : List ℕ) (r : Result Step GuestFault) → IsBegun q g m mid m1 → IsNext (next_event mid) q → LetsGo q → StepsAsRecorded mid m1 h m2 r → DoesStep q g m h m2 r
 steps q g mid h m m1 m2 (Ok s) b n l (step, e) = (b.none, l, (mid, length m1, b.begins, n, step, e))
 steps q g mid h m m1 m2 (Err fault.Trap) b n l ((same, never), e) =
     inl (
@@ -68,7 +68,7 @@ steps q g mid h m m1 m2 (Err fault.Trap) b n l ((same, never), e) =
         mid,
         inr (
           stop.Unfit,
-          subst (λ (k : ℕ). Begins q g (length m) mid k) (ap length (sym same)) b.begins,
+          subst (λ (k : ℕ). BeginsRequest q g (length m) mid k) (ap length (sym same)) b.begins,
           (n, l, λ s left step. never s left (step.0, subst (λ (k : ℕ). CanGrow k (length left)) (ap length same) step.1)),
           e,
         ),
@@ -78,48 +78,48 @@ steps q g mid h m m1 m2 (Err fault.OutOfMemory) b n l e = (mid, b.short, e)
 
 -- ---- answers
 
-pub gives : (c : Call) (g mid h : Replaying) (m m1 m2 : List ℕ) (r : Result ℕ GuestFault) → Began g m mid m1 (Ok tt) → Answers mid m1 c h m2 r → Reallocated g m c h m2 r
+pub gives : (c : Call) (g mid h : Replaying) (m m1 m2 : List ℕ) (r : Result ℕ GuestFault) → Began g m mid m1 (Ok tt) → AnswersAsRecorded mid m1 c h m2 r → ReallocatesAsRecorded g m c h m2 r
 gives c g mid h m m1 m2 (Ok answer) b (is, lawful, copied, e) =
     let can : CanGrow (length m) (wanted_length mid (length m)) = b.3 in
     let wanted = wanted_length mid (length m) in
     let len1 : length m1 ≡ wanted = ap length b.2 ∙ length-grown m wanted can in
-    let from : m2 ≡ moved (grown m wanted) c.old answer (min c.old_size c.new_size) = copied ∙ ap (λ (xs : List ℕ). moved xs c.old answer (min c.old_size c.new_size)) b.2 in
-    let law : IsLawful mid.live wanted c answer = subst (λ (k : ℕ). IsLawful mid.live k c answer) len1 lawful in
+    let from : m2 ≡ moved (grown_to m wanted) c.old answer (min c.old_size c.new_size) = copied ∙ ap (λ (xs : List ℕ). moved xs c.old answer (min c.old_size c.new_size)) b.2 in
+    let law : IsLawfulAnswer mid.live wanted c answer = subst (λ (k : ℕ). IsLawfulAnswer mid.live k c answer) len1 lawful in
     let len2 : length m2 ≡ wanted = after_length mid.live m wanted m2 c answer can law from in
     let begins = (answer_begun g mid m m1 c b).begins in
-    ((b.0, (mid, subst (λ (k : ℕ). Begins (reallocates c) g (length m) mid k) (len1 ∙ sym len2) begins, is, subst (λ (k : ℕ). IsLawful mid.live k c answer) (len1 ∙ sym len2) lawful, e)), from ∙ ap (λ (k : ℕ). moved (grown m k) c.old answer (min c.old_size c.new_size)) (sym len2))
+    ((b.0, (mid, subst (λ (k : ℕ). BeginsRequest (reallocates c) g (length m) mid k) (len1 ∙ sym len2) begins, is, subst (λ (k : ℕ). IsLawfulAnswer mid.live k c answer) (len1 ∙ sym len2) lawful, e)), from ∙ ap (λ (k : ℕ). moved (grown_to m k) c.old answer (min c.old_size c.new_size)) (sym len2))
 gives c g mid h m m1 m2 (Err fault.Trap) b (same, inl (never, e)) =
     let f = answer_begun g mid m m1 c b in
     let can = f.begins.2 in
-    (subst (λ (k : ℕ). Does g (trapped (reallocates c) m k) h) (ap length (sym same)) (differs (reallocates c) g mid h m m1 f never e), subst (λ (k : ℕ). length m ≤ k) (ap length (sym same)) can.0)
+    (subst (λ (k : ℕ). Replays g (trapped (reallocates c) m k) h) (ap length (sym same)) (differs (reallocates c) g mid h m m1 f never e), subst (λ (k : ℕ). length m ≤ k) (ap length (sym same)) can.0)
 gives c g mid h m m1 m2 (Err fault.Trap) b (same, inr (answer, is, never, e)) =
     let f = answer_begun g mid m m1 c b in
     let can = f.begins.2 in (
-      subst (λ (k : ℕ). Does g (trapped (reallocates c) m k) h) (ap length (sym same)) (inl (f.none, (mid, inr (stop.Unlawful, f.begins, (c, answer, refl, is, never), e)))),
+      subst (λ (k : ℕ). Replays g (trapped (reallocates c) m k) h) (ap length (sym same)) (inl (f.none, (mid, inr (stop.Unlawful, f.begins, (c, answer, refl, is, never), e)))),
       subst (λ (k : ℕ). length m ≤ k) (ap length (sym same)) can.0,
     )
 gives c g mid h m m1 m2 (Err fault.OutOfMemory) b (same, e) =
     let f = answer_begun g mid m m1 c b in
     ((mid, f.short, e), subst (λ (k : ℕ). length m ≤ k) (ap length (sym same)) f.begins.2.0)
 
-pub begin_gives_trap : (c : Call) (g h : Replaying) (m m1 : List ℕ) → Began g m h m1 (Err fault.Trap) → length m ≤ length m1 → Reallocated g m c h m1 (Err fault.Trap)
+pub begin_gives_trap : (c : Call) (g h : Replaying) (m m1 : List ℕ) → Began g m h m1 (Err fault.Trap) → length m ≤ length m1 → ReallocatesAsRecorded g m c h m1 (Err fault.Trap)
 begin_gives_trap c g h m m1 b le = (begin_trapped (reallocates c) g h m m1 tt b, le)
 
 -- ---- what it ends itself
 
-pub ends : (q : Request) (g mid h : Replaying) (m : List ℕ) → g.stop ≡ None → IsOpened g mid → EndsItself q → IsNext (next_event mid) q → h ≡ record mid { at = mid.at + 1; live = [] } → DoesEnd q g m h (Ok tt)
+pub ends : (q : GuestRequest) (g mid h : Replaying) (m : List ℕ) → g.stop ≡ None → IsOpened g mid → EndsItself q → IsNext (next_event mid) q → h ≡ record mid { at = mid.at + 1; live = [] } → DoesEnd q g m h (Ok tt)
 ends q g mid h m none o l n e = (none, l, (mid, o, n, e))
 
-pub end_differs : (q : Request) (g mid h : Replaying) (m : List ℕ) (f : GuestFault) → f ≡ fault.Trap → Begins q g (length m) mid (length m) → g.stop ≡ None → ¬ (IsNext (next_event mid) q) → h ≡ stopped mid stop.Differs → DoesEnd q g m h (Err f)
+pub end_differs : (q : GuestRequest) (g mid h : Replaying) (m : List ℕ) (f : GuestFault) → f ≡ fault.Trap → BeginsRequest q g (length m) mid (length m) → g.stop ≡ None → ¬ (IsNext (next_event mid) q) → h ≡ stopped_for mid stop.Differs → DoesEnd q g m h (Err f)
 end_differs q g mid h m f ef b none n e = subst (λ (x : GuestFault). DoesEnd q g m h (Err x)) (sym ef) (inl (none, (mid, inr (stop.Differs, b, n, e))))
 
-pub end_again : (q : Request) (g h : Replaying) (m : List ℕ) (f : GuestFault) → f ≡ fault.Trap → g.stop ≢ None → h ≡ trapped_again g → DoesEnd q g m h (Err f)
+pub end_again : (q : GuestRequest) (g h : Replaying) (m : List ℕ) (f : GuestFault) → f ≡ fault.Trap → g.stop ≢ None → h ≡ trapped_again g → DoesEnd q g m h (Err f)
 end_again q g h m f ef n e = subst (λ (x : GuestFault). DoesEnd q g m h (Err x)) (sym ef) (again q g h m n e)
 
 -- ---- tests
 
 module _ (g : Replaying) (len : ℕ) (c : Call) (answer : ℕ) (placed : (answer < 2 ^ 32) × (answer % c.align ≡ 0) × (answer + c.new_size ≤ len)) (from : c.old + min c.old_size c.new_size ≤ len) where
-  pub lawful_by : (live : List Block) (r : Bool) → live ≡ g.live → (IsTrue r ↔ IsFree live c answer) → (IsTrue r ↔ IsLawful g.live len c answer)
+  pub lawful_by : (live : List Block) (r : Bool) → live ≡ g.live → (IsTrue r ↔ IsFree live c answer) → (IsTrue r ↔ IsLawfulAnswer g.live len c answer)
   lawful_by live r e free = (
     λ t. record { narrow = placed.0; aligned = placed.1; inside = placed.2; free = subst (λ (l : List Block). IsFree l c answer) e (free.0 t); from = from },
     λ law. free.1 (subst (λ (l : List Block). IsFree l c answer) (sym e) law.free),
@@ -159,22 +159,22 @@ module _ (xs : List Event) (i len : ℕ) where
 
 -- ---- the next event, as it is tested
 
-module _ (o : Option Event) (g : Replaying) (q : Request) (r : Bool) (is : o ≡ next_event g) (tested : IsTrue r ↔ IsNext o q) where
+module _ (o : Option Event) (g : Replaying) (q : GuestRequest) (r : Bool) (is : o ≡ next_event g) (tested : IsTrue r ↔ IsNext o q) where
   pub is_next : r ≡ true → IsNext (next_event g) q
   is_next e = subst (λ (p : Option Event). IsNext p q) is (tested.0 e)
 
   pub is_not_next : r ≡ false → ¬ (IsNext (next_event g) q)
   is_not_next e n = iff_false tested e (subst (λ (p : Option Event). IsNext p q) (sym is) n)
 
-pub at_within : (g : Replaying) (q : Request) → IsNext (next_event g) q → g.at < length (events_now g)
+pub at_within : (g : Replaying) (q : GuestRequest) → IsNext (next_event g) q → g.at < length (events_now g)
 at_within g q n = let (e, is, tells) = next_is (next_event g) q n in slice_get_within (events_now g) g.at e is
 
-pub differs_step : (q : Request) (g mid h : Replaying) (m m1 : List ℕ) (f : GuestFault) → f ≡ fault.Trap → IsBegun q g m mid m1 → ¬ (IsNext (next_event mid) q) → h ≡ stopped mid stop.Differs → DoesStep q g m h m1 (Err f)
+pub differs_step : (q : GuestRequest) (g mid h : Replaying) (m m1 : List ℕ) (f : GuestFault) → f ≡ fault.Trap → IsBegun q g m mid m1 → ¬ (IsNext (next_event mid) q) → h ≡ stopped_for mid stop.Differs → DoesStep q g m h m1 (Err f)
 differs_step q g mid h m m1 f e b n s = subst (λ (x : GuestFault). DoesStep q g m h m1 (Err x)) (sym e) (differs q g mid h m m1 b n s)
 
-pub answers_at : (g h : Replaying) (m m2 : List ℕ) (c : Call) (answer : ℕ) (o : Option Event) → o ≡ next_event g → IsAnswer o c answer → (len : ℕ) → len ≡ length m → IsLawful g.live len c answer
-    → m2 ≡ moved m c.old answer (min c.old_size c.new_size) → h ≡ record g { at = g.at + 1; live = relisted g.live c answer } → Answers g m c h m2 (Ok answer)
-answers_at g h m m2 c answer o is a len el law copied e = (sym is ∙ a, subst (λ (k : ℕ). IsLawful g.live k c answer) el law, copied, e)
+pub answers_at : (g h : Replaying) (m m2 : List ℕ) (c : Call) (answer : ℕ) (o : Option Event) → o ≡ next_event g → IsRecordedAnswer o c answer → (len : ℕ) → len ≡ length m → IsLawfulAnswer g.live len c answer
+    → m2 ≡ moved m c.old answer (min c.old_size c.new_size) → h ≡ record g { at = g.at + 1; live = relisted g.live c answer } → AnswersAsRecorded g m c h m2 (Ok answer)
+answers_at g h m m2 c answer o is a len el law copied e = (sym is ∙ a, subst (λ (k : ℕ). IsLawfulAnswer g.live k c answer) el law, copied, e)
 
 was_ok : {T E : Type 0} (r : Result T E) (P : Type 0) → is_err r ≡ false → OnOk r P → P
 was_ok (Ok x) P e h = h

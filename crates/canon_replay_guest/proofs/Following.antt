@@ -11,23 +11,23 @@ use Rattle.canon_memory.specs.Guest.{GuestIn}
 use Rattle.canon_memory.specs.Journal.{answer_event, step_event}
 use Rattle.canon_memory.specs.Watch.{along_both, live_along, relisted}
 use Rattle.canon_memory.proofs.Watch.{after_step}
-use Rattle.canon_replay_guest.specs.Following.{Follows, InCall, IsBefore, IsLeftBy, IsOf, IsPassed, Leaves, MovesFollow, Overruns, Stops}
-use Rattle.canon_replay_guest.specs.Moves.{Asked, Begins, Chain, Does, EndsItself, IsNext, IsReason, LetsGo, ReplayMoves, Request, answered, destroys, ended, len_after, posts, reallocates, request_told, resumes, starts, stepped, told, trap_told, trapped}
-use Rattle.canon_replay_guest.specs.Passing.{AllAlike, IsAnswered, Passes}
-use Rattle.canon_replay_guest.specs.Replaying.{IsOpened, Replaying, call_events, events_now, events_of_calls, next_event, passed, stopped}
+use Rattle.canon_replay_guest.specs.Following.{Follows, InCall, IsBefore, IsLeftBy, IsOfRequest, IsPassedCount, Leaves, MovesFollow, Overruns, TrapsInCall}
+use Rattle.canon_replay_guest.specs.Moves.{BeginsRequest, Chain, EndsItself, GuestRequest, IsNext, IsReason, LetsGo, ReplayMoves, Replays, RequestOutcome, answered, destroys, ended, outcome_events, posts, reallocates, request_told, resumes, starts, stepped, to_length, trap_told, trapped}
+use Rattle.canon_replay_guest.specs.Passing.{AreAlike, IsUntrapped, PassesRecorded}
+use Rattle.canon_replay_guest.specs.Replaying.{IsOpened, Replaying, call_events, events_now, events_of_calls, next_event, passed_events, stopped_for}
 use Rattle.canon_replay_guest.specs.declared.stop.Stop.{Stop}
 use Rattle.canon_replay_guest.specs.declared.stop.Stop.TheVariants as stop
 use Rattle.canon_replay_guest.proofs.Passing.{Kept, alike_then, does_pass, events_taken, kept_itself, opened_kept, take_whole}
 
 -- ---- the event of a request
 
-pub record Made (q : Request) (events : List Event) : Type 0 where
+pub record Made (q : GuestRequest) (events : List Event) : Type 0 where
   pub made : Event
   pub rest : List Event
   pub is : events ≡ made ∷ rest
-  pub of : IsOf made q
+  pub of : IsOfRequest made q
 
-made_by : (q : Request) (m : List ℕ) (more : List Event) → LetsGo q ⊎ EndsItself q → Made q (request_told q m ++ more)
+made_by : (q : GuestRequest) (m : List ℕ) (more : List Event) → LetsGo q ⊎ EndsItself q → Made q (request_told q m ++ more)
 made_by (starts f ws) m more w = record { made = event.Start f ws m; rest = more; is = refl; of = (refl, refl) }
 made_by (resumes ws) m more w = record { made = event.Resume ws m; rest = more; is = refl; of = refl }
 made_by (reallocates c) m more (inl l) = absurd l
@@ -35,20 +35,20 @@ made_by (reallocates c) m more (inr l) = absurd l
 made_by (posts f ws) m more w = record { made = event.Post f ws; rest = more; is = refl; of = (refl, refl) }
 made_by (destroys f r) m more w = record { made = event.Dtor f r; rest = more; is = refl; of = (refl, refl) }
 
-made_trapped : (q : Request) (m : List ℕ) → Made q (trap_told q m)
+made_trapped : (q : GuestRequest) (m : List ℕ) → Made q (trap_told q m)
 made_trapped (starts f ws) m = record { made = event.Start f ws m; rest = _; is = refl; of = (refl, refl) }
 made_trapped (resumes ws) m = record { made = event.Resume ws m; rest = _; is = refl; of = refl }
 made_trapped (reallocates c) m = record { made = event.Trap (Some (c.old, c.old_size, c.align, c.new_size)) (length m); rest = []; is = refl; of = refl }
 made_trapped (posts f ws) m = record { made = event.Post f ws; rest = _; is = refl; of = (refl, refl) }
 made_trapped (destroys f r) m = record { made = event.Dtor f r; rest = _; is = refl; of = (refl, refl) }
 
-abbrev request_of : Asked → Request
+abbrev request_of : RequestOutcome → GuestRequest
 request_of (stepped q before after step) = q
 request_of (answered c before after answer) = reallocates c
 request_of (ended q before) = q
 request_of (trapped q before after) = q
 
-made_in : (g h : Replaying) (x : Asked) → Does g x h → Made (request_of x) (told x)
+made_in : (g h : Replaying) (x : RequestOutcome) → Replays g x h → Made (request_of x) (outcome_events x)
 made_in g h (stepped q before after s) (n, l, d) = made_by q before _ (inl l)
 made_in g h (answered c before after answer) d = record { made = answer_event c answer; rest = []; is = refl; of = refl }
 made_in g h (ended q before) (n, l, d) =
@@ -57,7 +57,7 @@ made_in g h (trapped q before after) d = made_trapped q before
 
 -- ---- the call that a request opens
 
-opens : (q : Request) (g : Replaying) (len : ℕ) (mid : Replaying) (grown : ℕ) → Begins q g len mid grown → IsOpened g mid
+opens : (q : GuestRequest) (g : Replaying) (len : ℕ) (mid : Replaying) (grown : ℕ) → BeginsRequest q g len mid grown → IsOpened g mid
 opens (starts f ws) g len mid grown b = b.0
 opens (reallocates c) g len mid grown b = b.0
 opens (resumes ws) g len mid grown b = b.0
@@ -76,7 +76,7 @@ opening k g mid few (inr (e, past)) (inr (not, is)) = absurd (not (past, omega (
 
 -- ---- once it trapped
 
-stays_stopped : (g h : Replaying) (len last : ℕ) (calls : List Asked) → g.stop ≢ None → Chain g len calls h last → (h.stop ≡ g.stop) × (h.call ≡ g.call) × (h.at ≡ g.at) × (last ≡ len)
+stays_stopped : (g h : Replaying) (len last : ℕ) (calls : List RequestOutcome) → g.stop ≢ None → Chain g len calls h last → (h.stop ≡ g.stop) × (h.call ≡ g.call) × (h.at ≡ g.at) × (last ≡ len)
 stays_stopped g h len last [] some (e, f) = (ap (λ (r : Replaying). r.stop) e, ap (λ (r : Replaying). r.call) e, ap (λ (r : Replaying). r.at) e, f)
 stays_stopped g h len last (stepped q before after s ∷ calls) some (mid, b, d, rest) = absurd (some d.0)
 stays_stopped g h len last (answered c before after answer ∷ calls) some (mid, b, d, rest) = absurd (some d.0)
@@ -96,7 +96,7 @@ opened_rise g mid (inr (not, e)) = let c = ap (λ (r : Replaying). r.call) e in 
 rise_by : (g mid h : Replaying) → IsOpened g mid → h.call ≡ mid.call → g.call ≤ h.call
 rise_by g mid h o e = let r = opened_rise g mid o in omega (arith, r, e)
 
-does_rise : (g h : Replaying) (x : Asked) → Does g x h → g.call ≤ h.call
+does_rise : (g h : Replaying) (x : RequestOutcome) → Replays g x h → g.call ≤ h.call
 does_rise g h (stepped q before after s) (n, l, (mid, grown, b, next, step, e)) = rise_by g mid h (opens q g (length before) mid grown b) (ap (λ (r : Replaying). r.call) e)
 does_rise g h (answered c before after answer) (n, (mid, b, next, lawful, e)) = rise_by g mid h b.0 (ap (λ (r : Replaying). r.call) e)
 does_rise g h (ended q before) (n, l, (mid, o, next, e)) = rise_by g mid h o (ap (λ (r : Replaying). r.call) e)
@@ -104,20 +104,20 @@ does_rise g h (trapped q before after) (inl (n, (mid, inl (cannot, len, e)))) = 
 does_rise g h (trapped q before after) (inl (n, (mid, inr (why, b, reason, e)))) = rise_by g mid h (opens q g (length before) mid after b) (ap (λ (r : Replaying). r.call) e)
 does_rise g h (trapped q before after) (inr (n, len, e)) = let c = ap (λ (r : Replaying). r.call) e in omega (arith, c)
 
-calls_rise : (g h : Replaying) (len last : ℕ) (calls : List Asked) → Chain g len calls h last → g.call ≤ h.call
+calls_rise : (g h : Replaying) (len last : ℕ) (calls : List RequestOutcome) → Chain g len calls h last → g.call ≤ h.call
 calls_rise g h len last [] (e, f) = let c = ap (λ (r : Replaying). r.call) e in omega (arith, c)
-calls_rise g h len last (x ∷ calls) (mid, b, d, rest) = let one = does_rise g mid x d in let more = calls_rise mid h (len_after x) last calls rest in omega (arith, one, more)
+calls_rise g h len last (x ∷ calls) (mid, b, d, rest) = let one = does_rise g mid x d in let more = calls_rise mid h (to_length x) last calls rest in omega (arith, one, more)
 
 -- ---- the blocks that live
 
-step_live : (live : List Block) (q : Request) (m after : List ℕ) (s : Step) → LetsGo q → live_along live (request_told q m ++ step_event s after ∷ []) ≡ []
+step_live : (live : List Block) (q : GuestRequest) (m after : List ℕ) (s : Step) → LetsGo q → live_along live (request_told q m ++ step_event s after ∷ []) ≡ []
 step_live live (starts f ws) m after s l = after_step [] s after
 step_live live (resumes ws) m after s l = after_step [] s after
 step_live live (reallocates c) m after s l = absurd l
 step_live live (posts f ws) m after s l = absurd l
 step_live live (destroys f r) m after s l = absurd l
 
-end_live : (live : List Block) (q : Request) (m : List ℕ) → EndsItself q → live_along live (request_told q m) ≡ []
+end_live : (live : List Block) (q : GuestRequest) (m : List ℕ) → EndsItself q → live_along live (request_told q m) ≡ []
 end_live live (starts f ws) m l = absurd l
 end_live live (resumes ws) m l = absurd l
 end_live live (reallocates c) m l = absurd l
@@ -130,7 +130,7 @@ module _ (k : ℕ) (s : Replaying) (few : k < length s.recorded) where
   record Going (g : Replaying) (es : List Event) : Type 0 where
     none : g.stop ≡ None
     in_call : InCall k g
-    passes : Passes s g es
+    passes : PassesRecorded s g es
     live : g.live ≡ live_along s.live es
 
   record Left (why : Stop) (m : Replaying) (len : ℕ) (events : List Event) : Type 0 where
@@ -138,9 +138,9 @@ module _ (k : ℕ) (s : Replaying) (few : k < length s.recorded) where
     made : Event
     rest : List Event
     is : events ≡ followed ++ made ∷ rest
-    passes : Passes s m followed
-    request : Request
-    of : IsOf made request
+    passes : PassesRecorded s m followed
+    request : GuestRequest
+    of : IsOfRequest made request
     left : IsLeftBy why (next_event m) (live_along s.live followed) len request
 
   record Stopped (h : Replaying) (len : ℕ) (events : List Event) : Type 0 where
@@ -162,21 +162,21 @@ module _ (k : ℕ) (s : Replaying) (few : k < length s.recorded) where
   abbrev Done : Replaying → ℕ → List Event → Type 0
   Done h len events = Going h events ⊎ Stopped h len events ⊎ Overrun h len events
 
-  leave : (why : Stop) (g m : Replaying) (len : ℕ) (es more : List Event) (x : Asked) → Going g es → Kept g m → Made (request_of x) (told x) → IsLeftBy why (next_event m) g.live len (request_of x)
-      → Left why m len (es ++ told x ++ more)
+  leave : (why : Stop) (g m : Replaying) (len : ℕ) (es more : List Event) (x : RequestOutcome) → Going g es → Kept g m → Made (request_of x) (outcome_events x) → IsLeftBy why (next_event m) g.live len (request_of x)
+      → Left why m len (es ++ outcome_events x ++ more)
   leave why g m len es more x go kept made left = record {
     followed = es;
     made = made.made;
     rest = made.rest ++ more;
-    is = append_assoc es (told x) more ∙ ap (λ (ys : List Event). es ++ (ys ++ more)) made.is;
+    is = append_assoc es (outcome_events x) more ∙ ap (λ (ys : List Event). es ++ (ys ++ more)) made.is;
     passes = record { next = go.passes.next; same = kept.same ∙ go.passes.same; goes = kept.passes ∙ go.passes.goes; alike = go.passes.alike };
     request = request_of x;
     of = made.of;
     left = subst (λ (l : List Block). IsLeftBy why (next_event m) l len (request_of x)) go.live left;
   }
 
-  overrun : (g mid h : Replaying) (len last : ℕ) (es more : List Event) (x : Asked) → Going g es → (k < mid.call) × (g.call ≡ k) × (length (events_now g) ≤ g.at) → mid.call ≤ h.call → Made (request_of x) (told x)
-      → Overrun h last (es ++ told x ++ more)
+  overrun : (g mid h : Replaying) (len last : ℕ) (es more : List Event) (x : RequestOutcome) → Going g es → (k < mid.call) × (g.call ≡ k) × (length (events_now g) ≤ g.at) → mid.call ≤ h.call → Made (request_of x) (outcome_events x)
+      → Overrun h last (es ++ outcome_events x ++ more)
   overrun g mid h len last es more x go (past, its, all) rise made = record {
     m = g;
     past = omega (arith, past, rise);
@@ -190,8 +190,8 @@ module _ (k : ℕ) (s : Replaying) (few : k < length s.recorded) where
   few_at g es go = subst (λ (r : List (List Event)). k < length r) (sym go.passes.same) few
 
   -- it was answered, and the rest of the calls follow
-  next_going : (g mid0 mid : Replaying) (es : List Event) (x : Asked) → Going g es → IsOpened g mid0 → IsAnswered x → Does g x mid → mid.stop ≡ mid0.stop → mid.call ≡ mid0.call → mid0.call ≡ k
-      → mid.live ≡ live_along g.live (told x) → Going mid (es ++ told x)
+  next_going : (g mid0 mid : Replaying) (es : List Event) (x : RequestOutcome) → Going g es → IsOpened g mid0 → IsUntrapped x → Replays g x mid → mid.stop ≡ mid0.stop → mid.call ≡ mid0.call → mid0.call ≡ k
+      → mid.live ≡ live_along g.live (outcome_events x) → Going mid (es ++ outcome_events x)
   next_going g mid0 mid es x go o i d stop call its live =
       let one = does_pass g mid x i d in
       record {
@@ -200,14 +200,14 @@ module _ (k : ℕ) (s : Replaying) (few : k < length s.recorded) where
         passes = record {
           next = go.passes.next ++ one.next;
           same = one.same ∙ go.passes.same;
-          goes = one.goes ∙ ap (λ l. l ++ one.next) go.passes.goes ∙ append_assoc (passed s) go.passes.next one.next;
-          alike = alike_then es (told x) go.passes.next one.next go.passes.alike one.alike;
+          goes = one.goes ∙ ap (λ l. l ++ one.next) go.passes.goes ∙ append_assoc (passed_events s) go.passes.next one.next;
+          alike = alike_then es (outcome_events x) go.passes.next one.next go.passes.alike one.alike;
         };
-        live = along_both s.live g.live mid.live es (told x) go.live live;
+        live = along_both s.live g.live mid.live es (outcome_events x) go.live live;
       }
 
-  first_stop : (g m mid h : Replaying) (len last : ℕ) (es : List Event) (calls : List Asked) (q : Request) (before : List ℕ) (after : ℕ) (why : Stop) → Going g es → IsOpened g m → Does g (trapped q before after) mid → mid ≡ stopped m why
-      → IsLeftBy why (next_event m) m.live after q → Chain mid after calls h last → Done h last (es ++ told (trapped q before after) ++ flat_map told calls)
+  first_stop : (g m mid h : Replaying) (len last : ℕ) (es : List Event) (calls : List RequestOutcome) (q : GuestRequest) (before : List ℕ) (after : ℕ) (why : Stop) → Going g es → IsOpened g m → Replays g (trapped q before after) mid → mid ≡ stopped_for m why
+      → IsLeftBy why (next_event m) m.live after q → Chain mid after calls h last → Done h last (es ++ outcome_events (trapped q before after) ++ flat_map outcome_events calls)
   first_stop g m mid h len last es calls q before after why go o d e left rest =
       let stays = stays_stopped mid h after last calls (λ none. absurd (let some : mid.stop ≡ Some why = ap (λ (r : Replaying). r.stop) e in cc)) rest in
       let kept = opened_kept g m o in
@@ -221,29 +221,29 @@ module _ (k : ℕ) (s : Replaying) (few : k < length s.recorded) where
         its_call = its;
         call = stays.1 ∙ place ∙ its;
         at = stays.2 ∙ ap (λ (r : Replaying). r.at) e;
-        left = leave why g m last es (flat_map told calls) (trapped q before after) go kept made
+        left = leave why g m last es (flat_map outcome_events calls) (trapped q before after) go kept made
             (subst (λ (n : ℕ). IsLeftBy why (next_event m) g.live n q) (sym stays.3) (subst (λ (l : List Block). IsLeftBy why (next_event m) l after q) kept.live left));
       })))
-      (λ past. inr (inr (overrun g mid h len last es (flat_map told calls) (trapped q before after) go (subst (λ (n : ℕ). k < n) (sym place) past.0, past.1, past.2) (calls_rise mid h after last calls rest) made)))
+      (λ past. inr (inr (overrun g mid h len last es (flat_map outcome_events calls) (trapped q before after) go (subst (λ (n : ℕ). k < n) (sym place) past.0, past.1, past.2) (calls_rise mid h after last calls rest) made)))
       (opening k g m (few_at g es go) go.in_call o)
 
-  reason_left : (why : Stop) (m : Replaying) (len : ℕ) (q : Request) → IsReason why m len q → IsLeftBy why (next_event m) m.live len q
+  reason_left : (why : Stop) (m : Replaying) (len : ℕ) (q : GuestRequest) → IsReason why m len q → IsLeftBy why (next_event m) m.live len q
   reason_left stop.Differs m len q r = r
   reason_left stop.Unlawful m len q r = r
   reason_left stop.Unfit m len q r = tt
 
   -- one call goes on, or all is told
-  abbrev One : Replaying → List Event → Asked → Replaying → ℕ → List Asked → Type 0
-  One mid es x h last calls = Going mid (es ++ told x) ⊎ Done h last (es ++ told x ++ flat_map told calls)
+  abbrev One : Replaying → List Event → RequestOutcome → Replaying → ℕ → List RequestOutcome → Type 0
+  One mid es x h last calls = Going mid (es ++ outcome_events x) ⊎ Done h last (es ++ outcome_events x ++ flat_map outcome_events calls)
 
-  one_going : (g mid0 mid h : Replaying) (last : ℕ) (es : List Event) (x : Asked) (calls : List Asked) → Going g es → IsOpened g mid0 → IsAnswered x → Does g x mid → mid.stop ≡ mid0.stop → mid.call ≡ mid0.call
-      → mid.live ≡ live_along g.live (told x) → Chain mid (len_after x) calls h last → One mid es x h last calls
+  one_going : (g mid0 mid h : Replaying) (last : ℕ) (es : List Event) (x : RequestOutcome) (calls : List RequestOutcome) → Going g es → IsOpened g mid0 → IsUntrapped x → Replays g x mid → mid.stop ≡ mid0.stop → mid.call ≡ mid0.call
+      → mid.live ≡ live_along g.live (outcome_events x) → Chain mid (to_length x) calls h last → One mid es x h last calls
   one_going g mid0 mid h last es x calls go o i d stop call live rest = ⊎_elim
       (λ its. inl (next_going g mid0 mid es x go o i d stop call its live))
-      (λ past. inr (inr (inr (overrun g mid h (len_after x) last es (flat_map told calls) x go (subst (λ (n : ℕ). k < n) (sym call) past.0, past.1, past.2) (calls_rise mid h (len_after x) last calls rest) (made_in g mid x d)))))
+      (λ past. inr (inr (inr (overrun g mid h (to_length x) last es (flat_map outcome_events calls) x go (subst (λ (n : ℕ). k < n) (sym call) past.0, past.1, past.2) (calls_rise mid h (to_length x) last calls rest) (made_in g mid x d)))))
       (opening k g mid0 (few_at g es go) go.in_call o)
 
-  one : (g mid h : Replaying) (last : ℕ) (x : Asked) (calls : List Asked) (es : List Event) → Going g es → Does g x mid → Chain mid (len_after x) calls h last → One mid es x h last calls
+  one : (g mid h : Replaying) (last : ℕ) (x : RequestOutcome) (calls : List RequestOutcome) (es : List Event) → Going g es → Replays g x mid → Chain mid (to_length x) calls h last → One mid es x h last calls
   one g mid h last (stepped q before after s) calls es go d rest =
       let (n, l, (mid0, grown, b, next, step, e)) = d in
       one_going g mid0 mid h last es (stepped q before after s) calls go (opens q g (length before) mid0 grown b) tt d (ap (λ (r : Replaying). r.stop) e) (ap (λ (r : Replaying). r.call) e)
@@ -262,30 +262,30 @@ module _ (k : ℕ) (s : Replaying) (few : k < length s.recorded) where
       inr (first_stop g mid0 mid h (length before) last es calls q before after why go (opens q g (length before) mid0 after b) (inl (n, (mid0, inr (why, b, reason, e)))) e (reason_left why mid0 after q reason) rest)
   one g mid h last (trapped q before after) calls es go (inr (some, len, e)) rest = absurd (some go.none)
 
-  follow : (g h : Replaying) (len last : ℕ) (calls : List Asked) (es : List Event) → Going g es → Chain g len calls h last → Done h last (es ++ flat_map told calls)
+  follow : (g h : Replaying) (len last : ℕ) (calls : List RequestOutcome) (es : List Event) → Going g es → Chain g len calls h last → Done h last (es ++ flat_map outcome_events calls)
   follow g h len last [] es go (e, f) = inl (subst (λ (xs : List Event). Going h xs) (sym (append-nil es)) (subst (λ (r : Replaying). Going r es) (sym e) go))
-  follow g h len last (x ∷ calls) es go (mid, b, d, rest) = subst (λ (xs : List Event). Done h last xs) (append_assoc es (told x) (flat_map told calls)) (⊎_elim
-      (λ on. follow mid h (len_after x) last calls (es ++ told x) on rest)
+  follow g h len last (x ∷ calls) es go (mid, b, d, rest) = subst (λ (xs : List Event). Done h last xs) (append_assoc es (outcome_events x) (flat_map outcome_events calls)) (⊎_elim
+      (λ on. follow mid h (to_length x) last calls (es ++ outcome_events x) on rest)
       (λ all. all)
       (one g mid h last x calls es go d rest))
 
   -- ---- what was passed of the call
 
   module _ (before : IsBefore k s) where
-    nothing_passed : passed s ≡ events_of_calls k s.recorded
+    nothing_passed : passed_events s ≡ events_of_calls k s.recorded
     nothing_passed = ⊎_elim
         (λ b. ap₂ (λ (n i : ℕ). events_of_calls n s.recorded ++ take i (events_now s)) b.0 b.1 ∙ ap (λ (n : ℕ). events_of_calls n s.recorded ++ []) (sym b.0) ∙ append-nil (events_of_calls s.call s.recorded) ∙ ap (λ (n : ℕ). events_of_calls n s.recorded) b.0)
         (λ b. ap (λ (l : List Event). events_of_calls s.call s.recorded ++ l) (take_whole s.at (events_now s) b.1) ∙ sym (events_taken s.call s.recorded) ∙ ap (λ (n : ℕ). events_of_calls n s.recorded) b.0)
         before
 
     -- at a place of the call
-    next_at : (m : Replaying) (es : List Event) → Passes s m es → m.call ≡ k → AllAlike es (take m.at (call_events s.recorded k))
+    next_at : (m : Replaying) (es : List Event) → PassesRecorded s m es → m.call ≡ k → AreAlike es (take m.at (call_events s.recorded k))
     next_at m es p its =
-        let there : passed m ≡ events_of_calls k s.recorded ++ take m.at (call_events s.recorded k) =
+        let there : passed_events m ≡ events_of_calls k s.recorded ++ take m.at (call_events s.recorded k) =
         ap₂ (λ (r : List (List Event)) (n : ℕ). events_of_calls n r ++ take m.at (call_events r n)) p.same its in
         let both : events_of_calls k s.recorded ++ p.next ≡ events_of_calls k s.recorded ++ take m.at (call_events s.recorded k) =
         ap (λ (l : List Event). l ++ p.next) (sym nothing_passed) ∙ sym p.goes ∙ there in
-        subst (λ (l : List Event). AllAlike es l) (append_cancel_left (events_of_calls k s.recorded) p.next (take m.at (call_events s.recorded k)) both) p.alike
+        subst (λ (l : List Event). AreAlike es l) (append_cancel_left (events_of_calls k s.recorded) p.next (take m.at (call_events s.recorded k)) both) p.alike
 
     abbrev its : List Event
     its = call_events s.recorded k
@@ -294,16 +294,16 @@ module _ (k : ℕ) (s : Replaying) (few : k < length s.recorded) where
     follows h es go = ⊎_elim
         (λ e. record { going = go.none; same = go.passes.same; in_call = go.in_call; count = h.at; passes = inl (e, refl); alike = next_at h es go.passes e; live = go.live })
         (λ b.
-        let there : passed h ≡ events_of_calls k s.recorded =
+        let there : passed_events h ≡ events_of_calls k s.recorded =
         ap (λ (l : List Event). events_of_calls h.call h.recorded ++ l) (take_whole h.at (events_now h) b.1) ∙ sym (events_taken h.call h.recorded) ∙ ap₂ (λ (n : ℕ) (r : List (List Event)). events_of_calls n r) b.0 go.passes.same in
-        let none : go.passes.next ≡ [] = append_cancel_left (passed s) go.passes.next [] (sym go.passes.goes ∙ there ∙ sym nothing_passed ∙ sym (append-nil (passed s))) in
-        record { going = go.none; same = go.passes.same; in_call = go.in_call; count = 0; passes = inr (b.0, refl); alike = subst (λ (l : List Event). AllAlike es l) none go.passes.alike; live = go.live })
+        let none : go.passes.next ≡ [] = append_cancel_left (passed_events s) go.passes.next [] (sym go.passes.goes ∙ there ∙ sym nothing_passed ∙ sym (append-nil (passed_events s))) in
+        record { going = go.none; same = go.passes.same; in_call = go.in_call; count = 0; passes = inr (b.0, refl); alike = subst (λ (l : List Event). AreAlike es l) none go.passes.alike; live = go.live })
         go.in_call
 
     place_of : (m : Replaying) (n : ℕ) → m.recorded ≡ s.recorded → m.call ≡ k → n ≡ m.at → next_event m ≡ slice_get its n
     place_of m n same e at = ap₂ (λ (r : List (List Event)) (i : ℕ). slice_get (call_events r i) m.at) same e ∙ ap (λ (i : ℕ). slice_get its i) (sym at)
 
-    stops : (h : Replaying) (len : ℕ) (es : List Event) → Stopped h len es → Stops k s h len es
+    stops : (h : Replaying) (len : ℕ) (es : List Event) → Stopped h len es → TrapsInCall k s h len es
     stops h len es x = (
       x.why,
       x.stop,
@@ -313,7 +313,7 @@ module _ (k : ℕ) (s : Replaying) (few : k < length s.recorded) where
         made = x.left.made;
         rest = x.left.rest;
         is = x.left.is;
-        alike = subst (λ (n : ℕ). AllAlike x.left.followed (take n its)) (sym x.at) (next_at x.m x.left.followed x.left.passes x.its_call);
+        alike = subst (λ (n : ℕ). AreAlike x.left.followed (take n its)) (sym x.at) (next_at x.m x.left.followed x.left.passes x.its_call);
         request = x.left.request;
         of = x.left.of;
         left = subst (λ (o : Option Event). IsLeftBy x.why o (live_along s.live x.left.followed) len x.left.request) (place_of x.m h.at x.left.passes.same x.its_call x.at) x.left.left;
@@ -333,14 +333,14 @@ module _ (k : ℕ) (s : Replaying) (few : k < length s.recorded) where
         made = x.left.made;
         rest = x.left.rest;
         is = x.left.is;
-        alike = subst (λ (l : List Event). AllAlike x.left.followed l) (whole_at x.m x.left.passes.same x.its_call x.all) (next_at x.m x.left.followed x.left.passes x.its_call);
+        alike = subst (λ (l : List Event). AreAlike x.left.followed l) (whole_at x.m x.left.passes.same x.its_call x.all) (next_at x.m x.left.followed x.left.passes x.its_call);
         request = x.left.request;
         of = x.left.of;
         left = subst (λ (o : Option Event). ¬ (IsNext o x.left.request)) (sym (slice_get_past its (length its) (omega arith))) (λ n. n);
       },
     )
 
-    done : (h : Replaying) (len : ℕ) (es : List Event) → Done h len es → Follows k s h es ⊎ Stops k s h len es ⊎ Overruns k s h len es
+    done : (h : Replaying) (len : ℕ) (es : List Event) → Done h len es → Follows k s h es ⊎ TrapsInCall k s h len es ⊎ Overruns k s h len es
     done h len es (inl go) = inl (follows h es go)
     done h len es (inr (inl x)) = inr (inl (stops h len es x))
     done h len es (inr (inr x)) = inr (inr (overruns h len es x))
@@ -354,8 +354,8 @@ moves_follow k g h events none few before moves =
     let go : Going k g.guest few g.guest [] = record {
       none = none;
       in_call = in_call_before k g.guest before;
-      passes = record { next = []; same = refl; goes = sym (append-nil (passed g.guest)); alike = refl };
+      passes = record { next = []; same = refl; goes = sym (append-nil (passed_events g.guest)); alike = refl };
       live = refl;
     } in
-    subst (λ (es : List Event). Follows k g.guest h.guest es ⊎ Stops k g.guest h.guest h.len es ⊎ Overruns k g.guest h.guest h.len es) (sym moves.told_by)
-    (done k g.guest few before h.guest h.len (flat_map told moves.calls) (follow k g.guest few g.guest h.guest g.len h.len moves.calls [] go moves.chain))
+    subst (λ (es : List Event). Follows k g.guest h.guest es ⊎ TrapsInCall k g.guest h.guest h.len es ⊎ Overruns k g.guest h.guest h.len es) (sym moves.told_by)
+    (done k g.guest few before h.guest h.len (flat_map outcome_events moves.calls) (follow k g.guest few g.guest h.guest g.len h.len moves.calls [] go moves.chain))

@@ -12,7 +12,7 @@ IsFree live c answer = (i : ℕ) → InOthers live c i → InBlocks (new_block c
 
 -- Of an answer in a memory of so many bytes: it is below 2 ^ 32 and aligned, its block ends inside memory and is apart from every other block
 -- that lives, and the bytes that are to be kept are in memory.
-pub record IsLawful (live : List Block) (len : ℕ) (c : Call) (answer : ℕ) : Type 0 where
+pub record IsLawfulAnswer (live : List Block) (len : ℕ) (c : Call) (answer : ℕ) : Type 0 where
   pub narrow : answer < 2 ^ 32
   pub aligned : answer % c.align ≡ 0
   pub inside : answer + c.new_size ≤ len
@@ -23,20 +23,20 @@ abbrev pub IsNotEmpty : Block → Type 0
 IsNotEmpty b = 0 < b.size
 
 -- no block is empty, and each ends at an address or before
-abbrev pub IsKept : ℕ → Block → Type 0
-IsKept end b = IsNotEmpty b × BlockEndsBy end b
+abbrev pub IsLiveUpTo : ℕ → Block → Type 0
+IsLiveUpTo end b = IsNotEmpty b × BlockEndsBy end b
 
-abbrev pub AreKept : ℕ → List Block → Type 0
-AreKept end live = All (IsKept end) live
+abbrev pub AreLiveUpTo : ℕ → List Block → Type 0
+AreLiveUpTo end live = All (IsLiveUpTo end) live
 
 -- all end at one address or before, and those before the last of the list at another
 abbrev pub AreListed : List Block → ℕ → ℕ → Type 0
-AreListed live end before = AreKept end live × AreKept before (take (length live - 1) live)
+AreListed live end before = AreLiveUpTo end live × AreLiveUpTo before (take (length live - 1) live)
 
 -- the block is the last of the list, and starts where those before it end, or after
-abbrev pub EndsIn : List Block → ℕ → Block → Type 0
-EndsIn live before b = (live ≡ take (length live - 1) live ++ b ∷ []) × (before ≤ b.start) × (0 < length live)
+abbrev pub IsHighestBlock : List Block → ℕ → Block → Type 0
+IsHighestBlock live before b = (live ≡ take (length live - 1) live ++ b ∷ []) × (before ≤ b.start) × (0 < length live)
 
 -- a block is the old one, or apart from the new one
-abbrev pub IsOther : Block → Block → Block → Type 0
-IsOther old new b = (b ≡ old) ⊎ BlocksApart b new
+abbrev pub IsOldOrApart : Block → Block → Block → Type 0
+IsOldOrApart old new b = (b ≡ old) ⊎ BlocksApart b new

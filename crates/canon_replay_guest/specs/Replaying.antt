@@ -1,11 +1,12 @@
 -- What a guest that replays has before it, and where it is.
-use Rattle.std.specs.Prelude.{List, None, Option, Some, [], flat_map, length, min, nat_eq, if◌then◌else◌, replicate, slice_get, take, true, ⊤, ℕ, ◌++◌, ◌+◌, ◌-◌, ◌<◌, ◌^◌, ◌∷◌, ◌≡◌, ◌≤◌, ◌⊎◌}
+use Rattle.std.specs.Prelude.{List, None, Option, Some, [], flat_map, length, nat_eq, if◌then◌else◌, replicate, slice_get, take, true, ⊤, ℕ, ◌++◌, ◌+◌, ◌-◌, ◌<◌, ◌^◌, ◌∷◌, ◌≡◌, ◌≤◌, ◌⊎◌}
 use Rattle.std.specs.List.{copy_within}
 use Rattle.canon_model.specs.Memory.{Block}
 use Rattle.canon_model.specs.Requests.{Call}
 use Rattle.canon_memory.specs.declared.event.Event.{Event}
 use Rattle.canon_memory.specs.declared.event.Event.TheVariants as event
 use Rattle.canon_memory.specs.Guest.{Mark, Seen}
+use Rattle.canon_scripted.specs.Scripted.{raised_count}
 use Rattle.canon_replay_guest.specs.declared.stop.Stop.{Stop}
 
 -- The recorded events of each call; at which call it is, and how many of its events were passed; why it trapped first; the blocks that live;
@@ -43,26 +44,26 @@ abbrev pub events_of_calls : ℕ → List (List Event) → List Event
 events_of_calls k recorded = flat_map (λ (events : List Event). events) (take k recorded)
 
 -- the recorded events that it passed
-abbrev pub passed : Replaying → List Event
-passed g = events_of_calls g.call g.recorded ++ take g.at (events_now g)
+abbrev pub passed_events : Replaying → List Event
+passed_events g = events_of_calls g.call g.recorded ++ take g.at (events_now g)
 
 -- each answer of `realloc` that it gave was lawful, and it changed no byte outside the block
 abbrev pub marks_of_event : Event → List Mark
 marks_of_event (event.Realloc old old_size align new_size answer) = record { lawful = true; tidy = true } ∷ []
 marks_of_event _ = []
 
-abbrev pub seen_of : Replaying → Seen
-seen_of g = record { journal = None; marks = flat_map marks_of_event (passed g); live = g.live; traps = g.traps; shortages = g.shortages }
+abbrev pub replay_seen : Replaying → Seen
+replay_seen g = record { journal = None; marks = flat_map marks_of_event (passed_events g); live = g.live; traps = g.traps; shortages = g.shortages }
 
 -- ---- where a call begins
 
 -- the events of this call are passed, and there is another call
-abbrev pub IsOver : Replaying → Type 0
-IsOver g = (length (events_now g) ≤ g.at) × (g.call < length g.recorded)
+abbrev pub IsCallOver : Replaying → Type 0
+IsCallOver g = (length (events_now g) ≤ g.at) × (g.call < length g.recorded)
 
 -- at the next call, where this one is over
 abbrev pub IsOpened : Replaying → Replaying → Type 0
-IsOpened g h = (IsOver g × (h ≡ record g { call = g.call + 1; at = 0 })) ⊎ (¬ (IsOver g) × (h ≡ g))
+IsOpened g h = (IsCallOver g × (h ≡ record g { call = g.call + 1; at = 0 })) ⊎ (¬ (IsCallOver g) × (h ≡ g))
 
 -- the length of the memory in which a call is started, by its recorded events
 abbrev pub start_length : List Event → ℕ → ℕ
@@ -79,8 +80,8 @@ abbrev pub CanGrow : ℕ → ℕ → Type 0
 CanGrow len wanted = (len ≤ wanted) × (wanted ≤ 2 ^ 32)
 
 -- zeros are added up to a length
-abbrev pub grown : List ℕ → ℕ → List ℕ
-grown bytes len = bytes ++ replicate (len - length bytes) 0
+abbrev pub grown_to : List ℕ → ℕ → List ℕ
+grown_to bytes len = bytes ++ replicate (len - length bytes) 0
 
 -- so many bytes at one address, copied to another
 abbrev pub moved : List ℕ → ℕ → ℕ → ℕ → List ℕ
@@ -88,13 +89,9 @@ moved bytes from to count = copy_within bytes from (from + count) to
 
 -- ---- its counts
 
--- it stands still at the last number of a `u64`
-abbrev pub raised_count : ℕ → ℕ
-raised_count n = min (n + 1) (2 ^ 64 - 1)
-
 -- a trap for this reason, unless it trapped before
-abbrev pub stopped : Replaying → Stop → Replaying
-stopped g why = record g { stop = Some why; traps = raised_count g.traps }
+abbrev pub stopped_for : Replaying → Stop → Replaying
+stopped_for g why = record g { stop = Some why; traps = raised_count g.traps }
 
 abbrev pub trapped_again : Replaying → Replaying
 trapped_again g = record g { traps = raised_count g.traps }

@@ -1,8 +1,8 @@
 //! A guest that does what was recorded of one.
 
 ghost use Rattle.std.specs.Prelude.{◌≡◌, ◌↔◌, ◌<◌, ◌^◌, ◌%◌, ◌+◌, ◌≤◌, IsTrue};
-ghost use Rattle.canon_replay_guest.specs.Moves.{ReplayMoves, moves_nothing, moves_then};
-ghost use Rattle.canon_replay_guest.specs.Replaying.{seen_of};
+ghost use Rattle.canon_replay_guest.specs.Moves.{ReplayMoves, replay_moves_nothing, replay_moves_then};
+ghost use Rattle.canon_replay_guest.specs.Replaying.{replay_seen};
 
 use crate::live::LiveBlocks;
 use crate::recorded::{
@@ -44,10 +44,10 @@ impl ReplayGuest {
     ghost use Rattle.std.specs.Prelude.{◌≡◌, ◌≤◌, ◌<◌, ◌^◌, ◌↔◌, None, List, ℕ, [], IsTrue, length};
     ghost use Rattle.std.specs.Option.{option_map};
     ghost use Rattle.canon_memory.specs.Realloc.{call};
-    ghost use Rattle.canon_replay_guest.specs.Lawful.{IsLawful};
-    ghost use Rattle.canon_replay_guest.specs.Leaves.{Answers, Began, DoesEnd, DoesStep, IsLater, Reallocated, Stepped, run_out};
+    ghost use Rattle.canon_replay_guest.specs.Lawful.{IsLawfulAnswer};
+    ghost use Rattle.canon_replay_guest.specs.Leaves.{AnswersAsRecorded, Began, DoesEnd, DoesStep, IsLater, ReallocatesAsRecorded, StepsAsRecorded, run_out};
     ghost use Rattle.canon_replay_guest.specs.Moves.{destroys, posts, resumes, starts};
-    ghost use Rattle.canon_replay_guest.specs.Replaying.{IsOpened, events_now, next_event, stopped, trapped_again, wanted_length};
+    ghost use Rattle.canon_replay_guest.specs.Replaying.{IsOpened, call_events, events_now, next_event, stopped_for, trapped_again, wanted_length};
 
     /// A guest to which these events were recorded, call by call.
     pub fn new(alloc: Global, calls: Vec<Events>) -> Self
@@ -86,6 +86,13 @@ impl ReplayGuest {
         self.at
     }
 
+    /// How many events are recorded of a call.
+    pub fn event_count(&self, call: u64) -> u64
+        ensures { result ≡ length (call_events self.now.recorded call) }
+    {
+        events_of(&self.calls, call).len() as u64
+    }
+
     /// The recorded event that comes next.
     fn next(&self) -> Option<&Event>
         ensures { option_map (λ e. e.now) result ≡ next_event self.now }
@@ -103,7 +110,7 @@ impl ReplayGuest {
     /// Traps for a reason.
     fn trap(&mut self, why: Stop) -> GuestFault
         ensures fault { result ≡ GuestFault.Trap }
-        ensures stops { self.new ≡ stopped self.old why }
+        ensures stops { self.new ≡ stopped_for self.old why }
         ensures later { IsLater self.old self.new }
     {
         self.stop = Some(why);
@@ -174,7 +181,7 @@ impl ReplayGuest {
     /// Makes the recorded step after the next event.
     fn step(&mut self, memory: &mut Memory) -> Result<Step, GuestFault>
         requires { self.old.at < length (events_now self.old) }
-        ensures stepped { Stepped self.old memory.old.bytes self.new memory.new.bytes result }
+        ensures stepped { StepsAsRecorded self.old memory.old.bytes self.new memory.new.bytes result }
         ensures no_shorter { length memory.old.bytes ≤ length memory.new.bytes }
         ensures later { IsLater self.old self.new }
         ensures width { memory.new.wide ≡ memory.old.wide }
@@ -206,7 +213,7 @@ impl ReplayGuest {
         requires narrow { old < 2 ^ 32 }
         requires old_sized { old_size < 2 ^ 32 }
         requires new_sized { new_size < 2 ^ 32 }
-        ensures { IsTrue result ↔ IsLawful self.now.live len (call old old_size align new_size) answer }
+        ensures { IsTrue result ↔ IsLawfulAnswer self.now.live len (call old old_size align new_size) answer }
     {
         if !is_placed(len, align, new_size, answer) || old + old_size.min(new_size) > len {
             return false;
@@ -227,7 +234,7 @@ impl ReplayGuest {
         requires narrow { old < 2 ^ 32 }
         requires old_sized { old_size < 2 ^ 32 }
         requires new_sized { new_size < 2 ^ 32 }
-        ensures answers { Answers self.old memory.old.bytes (call old old_size align new_size) self.new memory.new.bytes result }
+        ensures answers { AnswersAsRecorded self.old memory.old.bytes (call old old_size align new_size) self.new memory.new.bytes result }
         ensures later { IsLater self.old self.new }
         ensures width { memory.new.wide ≡ memory.old.wide }
     {
@@ -290,7 +297,7 @@ impl ReplayGuest {
         requires narrow { old < 2 ^ 32 }
         requires old_sized { old_size < 2 ^ 32 }
         requires new_sized { new_size < 2 ^ 32 }
-        ensures does { Reallocated self.old memory.old.bytes (call old old_size align new_size) self.new memory.new.bytes result }
+        ensures does { ReallocatesAsRecorded self.old memory.old.bytes (call old old_size align new_size) self.new memory.new.bytes result }
         ensures later { IsLater self.old self.new }
         ensures width { memory.new.wide ≡ memory.old.wide }
     {
@@ -339,15 +346,15 @@ fn is_placed(len: u64, align: u32, new_size: u64, answer: u64) -> bool
 }
 
 impl Guest for ReplayGuest {
-    ghost seen = { seen_of };
+    ghost seen = { replay_seen };
 
     ghost moves = { λ g events h. ReplayMoves g events h };
 
     ghost leaves = { λ m n. n ≡ m };
 
-    ghost stays = { λ g. moves_nothing g };
+    ghost stays = { λ g. replay_moves_nothing g };
 
-    ghost goes_on = { λ g h k xs ys f e. moves_then g h k xs ys f e };
+    ghost goes_on = { λ g h k xs ys f e. replay_moves_then g h k xs ys f e };
 
     fn start(
         &mut self,

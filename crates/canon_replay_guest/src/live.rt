@@ -4,8 +4,8 @@ ghost use Rattle.std.specs.Prelude.{◌≡◌, ◌+◌, ◌<◌, ◌^◌, ◌↔
 ghost use Rattle.std.specs.List.{All};
 ghost use Rattle.canon_memory.specs.Realloc.{block, call};
 ghost use Rattle.canon_memory.specs.Watch.{BlocksApart, is_block, other_blocks, unless_empty};
-ghost use Rattle.canon_replay_guest.specs.Lawful.{AreListed, EndsIn, IsNotEmpty, IsOther};
-ghost use Rattle.std.specs.Vec.{vec_len, vec_capacity};
+ghost use Rattle.canon_replay_guest.specs.Lawful.{AreListed, IsHighestBlock, IsNotEmpty, IsOldOrApart};
+ghost use Rattle.std.specs.Vec.{vec_capacity, vec_len};
 
 use std::alloc::Global;
 use std::marker::Model;
@@ -156,14 +156,14 @@ fn are_apart(b: LiveBlock, c: LiveBlock) -> bool
 
 /// Whether a block is the old one, or has no address in common with the new one.
 fn is_other(b: LiveBlock, old: LiveBlock, new: LiveBlock) -> bool
-    ensures { IsTrue result ↔ IsOther old new b }
+    ensures { IsTrue result ↔ IsOldOrApart old new b }
 {
     is_same(b, old) || are_apart(b, new)
 }
 
 /// Whether each block is the old one or has no address in common with the new one.
 fn are_free(blocks: &[LiveBlock], old: LiveBlock, new: LiveBlock) -> bool
-    ensures { IsTrue result ↔ All (IsOther old new) blocks.now }
+    ensures { IsTrue result ↔ All (IsOldOrApart old new) blocks.now }
 {
     for b in blocks {
         if !is_other(*b, old, new) {
@@ -175,7 +175,7 @@ fn are_free(blocks: &[LiveBlock], old: LiveBlock, new: LiveBlock) -> bool
 
 /// Whether a block is the last of the list and starts where those before it end, or after.
 fn ends_in(blocks: &[LiveBlock], before: u64, old: LiveBlock) -> bool
-    ensures { IsTrue result → EndsIn blocks.now before old }
+    ensures { IsTrue result → IsHighestBlock blocks.now before old }
 {
     match blocks.last() {
         Some(last) => is_same(*last, old) && before <= u64::from(old.start),

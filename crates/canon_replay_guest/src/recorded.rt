@@ -3,8 +3,8 @@
 ghost use Rattle.std.specs.Prelude.{◌≡◌, ◌↔◌, ◌≤◌, ◌+◌, List, Err, None, Ok, Some, IsTrue, MatchOption, MatchResult, OnErr, OnOk, length, slice_get};
 ghost use Rattle.std.specs.Option.{option_map};
 ghost use Rattle.canon_memory.specs.Realloc.{call};
-ghost use Rattle.canon_replay_guest.specs.Replaying.{CanGrow, call_events, grown, moved, start_length};
-ghost use Rattle.canon_replay_guest.specs.Moves.{IsAnswer, IsNext, TakesStep, posts, reallocates, resumes, starts};
+ghost use Rattle.canon_replay_guest.specs.Replaying.{CanGrow, call_events, grown_to, moved, start_length};
+ghost use Rattle.canon_replay_guest.specs.Moves.{IsNext, IsRecordedAnswer, TakesStep, posts, reallocates, resumes, starts};
 
 use canon_memory::{Event, Events, GuestFault, Memory, MemoryError, Step, ValRaw, Words};
 use std::alloc::Global;
@@ -93,7 +93,7 @@ pub(crate) fn answer_of(
     align: u32,
     new_size: u64,
 ) -> Option<u64>
-    ensures { MatchOption result (¬ (IsNext (option_map (λ e. e.now) event.entry) (reallocates (call old old_size align new_size)))) (λ answer. IsAnswer (option_map (λ e. e.now) event.entry) (call old old_size align new_size) answer) }
+    ensures { MatchOption result (¬ (IsNext (option_map (λ e. e.now) event.entry) (reallocates (call old old_size align new_size)))) (λ answer. IsRecordedAnswer (option_map (λ e. e.now) event.entry) (call old old_size align new_size) answer) }
 {
     match event {
         Some(
@@ -171,7 +171,7 @@ fn put(memory: &mut Memory, bytes: &[u8]) -> Result<(), GuestFault>
 
 /// Grows memory to a length. It traps where memory is longer, or that is too long.
 pub(crate) fn grow_to(memory: &mut Memory, len: u64) -> Result<(), GuestFault>
-    ensures ok { OnOk result ((memory.new.bytes ≡ grown memory.old.bytes len) × CanGrow (length memory.old.bytes) len) }
+    ensures ok { OnOk result ((memory.new.bytes ≡ grown_to memory.old.bytes len) × CanGrow (length memory.old.bytes) len) }
     ensures err { OnErr result (memory.new ≡ memory.old) }
     ensures trap { (result ≡ Err GuestFault.Trap) ↔ ¬ (CanGrow (length memory.old.bytes) len) }
     ensures width { memory.new.wide ≡ memory.old.wide }

@@ -10,5 +10,5 @@ returns g c =
       lowers =
           lowers_at g.G.Guest.seen g.G.Guest.moves c.args.core.now cx.core.now after _ c.args.export.now.options cx.options c.args.tuple c.args.params.now c.lower_args.new.dst c.lower_args.result c.new-cx.ensures.core
           c.new-cx.ensures.options (search rules)
-          (record { crosses = c.lower_args.ensures.lowered; cause = c.lower_args.ensures.cause; small = c.lower_args.ensures.small; quiet = c.lower_args.ensures.quiet; moved = c.lower_args.ensures.moves; same = c.lower_args.ensures.same_core });
+          (record { crosses = c.lower_args.ensures.lowered; cause = c.lower_args.ensures.cause; small = c.lower_args.ensures.small; quiet = c.lower_args.ensures.quiet; same = c.lower_args.ensures.same_core });
     }

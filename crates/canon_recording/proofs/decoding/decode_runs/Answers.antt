@@ -1,7 +1,7 @@
 use Rattle.std.proofs.Common.{length, refl, subst, sym, ◌<◌}
 use Rattle.std.proofs.Common.{All, ◌^◌}
 use Rattle.canon_recording.specs.Fits.{AreRuns, IsNoRunAt}
-use Rattle.canon_recording.specs.Recordings.{exports_of, imports_of, recorded_calls, RecordedCall}
+use Rattle.canon_recording.specs.Recordings.{RecordedCall, exports_of, imports_of, recorded_calls}
 use Rattle.canon_recording.proofs.Deciding.{written_few, written_known}
 use Rattle.canon_recording.proofs.decoding.decode_runs.Goals as goal
 

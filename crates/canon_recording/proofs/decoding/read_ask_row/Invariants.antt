@@ -1,11 +1,11 @@
 use Rattle.std.proofs.Common.{true}
-use Rattle.canon_recording_parts.specs.Format.{row}
-use Rattle.canon_recording_parts.specs.Read.{AreRead}
+use Rattle.canon_recording_parts.specs.Format.{in_a_row}
+use Rattle.canon_recording_parts.specs.Read.{IsReadSoFar}
 use Rattle.canon_recording.specs.Recordings.{an_ask, exports_of, imports_of, served_asks}
 use Rattle.canon_recording.proofs.decoding.read_ask_row.Given as goal
 
 -- so many were read
 abbrev pub invariant-loop : goal.invariant-loop
 invariant-loop l = record {
-  read : AreRead (row (an_ask true (exports_of l.c) (imports_of l.c)) l.counter) l.bytes l.fn.at l.at (served_asks l.asks.items);
+  read : IsReadSoFar (in_a_row (an_ask true (exports_of l.c) (imports_of l.c)) l.counter) l.bytes l.fn.at l.at (served_asks l.asks.items);
 }

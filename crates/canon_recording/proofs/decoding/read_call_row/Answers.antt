@@ -1,6 +1,6 @@
 use Rattle.std.proofs.Common.{arith, subst, sym, true}
-use Rattle.canon_recording_parts.specs.Format.{row}
-use Rattle.canon_recording_parts.specs.Read.{AreRead}
+use Rattle.canon_recording_parts.specs.Format.{in_a_row}
+use Rattle.canon_recording_parts.specs.Read.{IsReadSoFar}
 use Rattle.canon_recording.specs.Recordings.{a_call, exports_of, imports_of, recorded_call, recorded_calls}
 use Rattle.canon_recording_parts.proofs.Reading.{row_begin, row_done, row_stop}
 use Rattle.canon_recording.proofs.Rows.{seen_go_on}
@@ -10,7 +10,7 @@ pub read_call-requires-clause-inside : goal.read_call-requires-clause-inside
 read_call-requires-clause-inside c = c.loop.invariant.read.span.inside
 
 pub loop-init : goal.loop-init
-loop-init c = record { read = subst (λ xs. AreRead (row (a_call true (exports_of c.args.c.now) (imports_of c.args.c.now)) 0) c.args.bytes.now c.args.at.now c.args.at.now (recorded_calls xs)) (sym c.new-calls.ensures.items) (row_begin (a_call true (exports_of c.args.c.now) (imports_of c.args.c.now)) c.args.bytes.now c.args.at.now c.requires.inside) }
+loop-init c = record { read = subst (λ xs. IsReadSoFar (in_a_row (a_call true (exports_of c.args.c.now) (imports_of c.args.c.now)) 0) c.args.bytes.now c.args.at.now c.args.at.now (recorded_calls xs)) (sym c.new-calls.ensures.items) (row_begin (a_call true (exports_of c.args.c.now) (imports_of c.args.c.now)) c.args.bytes.now c.args.at.now c.requires.inside) }
 
 pub loop-preserved : goal.loop-preserved
 loop-preserved c =

@@ -1,7 +1,7 @@
 use Rattle.std.proofs.Common.{◌<◌}
 use Rattle.canon_recording_parts.specs.Events.{ask_event, words_and_memory}
 use Rattle.canon_recording_parts.specs.Format.{also, number}
-use Rattle.canon_recording_parts.proofs.Reading.{both_read, first_stops, second_stops, named, named_stops}
+use Rattle.canon_recording_parts.proofs.Reading.{both_read, first_stops, named, named_stops, second_stops}
 use Rattle.canon_recording_parts.proofs.read.read_ask.Goals as goal
 
 pub returns-in-Ok-read_words_and_memory : goal.returns-in-Ok-read_words_and_memory

@@ -1,7 +1,7 @@
 use Rattle.std.proofs.Common.{arith, length, take, drop, subst, sym, ◌+◌, ◌-◌, ◌≤◌, ◌≡◌}
 use Rattle.std.specs.Prelude.{⊤}
 use Rattle.std.proofs.Common.{Ok}
-use Rattle.canon_recording_parts.specs.Read.{ReadsTo}
+use Rattle.canon_recording_parts.specs.Read.{ReadsFormat}
 use Rattle.canon_recording_parts.specs.Events.{byte_list, raw}
 use Rattle.canon_recording_parts.specs.Format.{any_number}
 use Rattle.canon_recording_parts.proofs.Reading.{block_read, block_short, number_stops, ok_inside}
@@ -15,7 +15,7 @@ returns-else-bytes-at c =
     let room : mid + n ≤ length bs = omega (arith, c.if-bytes-at.false, (ok_inside (any_number 8) bs c.args.at.now mid n c.in-Ok.ensures.reads)) in
     let count : mid + n - mid ≡ n = omega arith in
     let read = block_read bs c.args.at.now mid n room c.in-Ok.ensures.reads in
-    record { reads = subst (λ k. ReadsTo byte_list bs c.args.at.now (mid + n) (Ok (take k (drop mid bs)))) (sym count) read }
+    record { reads = subst (λ k. ReadsFormat byte_list bs c.args.at.now (mid + n) (Ok (take k (drop mid bs)))) (sym count) read }
 
 pub returns-then-bytes-at : goal.returns-then-bytes-at
 returns-then-bytes-at c =

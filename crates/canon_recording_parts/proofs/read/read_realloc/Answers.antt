@@ -1,6 +1,6 @@
 use Rattle.canon_recording_parts.specs.Events.{realloc_event, two_numbers}
 use Rattle.canon_recording_parts.specs.Format.{also, any_number}
-use Rattle.canon_recording_parts.proofs.Reading.{both_read, first_stops, second_stops, named, named_stops}
+use Rattle.canon_recording_parts.proofs.Reading.{both_read, first_stops, named, named_stops, second_stops}
 use Rattle.canon_recording_parts.proofs.read.read_realloc.Goals as goal
 
 pub returns-in-Ok-read_answer : goal.returns-in-Ok-read_answer

@@ -1,10 +1,10 @@
 use Rattle.std.specs.Prelude.{⊤}
-use Rattle.canon_recording_parts.specs.Format.{any_number, row}
+use Rattle.canon_recording_parts.specs.Format.{any_number, in_a_row}
 use Rattle.canon_recording_parts.proofs.Reading.{number_stops, rest_read}
 use Rattle.canon_recording_parts.proofs.read.read_words.Goals as goal
 
 pub returns-in-Ok : goal.returns-in-Ok
-returns-in-Ok c = record { reads = rest_read 4 (λ n. ⊤) (row (any_number 8)) c.args.bytes.now c.args.at.now c.read_u32.new.at c.read_word_row.new.at c.read_u32.new.at c.in-Ok.count c.read_word_row.result c.in-Ok.ensures.reads c.read_word_row.ensures.reads }
+returns-in-Ok c = record { reads = rest_read 4 (λ n. ⊤) (in_a_row (any_number 8)) c.args.bytes.now c.args.at.now c.read_u32.new.at c.read_word_row.new.at c.read_u32.new.at c.in-Ok.count c.read_word_row.result c.in-Ok.ensures.reads c.read_word_row.ensures.reads }
 
 pub returns-in-Err : goal.returns-in-Err
-returns-in-Err c = record { reads = number_stops 4 (λ n. ⊤) (row (any_number 8)) c.args.bytes.now c.args.at.now c.read_u32.new.at c.read_u32.new.at c.read_u32.new.at c.in-Err.error c.in-Err.ensures.reads }
+returns-in-Err c = record { reads = number_stops 4 (λ n. ⊤) (in_a_row (any_number 8)) c.args.bytes.now c.args.at.now c.read_u32.new.at c.read_u32.new.at c.read_u32.new.at c.in-Err.error c.in-Err.ensures.reads }

@@ -1,4 +1,4 @@
-use Rattle.std.proofs.Common.{rules, not}
+use Rattle.std.proofs.Common.{not, rules}
 use Rattle.std.proofs.lemmas.Fn.{filter_same}
 use Rattle.canon_memory.specs.Watch.{is_block}
 use Rattle.canon_replay_guest.proofs.Blocks.{given_up_none}
