@@ -1,8 +1,8 @@
 -- A call by the bytes of its parameters.
-use Rattle.std.proofs.Common.{Err, List, None, Ok, Option, Result, Some, Vec, ap, drop, length, refl, subst, take, true, ℕ, ◌++◌, ◌∙◌, ◌≡◌}
+use Rattle.std.proofs.Common.{Err, List, None, Ok, Option, Result, Some, Vec, ap, drop, inl, inr, length, refl, subst, take, true, ℕ, ◌++◌, ◌∙◌, ◌≡◌, ◌⊎◌}
 use Rattle.std.proofs.Math.Seq.{take-append_seam}
 use Rattle.std.proofs.lemmas.Bool.{false≢true}
-use Rattle.std.specs.Prelude.{IfOk, IfSome, IsSome, slice_get}
+use Rattle.std.specs.Prelude.{IfOk, IfSome, IsSome, OnErr, slice_get}
 use Rattle.std.specs.declared.alloc.Global.{Global}
 use Rattle.canon_image_parts.specs.declared.error.ImageError.{ImageError}
 use Rattle.canon_types.specs.Table.{shape_of, types_of}
@@ -16,12 +16,20 @@ use Rattle.canon_func.specs.Stores.{Named, type_in, type_of}
 use Rattle.canon_func.specs.declared.error.Error.{Error}
 use Rattle.canon_val.specs.declared.val.Val.{Val}
 use Rattle.canon_val.specs.declared.val.Val.TheVariants as val
-use Rattle.canon_serve.specs.Carries.{AnswersCall, CalledBy, CalledOf, CallsExport, EngineParts, EngineStore, IsReadParams, IsSenseless, TellsCall, results_tuple_shape}
+use Rattle.canon_serve.specs.Carries.{AnswersCall, CalledBy, CalledOf, CallsExport, CallsShort, EngineParts, EngineStore, IsReadParams, IsSenseless, TellsCall, results_tuple_shape}
 use Rattle.canon_serve.specs.declared.answer.Answer.{Answer}
 
 pub map_if_ok : {A X : Type 0} (P Q : A → Type 0) → ((a : A) → P a → Q a) → (r : Result A X) → IfOk r P → IfOk r Q
 map_if_ok P Q f (Ok a) h = f a h
 map_if_ok P Q f (Err e) h = h
+
+pub map_on_err : {A X : Type 0} (P Q : Type 0) → (P → Q) → (r : Result A X) → OnErr r P → OnErr r Q
+map_on_err P Q f (Ok a) h = h
+map_on_err P Q f (Err e) h = f h
+
+pub on_any_err : {A X : Type 0} (P : Type 0) (r : Result A X) → P → OnErr r P
+on_any_err P (Ok a) h = tt
+on_any_err P (Err e) h = h
 
 -- slots that were written, all of them
 pub slots_written : {X : Type 0} (items new : List X) (n : ℕ) → n ≡ length new → take n (new ++ drop (length new) items) ≡ new
@@ -50,6 +58,13 @@ module _ {E H : Type 0} (log : E → Option (List Message)) (f : Named) (s s2 : 
   pub found_call : (bytes : List ℕ) (o : Option TypeFunc) → IsSome o → IfSome o (λ t. CalledBy log f t bytes s s2 a (has_no_handle (results_tuple_shape log s t))) → CalledOf log f bytes s s2 a o
   found_call bytes None some called = absurd (false≢true some)
   found_call bytes (Some t) some called = called
+
+-- a call that answered Ok, by the bytes of its parameters
+module _ {E H : Type 0} (log : E → Option (List Message)) (f : Named) (s s2 : EngineStore E H) where
+  pub done_call : (bytes : List ℕ) (params : Vec Val Global) (n : ℕ) (ps : List Val) → ps ≡ params.items → IfSome (type_of s f) (λ t. IsReadParams log s t bytes (Ok (params, n)))
+      → (s2 ≡ s) ⊎ ((results : List Val) × CallsExport log f ps n s s2 (Ok tt) results) → CallsShort log f bytes s s2
+  done_call bytes params n ps is read (inl same) = inl same
+  done_call bytes params n ps is read (inr done) = inr (record { params = params; slots = n; results = done.0; read = read; called = subst (λ qs. CallsExport log f qs n s s2 (Ok tt) done.0) is done.1 })
 
 module _ {E H : Type 0} (log : E → Option (List Message)) (f : Named) (s : EngineStore E H) (a : Answer) where
   pub senseless_by : (bytes : List ℕ) (e : ImageError) (o : Option TypeFunc) → IfSome o (λ t. true ≡ has_no_handle (results_tuple_shape log s t))

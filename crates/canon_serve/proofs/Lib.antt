@@ -1,3 +1,5 @@
+pub mod Beginning
 pub mod Calling
 pub mod Passing
+pub mod Sessions
 pub mod Unlogged

@@ -1,7 +1,11 @@
--- Messages that passed one after another.
-use Rattle.std.proofs.Common.{List, Option, ◌++◌}
+-- Messages that are the first of all.
+use Rattle.std.proofs.Common.{List, Option, [], refl, ◌∷◌}
 use Rattle.canon_relay.specs.Channel.{AddsMessages, Message}
-use Rattle.canon_relay.specs.Relay.{AnyMessages, PassesMessages, adds_both}
+use Rattle.canon_relay.specs.Relay.{PassesMessages, adds_both}
+use Rattle.canon_serve.specs.Messages.{IsFirstOf}
 
-pub passed_then : (a b c : Option (List Message)) (first : List Message) (Q : List Message → Type 0) → AddsMessages a b first → PassesMessages b c Q → PassesMessages a c AnyMessages
-passed_then a b c first Q f g = (first ++ g.0, adds_both a b c first g.0 f g.1, tt)
+pub cut_before : (a b : Option (List Message)) (all : List Message) → AddsMessages a b [] → PassesMessages a b (IsFirstOf all)
+cut_before a b all none = ([], none, (all, refl))
+
+pub cut_after : (a b c : Option (List Message)) (one : Message) (rest : List Message) → AddsMessages a b (one ∷ []) → AddsMessages b c [] → PassesMessages a c (IsFirstOf (one ∷ rest))
+cut_after a b c one rest first none = (one ∷ [], adds_both a b c (one ∷ []) [] first none, (rest, refl))

@@ -1,5 +1,5 @@
 -- What a command does in a store whose code runs in an engine.
-use Rattle.std.specs.Prelude.{Bool, Err, IfSome, IsNone, List, None, Ok, OnErr, OnOk, Option, Result, Some, Vec, [], false, if◌then◌else◌, length, map, true, ℕ, ◌+◌, ◌++◌, ◌<◌, ◌^◌, ◌∷◌, ◌≡◌, ◌≤◌, ◌⊎◌}
+use Rattle.std.specs.Prelude.{Bool, Err, IfSome, IsNone, List, None, Ok, OnErr, OnOk, Option, Result, Some, Vec, [], false, if◌then◌else◌, length, map, true, ℕ, ◌+◌, ◌<◌, ◌^◌, ◌≡◌, ◌⊎◌}
 use Rattle.std.specs.declared.alloc.Global.{Global}
 use Rattle.canon_image_parts.specs.Read.{IsRead}
 use Rattle.canon_image_parts.specs.Written.{IsImaged}
@@ -154,3 +154,20 @@ module _ {E H : Type 0} (log : E → Option (List Message)) where
   CarriesOutCommand command.End store store2 a = OnlyAnswers store store2 a (answer.Senseless senseless.NoCommand)
   CarriesOutCommand (command.Begin all json) store store2 a = OnlyAnswers store store2 a (answer.Senseless senseless.NoCommand)
   CarriesOutCommand command.Unknown store store2 a = OnlyAnswers store store2 a (answer.Senseless senseless.NoCommand)
+
+  -- The function was called with the parameters of an image, and answered Ok.
+  pub record IsDoneCall (f : Named) (bytes : List ℕ) (store store2 : EngineStore E H) : Type 0 where
+    pub params : Vec Val Global
+    pub slots : ℕ
+    pub results : List Val
+    pub read : IfSome (type_of store f) (λ t. IsReadParams store t bytes (Ok (params, slots)))
+    pub called : CallsExport f params.items slots store store2 (Ok tt) results
+
+  -- what a call did for whose answer memory ran out: nothing, or it is that for the image of its results
+  abbrev pub CallsShort : Named → List ℕ → EngineStore E H → EngineStore E H → Type 0
+  CallsShort f bytes store store2 = (store2 ≡ store) ⊎ IsDoneCall f bytes store store2
+
+  -- what a command did for whose answer memory ran out
+  abbrev pub AnswersShort : Command → EngineStore E H → EngineStore E H → Type 0
+  AnswersShort (command.Call export params) store store2 = CallsShort (export_named store export) params.items store store2
+  AnswersShort asked store store2 = store2 ≡ store

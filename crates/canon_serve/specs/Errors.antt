@@ -1,5 +1,5 @@
 -- The errors of a call as numbers: which it is, of which import, what kind of place it has, that place, and what more it carries.
-use Rattle.std.specs.Prelude.{List, [], min, ◌+◌, ◌-◌, ◌^◌, ◌∷◌, ℕ}
+use Rattle.std.specs.Prelude.{List, [], ◌+◌, ◌∷◌, ℕ}
 use Rattle.canon_context.specs.declared.fault.At.{At}
 use Rattle.canon_context.specs.declared.fault.At.TheVariants as at
 use Rattle.canon_context.specs.declared.fault.Fault.{Fault}

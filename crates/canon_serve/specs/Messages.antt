@@ -1,7 +1,7 @@
 -- How commands and answers are spelled, and which messages they are.
-use Rattle.std.specs.Prelude.{List, [], length, nat_eq, ◌++◌, ◌∷◌, ◌≡◌, ◌≤◌, ℕ}
+use Rattle.std.specs.Prelude.{List, [], length, nat_eq, ◌++◌, ◌∷◌, ◌≡◌, ◌≤◌, ◌⊎◌, ℕ}
 use Rattle.canon_relay.specs.Channel.{Message, heard, told}
-use Rattle.canon_relay.specs.Wire.{numbers_bytes}
+use Rattle.canon_relay.specs.Wire.{number_at, numbers_bytes}
 use Rattle.canon_serve.specs.Errors.{error_numbers}
 use Rattle.canon_serve.specs.declared.answer.Answer.{Answer}
 use Rattle.canon_serve.specs.declared.answer.Answer.TheVariants as answer
@@ -29,6 +29,24 @@ heard_bytes (b ∷ bytes) = heard (b ∷ bytes) ∷ []
 abbrev pub told_bytes : List ℕ → List Message
 told_bytes [] = []
 told_bytes (b ∷ bytes) = told (b ∷ bytes) ∷ []
+
+-- The messages that were heard as this command: 32 bytes, and then as many as they say, at most 16,777,216.
+pub record HearsCommand (asked : Command) (messages : List Message) : Type 0 where
+  pub head : List ℕ
+  pub bytes : List ℕ
+  pub are : messages ≡ heard head ∷ heard_bytes bytes
+  pub sized : length head ≡ 32
+  pub count : length bytes ≡ number_at head 24
+  pub few : length bytes ≤ 16777216
+  pub is : IsCommand (number_at head 0) (number_at head 8) bytes asked
+
+-- no command was heard: at most its first 32 bytes
+abbrev pub HearsNone : List Message → Type 0
+HearsNone messages = (messages ≡ []) ⊎ ((head : List ℕ) × (length head ≡ 32) × (messages ≡ heard head ∷ []))
+
+-- these messages are the first of all
+abbrev pub IsFirstOf : List Message → List Message → Type 0
+IsFirstOf all messages = (rest : List Message) × (all ≡ messages ++ rest)
 
 -- ---- an answer
 

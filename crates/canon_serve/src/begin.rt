@@ -1,16 +1,23 @@
 //! The store of a component.
 
-ghost use Rattle.std.specs.Prelude.{◌≡◌, []};
+ghost use Rattle.std.specs.Prelude.{◌≡◌, ◌≤◌, [], Err, IfOk, IfSome, length};
+ghost use Rattle.serde_json.specs.Data.{Data};
+ghost use Rattle.serde_json.specs.View.{view};
+ghost use Rattle.canon_types.specs.Table.{HasFunc};
+ghost use Rattle.canon_context.specs.Component.{IsComponent};
+ghost use Rattle.canon_script.specs.Script.{IsWellFormed, Play, play_of};
+ghost use Rattle.canon_serve.specs.Begins.{HasComponent, HasNoComponent, HasPlay, IsBegun, IsInstantiated, IsServedComponent, IsTree, asked_options, served_options};
 
 use crate::imports::ChannelImports;
 use crate::session::EngineStore;
 use canon_func::Store;
+use canon_json::ScriptError;
 use canon_memory::{Memory, Watched};
 use canon_relay::{Channel, Relay};
 use canon_script::{Script, script_of_json};
 use canon_types::{
-    CanonicalOptions, ComponentTypes, InstanceType, OptionsIndex, RuntimeInstance, StoreId,
-    StringEncoding, TypeFuncIndex,
+    CanonicalOptions, ComponentTypes, InstanceType, OptionsIndex, OutOfMemory, RuntimeInstance,
+    StoreId, StringEncoding, TypeFuncIndex,
 };
 use canon_value::{Component, Core, Export, Import};
 use serde_json::Value;
@@ -36,12 +43,15 @@ pub(crate) fn store_of<E: Channel + Drop, H: Channel + Drop>(
     host: H,
     watches_all: bool,
     json: &[u8],
-) -> Result<EngineStore<E, H>, NoStore> {
-    let Ok(tree) = Value::from_slice(alloc, json) else {
-        return Err(NoStore::NoComponent);
-    };
-    let Ok(script) = script_of_json(alloc, &tree) else {
-        return Err(NoStore::NoComponent);
+) -> Result<EngineStore<E, H>, NoStore>
+    ensures begun { IfOk result (λ store. IsBegun E.log engine host watches_all json.now store) }
+    ensures none { result ≡ Err NoStore.NoComponent → HasNoComponent json.now }
+    ensures not_instantiated { result ≡ Err NoStore.NotInstantiated → HasComponent json.now }
+{
+    let script = match script_of_bytes(alloc, json) {
+        Ok(script) => script,
+        Err(ScriptError::BadScript) => return Err(NoStore::NoComponent),
+        Err(ScriptError::OutOfMemory) => return Err(NoStore::OutOfMemory),
     };
     let Script {
         memory,
@@ -54,23 +64,69 @@ pub(crate) fn store_of<E: Channel + Drop, H: Channel + Drop>(
         imports,
         ..
     } = script;
-    let component = component_of(alloc, types, encoding, &posts, imports)?;
+    let Ok(component) = component_of(alloc, types, encoding, &posts, imports) else {
+        return Err(NoStore::OutOfMemory);
+    };
     if !component.check() {
         return Err(NoStore::NoComponent);
     }
-    let Ok(mut memory) = Memory::new(alloc, memory) else {
+    let Ok(memory) = Memory::new(alloc, memory) else {
         return Err(NoStore::OutOfMemory);
     };
-    let mut relay = Relay::new(alloc, engine);
-    if relay.instantiate(&mut memory).is_err() {
+    let Some((relay, memory)) = instantiated(alloc, engine, memory) else {
         return Err(NoStore::NotInstantiated);
-    }
+    };
     let guest = watched(alloc, relay, watches_all);
     let id = StoreId::from_u64(STORE);
     let Ok(core) = Core::new(alloc, id, host, guest, memory, component, handles, fuel) else {
         return Err(NoStore::OutOfMemory);
     };
     Ok(Store::new(core, ChannelImports::new(), turns))
+}
+
+/// The script of this JSON.
+fn script_of_bytes(alloc: Global, json: &[u8]) -> Result<Script, ScriptError>
+    ensures play { IfOk result (λ script. HasPlay json.now (play_of script)) }
+    ensures sound { IfOk result (λ script. IsWellFormed (play_of script)) }
+    ensures none { result ≡ Err ScriptError.BadScript → (play : Play) → HasPlay json.now play → ⊥ }
+{
+    let tree = match tree_of(alloc, json) {
+        Ok(tree) => tree,
+        Err(error) => return Err(error),
+    };
+    script_of_json(alloc, &tree)
+}
+
+/// The value of this JSON.
+fn tree_of(alloc: Global, json: &[u8]) -> Result<Value, ScriptError>
+    ensures tree { IfOk result (λ tree. IsTree json.now (view tree)) }
+    ensures none { result ≡ Err ScriptError.BadScript → (tree : Data) → IsTree json.now tree → ⊥ }
+{
+    match Value::from_slice(alloc, json) {
+        Ok(tree) => Ok(tree),
+        Err(error) => {
+            if error.is_memory() {
+                Err(ScriptError::OutOfMemory)
+            } else {
+                Err(ScriptError::BadScript)
+            }
+        }
+    }
+}
+
+/// The guest whose code runs in the engine, which put the component's data into this memory.
+fn instantiated<E: Channel + Drop>(
+    alloc: Global,
+    engine: E,
+    mut memory: Memory,
+) -> Option<(Relay<E>, Memory)>
+    ensures { IfSome result (λ r. IsInstantiated E.log engine memory r.0 r.1) }
+{
+    let mut relay = Relay::new(alloc, engine);
+    match relay.instantiate(&mut memory) {
+        Ok(()) => Some((relay, memory)),
+        Err(_) => None,
+    }
 }
 
 /// A guest whose answers of `realloc` are tested.
@@ -95,31 +151,22 @@ fn component_of(
     encoding: StringEncoding,
     posts: &[bool],
     imports: Vec<Import>,
-) -> Result<Component, NoStore> {
+) -> Result<Component, OutOfMemory>
+    requires told { length posts.now ≤ length types.funcs }
+    requires few { length posts.now ≤ 1048576 }
+    ensures { IfOk result (IsServedComponent types encoding posts.now imports.items) }
+{
     let mut options = Vec::new(alloc);
+    options.push(asked_options(encoding))?;
     let mut exports = Vec::new(alloc);
-    if options.push(options_of(encoding, false, None)).is_err() {
-        return Err(NoStore::OutOfMemory);
-    }
     for (i, has_post) in posts.iter().enumerate() {
-        let Ok(i) = u32::try_from(i) else {
-            return Err(NoStore::NoComponent);
-        };
-        let ty = TypeFuncIndex::from_u32(i);
-        let is_async = types.contains_func(ty) && types.func(ty).async_;
-        let post_return = if *has_post { Some(i) } else { None };
-        let export = Export {
-            ty,
+        let i = i as u32;
+        options.push(options_of(&types, encoding, i, *has_post))?;
+        exports.push(Export {
+            ty: TypeFuncIndex::from_u32(i),
             func: i,
-            options: OptionsIndex::from_u32(i.saturating_add(1)),
-        };
-        if options
-            .push(options_of(encoding, is_async, post_return))
-            .is_err()
-            || exports.push(export).is_err()
-        {
-            return Err(NoStore::OutOfMemory);
-        }
+            options: OptionsIndex::from_u32(i + 1),
+        })?;
     }
     Ok(Component {
         types: InstanceType::new(types, StoreId::from_u64(STORE)),
@@ -129,15 +176,32 @@ fn component_of(
     })
 }
 
-fn options_of(
-    string_encoding: StringEncoding,
-    async_: bool,
-    post_return: Option<u32>,
-) -> CanonicalOptions {
+/// The options of the functions of the host.
+fn asked_options(string_encoding: StringEncoding) -> CanonicalOptions
+    ensures { result ≡ asked_options string_encoding }
+{
     CanonicalOptions {
         instance: RuntimeInstance::from_u32(0),
         string_encoding,
-        async_,
-        post_return,
+        async_: false,
+        post_return: None,
+    }
+}
+
+/// The options of a function.
+fn options_of(
+    types: &ComponentTypes,
+    string_encoding: StringEncoding,
+    i: u32,
+    has_post: bool,
+) -> CanonicalOptions
+    requires { HasFunc types.now i }
+    ensures { result ≡ served_options types.now string_encoding i has_post }
+{
+    CanonicalOptions {
+        instance: RuntimeInstance::from_u32(0),
+        string_encoding,
+        async_: types.func(TypeFuncIndex::from_u32(i)).async_,
+        post_return: if has_post { Some(i) } else { None },
     }
 }

@@ -2,8 +2,8 @@
 
 ghost use Rattle.std.specs.Prelude.{◌≡◌, ◌≤◌, ◌^◌, ◌∷◌, [], IfOk, OnErr, length};
 ghost use Rattle.canon_relay.specs.Channel.{AddsMessages};
-ghost use Rattle.canon_relay.specs.Relay.{AnyMessages, PassesMessages};
-ghost use Rattle.canon_serve.specs.Messages.{IsCommand, heard_bytes};
+ghost use Rattle.canon_relay.specs.Relay.{PassesMessages, adds_none};
+ghost use Rattle.canon_serve.specs.Messages.{HearsCommand, HearsNone, IsCommand, heard_bytes};
 
 use canon_relay::{Channel, number_at};
 use std::alloc::Global;
@@ -37,7 +37,10 @@ pub(crate) enum Unheard {
 }
 
 /// Hears a command.
-pub(crate) fn hear_command<P: Channel>(alloc: Global, caller: &mut P) -> Result<Command, Unheard> {
+pub(crate) fn hear_command<P: Channel>(alloc: Global, caller: &mut P) -> Result<Command, Unheard>
+    ensures heard { IfOk result (λ asked. PassesMessages (P.log caller.old) (P.log caller.new) (HearsCommand asked)) }
+    ensures none { OnErr result (PassesMessages (P.log caller.old) (P.log caller.new) HearsNone) }
+{
     let mut head = [0u8; 32];
     if !caller.hear(&mut head) {
         return Err(Unheard::Broken);
@@ -72,8 +75,8 @@ pub(crate) fn hear_bytes<P: Channel>(
     caller: &mut P,
     len: u64,
 ) -> Result<Vec<u8>, Unheard>
-    ensures heard { IfOk result (λ bytes. AddsMessages (P.log caller.old) (P.log caller.new) (heard_bytes bytes.items) × (length bytes.items ≡ len)) }
-    ensures passed { OnErr result (PassesMessages (P.log caller.old) (P.log caller.new) AnyMessages) }
+    ensures heard { IfOk result (λ bytes. AddsMessages (P.log caller.old) (P.log caller.new) (heard_bytes bytes.items) × (length bytes.items ≡ len) × (len ≤ 16777216)) }
+    ensures none { OnErr result (AddsMessages (P.log caller.old) (P.log caller.new) []) }
 {
     if len > MAX_BYTES {
         return Err(Unheard::Broken);

@@ -25,7 +25,9 @@ pub struct ChannelImports {
 
 impl ChannelImports {
     /// Imports that refused nothing.
-    pub fn new() -> Self {
+    pub fn new() -> Self
+        ensures { result ≡ record { refusals = 0 } }
+    {
         ChannelImports { refusals: 0 }
     }
 }

@@ -1,5 +1,12 @@
 //! Hears commands and tells what came of them, until the session ends.
 
+ghost use Rattle.std.specs.Prelude.{◌≡◌, IfSome, IsNone};
+ghost use Rattle.canon_relay.specs.Channel.{AddsMessages};
+ghost use Rattle.canon_relay.specs.Relay.{PassesMessages};
+ghost use Rattle.canon_serve.specs.Carries.{CarriesOutCommand};
+ghost use Rattle.canon_serve.specs.Messages.{answer_messages};
+ghost use Rattle.canon_serve.specs.Sessions.{CutsCommand, EndsSession, EndsUnbegun, IsSession, IsUnheardEnd, ServesOne, ServesUntil, ToldOrCut};
+
 use crate::answer::{Answer, Senseless, tell_answer};
 use crate::begin::{NoStore, store_of};
 use crate::command::{Command, Unheard, hear_command};
@@ -30,61 +37,74 @@ pub fn serve<E: Channel + Drop, H: Channel + Drop, P: Channel>(
     engine: E,
     host: H,
     caller: &mut P,
-) -> End {
+) -> End
+    ensures { IsSession E.log engine host (P.log caller.old) (P.log caller.new) result }
+{
     let command = match hear_command(alloc, caller) {
         Ok(command) => command,
         Err(why) => return unheard(why),
     };
     let Command::Begin { watches_all, json } = command else {
-        let _told = tell_answer(alloc, caller, &Answer::Senseless(Senseless::NoCommand));
-        return End::NoComponent;
+        let answer = Answer::Senseless(Senseless::NoCommand);
+        return end_with(alloc, caller, &answer, End::NoComponent);
     };
     let mut store = match store_of(alloc, engine, host, watches_all, &json) {
         Ok(store) => store,
-        Err(why) => return no_store(alloc, caller, why),
+        Err(why) => return end_unbegun(alloc, caller, why),
     };
-    if !tell_answer(alloc, caller, &Answer::Done(Vec::new(alloc))) {
+    let answer = Answer::Done(Vec::new(alloc));
+    if !tell_answer(alloc, caller, &answer) {
         return End::Broken;
     }
     serve_store(alloc, &mut store, caller)
 }
 
-fn unheard(why: Unheard) -> End {
+/// How a session ends in which nothing more was heard.
+fn unheard(why: Unheard) -> End
+    ensures { IsUnheardEnd result }
+{
     match why {
         Unheard::Broken => End::Broken,
         Unheard::OutOfMemory => End::OutOfMemory,
     }
 }
 
+/// Tells an answer, with which the session ends so.
+fn end_with<P: Channel>(alloc: Global, caller: &mut P, answer: &Answer, end: End) -> End
+    ensures { ToldOrCut answer.now end (P.log caller.old) (P.log caller.new) result }
+{
+    if tell_answer(alloc, caller, answer) {
+        end
+    } else {
+        End::Broken
+    }
+}
+
 /// Tells the caller why its component isn't served.
-fn no_store<P: Channel>(alloc: Global, caller: &mut P, why: NoStore) -> End {
+fn end_unbegun<P: Channel>(alloc: Global, caller: &mut P, why: NoStore) -> End
+    ensures { EndsUnbegun why (P.log caller.old) (P.log caller.new) result }
+{
     match why {
         NoStore::NoComponent => {
             let answer = Answer::Senseless(Senseless::NoComponent);
-            if tell_answer(alloc, caller, &answer) {
-                End::NoComponent
-            } else {
-                End::Broken
-            }
+            end_with(alloc, caller, &answer, End::NoComponent)
         }
         NoStore::NotInstantiated => {
             let answer = Answer::Refused(Error::Fault(Fault::GuestTrap));
-            if tell_answer(alloc, caller, &answer) {
-                End::NotInstantiated
-            } else {
-                End::Broken
-            }
+            end_with(alloc, caller, &answer, End::NotInstantiated)
         }
         NoStore::OutOfMemory => End::OutOfMemory,
     }
 }
 
-/// Carries out commands until the caller ends the session.
+/// Serves commands until the caller ends the session.
 fn serve_store<E: Channel, H: Channel, P: Channel>(
     alloc: Global,
     store: &mut EngineStore<E, H>,
     caller: &mut P,
-) -> End {
+) -> End
+    ensures { ServesUntil E.log (P.log caller.old) (P.log caller.new) store.old result }
+{
     for _ in 0..u64::MAX {
         if let Some(end) = serve_next(alloc, store, caller) {
             return end;
@@ -93,23 +113,40 @@ fn serve_store<E: Channel, H: Channel, P: Channel>(
     End::Broken
 }
 
-/// Carries out one command. Answers how the session ended, where it did.
+/// Serves one command. Answers how the session ended, where it did.
 fn serve_next<E: Channel, H: Channel, P: Channel>(
     alloc: Global,
     store: &mut EngineStore<E, H>,
     caller: &mut P,
-) -> Option<End> {
+) -> Option<End>
+    ensures one { IsNone result → ServesOne E.log (P.log caller.old) (P.log caller.new) store.old store.new }
+    ensures ends { IfSome result (λ why. PassesMessages (P.log caller.old) (P.log caller.new) (EndsSession E.log why store.old)) }
+{
     match hear_command(alloc, caller) {
         Ok(Command::End) => Some(End::Asked),
-        Ok(command) => match carry_out(alloc, store, &command) {
-            Ok(answer) => told_end(tell_answer(alloc, caller, &answer)),
-            Err(_) => Some(End::OutOfMemory),
-        },
+        Ok(command) => serve_command(alloc, store, caller, &command),
         Err(why) => Some(unheard(why)),
     }
 }
 
-/// How the session ends where an answer wasn't told.
-fn told_end(is_told: bool) -> Option<End> {
-    if is_told { None } else { Some(End::Broken) }
+/// Carries out a command that was heard, and tells its answer. Answers how the session ended, where it did.
+fn serve_command<E: Channel, H: Channel, P: Channel>(
+    alloc: Global,
+    store: &mut EngineStore<E, H>,
+    caller: &mut P,
+    command: &Command,
+) -> Option<End>
+    ensures served { IsNone result → (a : Answer) × CarriesOutCommand E.log command.now store.old store.new a × AddsMessages (P.log caller.old) (P.log caller.new) (answer_messages a) }
+    ensures cut { IfSome result (λ why. CutsCommand E.log why command.now store.old store.new (P.log caller.old) (P.log caller.new)) }
+{
+    match carry_out(alloc, store, command) {
+        Ok(answer) => {
+            if tell_answer(alloc, caller, &answer) {
+                None
+            } else {
+                Some(End::Broken)
+            }
+        }
+        Err(_) => Some(End::OutOfMemory),
+    }
 }

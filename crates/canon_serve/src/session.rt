@@ -1,12 +1,12 @@
 //! Carries out a command in a store.
 
-ghost use Rattle.std.specs.Prelude.{◌≡◌, IfOk, IfSome, IsNone, IsSome, Ok, length, map};
+ghost use Rattle.std.specs.Prelude.{◌≡◌, ◌⊎◌, IfOk, IfSome, IsNone, IsSome, List, Ok, OnErr, length, map};
 ghost use Rattle.canon_types.specs.Table.{types_of};
 ghost use Rattle.canon_func.specs.Stores.{IsOwned, type_of};
 ghost use Rattle.canon_context.specs.Core.{component_types};
 ghost use Rattle.canon_plan.specs.NoHandle.{has_no_handle};
 ghost use Rattle.canon_relay.specs.Wire.{number_bytes};
-ghost use Rattle.canon_serve.specs.Carries.{AnswersCall, CalledAt, CalledBy, CallsExport, CarriesOutCommand, HasExport, IsDone, IsReadParams, IsSenseless, TellsCall, export_named, mark_byte, results_tuple_shape, without_marks};
+ghost use Rattle.canon_serve.specs.Carries.{AnswersCall, AnswersShort, CalledAt, CalledBy, CallsExport, CallsShort, CarriesOutCommand, HasExport, IsDone, IsReadParams, IsSenseless, TellsCall, export_named, mark_byte, results_tuple_shape, without_marks};
 
 use crate::answer::{Answer, Senseless};
 use crate::command::Command;
@@ -30,7 +30,8 @@ pub fn carry_out<E: Channel, H: Channel>(
     store: &mut EngineStore<E, H>,
     command: &Command,
 ) -> Result<Answer, OutOfMemory>
-    ensures { IfOk result (λ answer. CarriesOutCommand E.log command.now store.old store.new answer) }
+    ensures done { IfOk result (λ answer. CarriesOutCommand E.log command.now store.old store.new answer) }
+    ensures short { OnErr result (AnswersShort E.log command.now store.old store.new) }
 {
     match command {
         Command::Call { export, params } => call(alloc, store, *export, params),
@@ -47,7 +48,8 @@ fn call<E: Channel, H: Channel>(
     export: u64,
     params: &[u8],
 ) -> Result<Answer, OutOfMemory>
-    ensures { IfOk result (λ answer. CalledAt E.log export params.now store.old store.new answer) }
+    ensures called { IfOk result (λ answer. CalledAt E.log export params.now store.old store.new answer) }
+    ensures short { OnErr result (CallsShort E.log (export_named E.log store.old export) params.now store.old store.new) }
 {
     let Some(func) = func_of(store, export) else {
         return Ok(Answer::Senseless(Senseless::NoExport));
@@ -80,7 +82,8 @@ fn call_func<E: Channel, H: Channel>(
     params: &[u8],
 ) -> Result<Answer, OutOfMemory>
     requires { IsOwned store.old func.now }
-    ensures { IfOk result (λ answer. IfSome (type_of store.old func.now) (λ t. CalledBy E.log func.now t params.now store.old store.new answer (has_no_handle (results_tuple_shape E.log store.old t)))) }
+    ensures called { IfOk result (λ answer. IfSome (type_of store.old func.now) (λ t. CalledBy E.log func.now t params.now store.old store.new answer (has_no_handle (results_tuple_shape E.log store.old t)))) }
+    ensures short { OnErr result (CallsShort E.log func.now params.now store.old store.new) }
 {
     if !results_have_images(store, func) {
         return Ok(Answer::Senseless(Senseless::HasHandle));
@@ -139,7 +142,8 @@ fn call_with<E: Channel, H: Channel>(
 ) -> Result<Answer, OutOfMemory>
     requires owned { IsOwned store.old func.now }
     requires slots { IfSome (type_of store.old func.now) (λ t. slots ≡ length (types_of (component_types store.old.core) t.results)) }
-    ensures { IfOk result (λ answer. IfSome (type_of store.old func.now) (λ t. AnswersCall E.log func.now t params.now store.old store.new answer)) }
+    ensures called { IfOk result (λ answer. IfSome (type_of store.old func.now) (λ t. AnswersCall E.log func.now t params.now store.old store.new answer)) }
+    ensures short { OnErr result ((store.new ≡ store.old) ⊎ ((results : List Val) × CallsExport E.log func.now params.now slots store.old store.new (Ok tt) results)) }
 {
     let mut results = slots_of(alloc, slots)?;
     match enter(alloc, store, func, params, &mut results) {
@@ -208,7 +212,8 @@ fn marks<E: Channel, H: Channel>(
     alloc: Global,
     store: &mut EngineStore<E, H>,
 ) -> Result<Answer, OutOfMemory>
-    ensures { IfOk result (λ answer. IsDone (map mark_byte store.old.core.guest.marks) answer × (store.new ≡ without_marks E.log store.old)) }
+    ensures told { IfOk result (λ answer. IsDone (map mark_byte store.old.core.guest.marks) answer × (store.new ≡ without_marks E.log store.old)) }
+    ensures short { OnErr result (store.new ≡ store.old) }
 {
     let guest = store.core_mut().guest_mut();
     let bytes = mark_bytes(alloc, guest.marks())?;

@@ -1,19 +1,30 @@
-use Rattle.std.proofs.Common.{subst}
+use Rattle.std.proofs.Common.{inl, refl, subst}
 use Rattle.std.specs.Prelude.{IfSome}
 use Rattle.canon_func.specs.Stores.{type_of}
 use Rattle.canon_serve.specs.Carries.{AnswersCall}
-use Rattle.canon_serve.proofs.Calling.{called_by, map_if_ok, senseless_by}
+use Rattle.canon_serve.proofs.Calling.{called_by, done_call, map_if_ok, map_on_err, on_any_err, senseless_by}
 use Rattle.canon_serve.proofs.session.call_func.Goals as goal
 
-pub returns-in-Ok : goal.returns-in-Ok
-returns-in-Ok g c =
+pub returns-in-Ok-clause-called : goal.returns-in-Ok-clause-called
+returns-in-Ok-clause-called g c =
     let log = g.E.Channel.log in
     let f = c.args.func.now in
     let s = c.args.store.now in
     let s2 = c.call_with.new.store in
     map_if_ok _ _ (λ a called. called_by log f s s2 a c.args.params.now c.in-Ok.params c.in-Ok.slots (type_of s f) c.if-not-results_have_images.ensures c.in-Ok.ensures.read
-    (subst (λ ps. IfSome (type_of s f) (λ t. AnswersCall log f t ps s s2 a)) c.deref.ensures.value called)) _ c.call_with.ensures
+    (subst (λ ps. IfSome (type_of s f) (λ t. AnswersCall log f t ps s s2 a)) c.deref.ensures.value called)) _ c.call_with.ensures.called
 
-pub returns-in-Err : goal.returns-in-Err
-returns-in-Err g c =
+pub returns-in-Err-clause-called : goal.returns-in-Err-clause-called
+returns-in-Err-clause-called g c =
     map_if_ok _ _ (λ a told. senseless_by g.E.Channel.log c.args.func.now c.args.store.now a c.args.params.now c.in-Err.error (type_of c.args.store.now c.args.func.now) c.if-not-results_have_images.ensures c.in-Err.ensures.read told) _ c.senseless.ensures
+
+pub returns-in-Ok-clause-short : goal.returns-in-Ok-clause-short
+returns-in-Ok-clause-short g c =
+    let log = g.E.Channel.log in
+    let f = c.args.func.now in
+    let s = c.args.store.now in
+    let s2 = c.call_with.new.store in
+    map_on_err _ _ (done_call log f s s2 c.args.params.now c.in-Ok.params c.in-Ok.slots _ c.deref.ensures.value c.in-Ok.ensures.read) _ c.call_with.ensures.short
+
+pub returns-in-Err-clause-short : goal.returns-in-Err-clause-short
+returns-in-Err-clause-short g c = on_any_err _ _ (inl refl)

@@ -1,15 +1,15 @@
-use Rattle.std.proofs.Common.{List, Ok, ap, arith, length, subst, sym, ◌∙◌, ◌≡◌}
+use Rattle.std.proofs.Common.{List, Ok, ap, arith, inr, length, subst, sym, ◌∙◌, ◌≡◌}
 use Rattle.std.specs.Prelude.{IfSome}
 use Rattle.canon_types.specs.Table.{types_of}
 use Rattle.canon_context.specs.Core.{component_types}
 use Rattle.canon_func.specs.Stores.{type_of}
 use Rattle.canon_val.specs.declared.val.Val.{Val}
-use Rattle.canon_serve.specs.Carries.{TellsCall, results_tuple_shape}
-use Rattle.canon_serve.proofs.Calling.{answers_call, map_if_ok, slots_written}
+use Rattle.canon_serve.specs.Carries.{CallsExport, TellsCall, results_tuple_shape}
+use Rattle.canon_serve.proofs.Calling.{answers_call, map_if_ok, on_any_err, slots_written}
 use Rattle.canon_serve.proofs.session.call_with.Goals as goal
 
-pub returns-in-Ok : goal.returns-in-Ok
-returns-in-Ok g c =
+pub returns-in-Ok-clause-called : goal.returns-in-Ok-clause-called
+returns-in-Ok-clause-called g c =
     let log = g.E.Channel.log in
     let f = c.args.func.now in
     let s2 = c.enter.new.store in
@@ -18,3 +18,10 @@ returns-in-Ok g c =
     let all = slots_written c.in_ok-results.results.items c.enter.new.results c.in_ok-results.results.len (omega (arith, c.deref_mut.ensures.len, c.enter.auto.results)) in
     map_if_ok _ _ (λ a told. answers_call log f c.args.store.now s2 a c.args.params.now _ (Ok c.in-Ok.field-0) c.enter.new.results slots c.in-Ok.ensures
     (subst (λ (rs : List Val). IfSome (type_of s2 f) (λ t. TellsCall (results_tuple_shape log s2 t) (Ok tt) rs a)) all told)) _ c.results_of.ensures
+
+pub returns-in-Ok-clause-short : goal.returns-in-Ok-clause-short
+returns-in-Ok-clause-short g c =
+    let log = g.E.Channel.log in
+    let rs = c.enter.new.results in
+    let count = ap length c.deref_mut.ensures.value ∙ c.in_ok-results.ensures in
+    on_any_err _ _ (inr (rs, subst (λ n. CallsExport log c.args.func.now c.args.params.now n c.args.store.now c.enter.new.store (Ok tt) rs) count c.in-Ok.ensures))

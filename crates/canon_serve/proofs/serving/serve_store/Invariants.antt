@@ -1,0 +1,5 @@
+use Rattle.canon_serve.specs.Sessions.{ServesAll}
+use Rattle.canon_serve.proofs.serving.serve_store.Given as goal
+
+abbrev pub invariant-loop : goal.invariant-loop
+invariant-loop g l = record { served : ServesAll g.E.Channel.log (g.P.Channel.log l.fn.caller) (g.P.Channel.log l.caller) l.fn.store l.store }
