@@ -1,5 +1,5 @@
 -- Where a guest that replays is in a call.
-use Rattle.std.specs.Prelude.{Bool, None, Option, Some, false, if◌then◌else◌, length, min, nat_eq, nat_le, nat_lt, true, ℕ, ◌&&◌}
+use Rattle.std.specs.Prelude.{Bool, None, Option, Some, false, if◌then◌else◌, length, nat_eq, nat_le, nat_lt, true, ℕ, ◌&&◌}
 use Rattle.canon_replay_guest.specs.Replaying.{Replaying, call_events}
 use Rattle.canon_replay_guest.specs.declared.stop.Stop.{Stop}
 use Rattle.canon_replay_guest.specs.declared.stop.Stop.TheVariants as stop
@@ -8,7 +8,7 @@ use Rattle.canon_replay.specs.declared.outcome.Outcome.TheVariants as outcome
 
 -- how many recorded events of call k it passed: none before the call, and all after it
 abbrev pub place_in : ℕ → Replaying → ℕ
-place_in k g = if nat_lt g.call k then 0 else (if nat_eq g.call k then min g.at (length (call_events g.recorded k)) else length (call_events g.recorded k))
+place_in k g = if nat_lt g.call k then 0 else (if nat_eq g.call k && nat_lt g.at (length (call_events g.recorded k)) then g.at else length (call_events g.recorded k))
 
 abbrev pub is_unlawful : Option Stop → Bool
 is_unlawful (Some stop.Unlawful) = true

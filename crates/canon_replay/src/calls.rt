@@ -1,9 +1,11 @@
 //! One recorded call, made again.
 
-ghost use Rattle.std.specs.Prelude.{◌≡◌, ◌<◌, ◌^◌, IfErr, IfOk, IfSome, length};
+ghost use Rattle.std.specs.Prelude.{◌≡◌, ◌↔◌, ◌<◌, ◌^◌, IfErr, IfOk, IfSome, IsTrue, length};
 ghost use Rattle.canon_types.specs.Table.{types_of};
 ghost use Rattle.canon_context.specs.Core.{component_types};
+ghost use Rattle.canon_context.specs.declared.fault.Fault.TheVariants as fault;
 ghost use Rattle.canon_func.specs.Stores.{IsOwned, type_of};
+ghost use Rattle.canon_func.specs.declared.error.Error.TheVariants as error;
 ghost use Rattle.canon_replay_guest.specs.Replaying.{call_events};
 ghost use Rattle.canon_replay.specs.Calls.{ComparesImages, EndsOk, IsReady, MakesAgain, made_again, results_shape_in};
 ghost use Rattle.canon_replay.specs.Made.{CallsExport};
@@ -43,8 +45,22 @@ pub(crate) fn make_again(
     };
     match enter(alloc, store, &func, &call.params, &mut results) {
         Ok(()) => returned(alloc, store, k, &func, call.results, results),
-        Err(Error::Fault(Fault::OutOfMemory)) => Err(ReplayError::OutOfMemory),
-        Err(_) => Ok(Some(outcome_in(store, k))),
+        Err(error) => {
+            if is_short(error) {
+                return Err(ReplayError::OutOfMemory);
+            }
+            Ok(Some(outcome_in(store, k)))
+        }
+    }
+}
+
+/// Whether memory was short.
+fn is_short(e: Error) -> bool
+    ensures { IsTrue result ↔ (e ≡ error.Fault fault.OutOfMemory) }
+{
+    match e {
+        Error::Fault(Fault::OutOfMemory) => true,
+        _ => false,
     }
 }
 

@@ -40,8 +40,8 @@ pub(crate) fn place_in(guest: &ReplayGuest, k: u32) -> u64
     if call < u64::from(k) {
         return 0;
     }
-    if call == u64::from(k) {
-        guest.at().min(count)
+    if call == u64::from(k) && guest.at() < count {
+        guest.at()
     } else {
         count
     }
