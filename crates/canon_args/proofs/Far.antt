@@ -3,9 +3,9 @@ use Rattle.std.proofs.Common.{Err, List, None, Ok, Result, [], ap, arith, false,
 use Rattle.std.specs.Prelude.{IfErr, OnOk}
 use Rattle.std.proofs.lemmas.Bool.{cond-false, lt-leb}
 use Rattle.canon_context.proofs.Cores.{not_done, same_encoding}
-use Rattle.canon_context.proofs.Moves.{GuestLaws, moves_then}
+use Rattle.canon_context.proofs.Moves.{GuestLaws}
 use Rattle.canon_context.specs.Asks.{AsksFor, SameBut}
-use Rattle.canon_context.specs.Core.{Parts, encoding_by, guest_of, moment_of}
+use Rattle.canon_context.specs.Core.{Parts, encoding_by, stage_of}
 use Rattle.canon_context.specs.Lowers.{fault_ending}
 use Rattle.canon_context.specs.Quiet.{have_block}
 use Rattle.canon_context.specs.declared.fault.Fault.{Fault}
@@ -22,7 +22,6 @@ use Rattle.canon_lowering.proofs.Parameters.{args_ungiven, far_ungiven}
 use Rattle.canon_lowering.proofs.WordsKept.{ptr_same}
 use Rattle.canon_lowering.specs.Attempt.{LowersArgs, StoresValue, args_call, args_in, value_at, value_place}
 use Rattle.canon_lowering.specs.Lowering.{AtMostOne, BeginsWith, CauseOf, refused}
-use Rattle.canon_memory.specs.Guest.{Moment}
 use Rattle.canon_memory.specs.Realloc.{block}
 use Rattle.canon_model.specs.Homes.{host_texts}
 use Rattle.canon_model.specs.Flat.{max_params}
@@ -39,9 +38,10 @@ use Rattle.canon_value_parts.proofs.Far.{far_other}
 use Rattle.canon_value_parts.proofs.Passing.{handles_instance, handles_then, same_handles, same_ledger, ungiven_elsewhere}
 use Rattle.canon_args.proofs.Near.{AreProducts, its_parts}
 use Rattle.canon_args.specs.Params.{AreSmallIn, BlamesIn, InParts, TypedParams}
+use Rattle.canon_lowering.specs.Stages.{Stage}
 
 -- what is stored at p, said of the word that points there
-far_points : (enc : Encoding) (ms : Members) (Has : Tree → Type 0) (after : Moment) (p : ℕ) → AreProducts Has → max_params < members_flat ms → p % members_align false ms ≡ 0 → p < 2 ^ 32
+far_points : {K : Type 0} (enc : Encoding) (ms : Members) (Has : Tree → Type 0) (after : Stage K) (p : ℕ) → AreProducts Has → max_params < members_flat ms → p % members_align false ms ≡ 0 → p < 2 ^ 32
     → Points (block p (size false (product of_places ms))) (args_call false ms) p (value_at false (host_texts enc) (product of_places ms) p Has) (args_in false (host_texts enc) ms (p ∷ []) (InParts Has)) after
 unfolding requests leaves
 far_points enc ms Has after p shaped far aligned narrow =
@@ -77,30 +77,29 @@ module _ {D G : Type 0} (L : GuestLaws G) (options : ℕ) (a : Parts D G) (ms : 
   -- the block isn't given
   pub heap_ungiven : (b : Parts D G) (ws : List ℕ) (e : Fault) → AsksFor L.seen L.moves a b (args_call false ms) (Err e) → TypedParams L.seen L.moves options a b ms ws Has gives (Err e)
   heap_ungiven b ws e h =
-      let asked = far_ungiven false (host_texts enc) ms (InParts Has) (InParts Has) [] (moment_of L.seen a) (moment_of L.seen b) ws (fault_ending e) 0 far (not_done e) h.small h.does in
+      let asked = far_ungiven false (host_texts enc) ms (InParts Has) (InParts Has) [] (stage_of L.seen L.moves a) (stage_of L.seen L.moves b) ws (fault_ending e) 0 far (not_done e) h.small h.does in
       record {
         handles = [];
         ending = fault_ending e;
         ends = inl refl;
-        lowered = record { lowered = args_ungiven false (host_texts enc) ms (InParts Has) (InParts Has) (moment_of L.seen a) (moment_of L.seen b) ws (fault_ending e) 0 far (not_done e) h.small h.does; asks = λ many. (asked.0, λ quiet. asked.1) };
-        passed = cross_stopped a.ledger b.ledger gives e (same_ledger a b h.same) (ungiven_elsewhere (moment_of L.seen a) (moment_of L.seen b) (args_call false ms) e 0 h.does);
-        moved = h.moved;
+        lowered = record { lowered = args_ungiven false (host_texts enc) ms (InParts Has) (InParts Has) (stage_of L.seen L.moves a) (stage_of L.seen L.moves b) ws (fault_ending e) 0 far (not_done e) h.small h.does; asks = λ many. (asked.0, λ quiet. asked.1) };
+        passed = cross_stopped a.ledger b.ledger gives e (same_ledger a b h.same) (ungiven_elsewhere (stage_of L.seen L.moves a) (stage_of L.seen L.moves b) (args_call false ms) e 0 h.does);
         same = same_handles a b h.same;
         quiet = λ near. absurd (omega (arith, near, far));
-        cause = λ t has. inl (elsewhere_asked (moment_of L.seen a) (moment_of L.seen b) (args_call false ms) e 0 h.does);
+        cause = λ t has. inl (elsewhere_asked (stage_of L.seen L.moves a) (stage_of L.seen L.moves b) (args_call false ms) e 0 h.does);
         small = tt;
       }
 
   -- it is, and they are stored in it
   module _ (b c : Parts D G) (p : ℕ) (shaped : AreProducts Has) (g : AsksFor L.seen L.moves a b (args_call false ms) (Ok p)) (r : Result (Unit {0}) Fault) (h : TypedStores L.seen L.moves options b c (product of_places ms) p Has gives r) where
-    stored : StoresValue false (moment_of L.seen b) (moment_of L.seen c) (host_texts enc) (product of_places ms) p Has h.handles h.ending
-    stored = subst (λ (x : Encoding). StoresValue false (moment_of L.seen b) (moment_of L.seen c) (host_texts x) (product of_places ms) p Has h.handles h.ending) (same_encoding a b options g.same) h.attempt
+    stored : StoresValue false (stage_of L.seen L.moves b) (stage_of L.seen L.moves c) (host_texts enc) (product of_places ms) p Has h.handles h.ending
+    stored = subst (λ (x : Encoding). StoresValue false (stage_of L.seen L.moves b) (stage_of L.seen L.moves c) (host_texts x) (product of_places ms) p Has h.handles h.ending) (same_encoding a b options g.same) h.attempt
 
-    points : Points (block p (size false (product of_places ms))) (args_call false ms) p (value_at false (host_texts enc) (product of_places ms) p Has) (args_in false (host_texts enc) ms (p ∷ []) (InParts Has)) (moment_of L.seen c)
-    points = far_points enc ms Has (moment_of L.seen c) p shaped far g.does.aligned g.does.narrow
+    points : Points (block p (size false (product of_places ms))) (args_call false ms) p (value_at false (host_texts enc) (product of_places ms) p Has) (args_in false (host_texts enc) ms (p ∷ []) (InParts Has)) (stage_of L.seen L.moves c)
+    points = far_points enc ms Has (stage_of L.seen L.moves c) p shaped far g.does.aligned g.does.narrow
 
-    low : LowersArgs false (moment_of L.seen a) (moment_of L.seen c) (host_texts enc) ms (InParts Has) (p ∷ []) h.handles h.ending
-    low = attempt_block false (moment_of L.seen a) (moment_of L.seen b) (moment_of L.seen c) (args_call false ms) p (value_place false (product of_places ms) p ∷ []) (value_at false (host_texts enc) (product of_places ms) p Has)
+    low : LowersArgs false (stage_of L.seen L.moves a) (stage_of L.seen L.moves c) (host_texts enc) ms (InParts Has) (p ∷ []) h.handles h.ending
+    low = attempt_block false (stage_of L.seen L.moves a) (stage_of L.seen L.moves b) (stage_of L.seen L.moves c) (args_call false ms) p (value_place false (product of_places ms) p ∷ []) (value_at false (host_texts enc) (product of_places ms) p Has)
         (args_in false (host_texts enc) ms (p ∷ []) (InParts Has)) h.ending refl g.small g.does (value_framed false (host_texts enc) (product of_places ms) p Has) (λ i q. q) points stored
 
     first : BeginsWith (args_call false ms) h.ending low.answers low.trap
@@ -112,8 +111,8 @@ module _ {D G : Type 0} (L : GuestLaws G) (options : ℕ) (a : Parts D G) (ms : 
     none_asked none = none_answered (L.seen b.guest).marks stored.answers (ap (λ (x : G). (L.seen x).marks) (sym (h.quiet none).0) ∙ stored.lowering.goes.marks)
 
     untrapped : (q : Result (Unit {0}) Fault) → EndsBy gives q h.ending → IfErr q (λ e. h.ending ≡ refused) → stored.trap ≡ None
-    untrapped (Ok u) ends quiet = subst (λ end. CauseOf (moment_of L.seen b) (moment_of L.seen c) stored.answers stored.trap end) (ends_done gives u h.ending ends) stored.lowering.cause
-    untrapped (Err e) ends quiet = subst (λ end. CauseOf (moment_of L.seen b) (moment_of L.seen c) stored.answers stored.trap end) quiet stored.lowering.cause
+    untrapped (Ok u) ends quiet = subst (λ end. CauseOf (stage_of L.seen L.moves b) (stage_of L.seen L.moves c) stored.answers stored.trap end) (ends_done gives u h.ending ends) stored.lowering.cause
+    untrapped (Err e) ends quiet = subst (λ end. CauseOf (stage_of L.seen L.moves b) (stage_of L.seen L.moves c) stored.answers stored.trap end) quiet stored.lowering.cause
 
     alone : have_block ms ≡ false → AtMostOne low.answers low.trap
     unfolding low
@@ -126,7 +125,6 @@ module _ {D G : Type 0} (L : GuestLaws G) (options : ℕ) (a : Parts D G) (ms : 
       ends = h.ends;
       lowered = record { lowered = low; asks = λ many. (first, alone) };
       passed = subst (λ (l : LedgerState). HandlesCross l c.ledger gives h.handles r) (same_ledger a b g.same) h.passed;
-      moved = moves_then L (guest_of a) (guest_of b) (guest_of c) h.ending _ _ g.does.answered.goes.events h.attempt.lowering.goes.events g.moved h.moved;
       same = handles_then a b c (same_handles a b g.same) h.same;
       quiet = λ near. absurd (omega (arith, near, far));
       cause = subst (λ (x : Encoding). IfErr r (BlamesIn x ms Has)) (same_encoding a b options g.same) h.cause;
@@ -148,9 +146,8 @@ other_words L options a c ms Has gives ws vs e h = record {
   handles = h.handles;
   ending = h.ending;
   ends = h.ends;
-  lowered = far_other (encoding_by a options) ms (InParts Has) (moment_of L.seen a) (moment_of L.seen c) ws vs h.ending (ends_early gives e h.ending h.ends) h.lowered;
+  lowered = far_other (encoding_by a options) ms (InParts Has) (stage_of L.seen L.moves a) (stage_of L.seen L.moves c) ws vs h.ending (ends_early gives e h.ending h.ends) h.lowered;
   passed = h.passed;
-  moved = h.moved;
   same = h.same;
   quiet = h.quiet;
   cause = h.cause;

@@ -3,13 +3,12 @@ use Rattle.std.proofs.Common.{List, Result, [], ap, arith, le-leb, length, nat_l
 use Rattle.std.specs.Prelude.{false, true}
 use Rattle.std.proofs.lemmas.Bool.{cond-true}
 use Rattle.canon_context.proofs.Moves.{GuestLaws}
-use Rattle.canon_context.specs.Core.{Parts, encoding_by, moment_of}
+use Rattle.canon_context.specs.Core.{Parts, encoding_by, stage_of}
 use Rattle.canon_context.specs.declared.fault.Fault.{Fault}
 use Rattle.canon_leaves.specs.Parts.{Part}
 use Rattle.canon_lower_parts.specs.Words.{TypedLowers}
 use Rattle.canon_lowering.proofs.Attempts.{Turns, attempt_as}
 use Rattle.canon_lowering.specs.Attempt.{args_in, value_words}
-use Rattle.canon_memory.specs.Guest.{Moment}
 use Rattle.canon_model.specs.Homes.{host_texts}
 use Rattle.canon_model.specs.Flat.{MembersFlat, max_params}
 use Rattle.canon_model.specs.Layout.{members_flat}
@@ -26,6 +25,7 @@ use Rattle.canon_types.specs.Instance.{Instance}
 use Rattle.canon_types.specs.Table.{shape_of}
 use Rattle.canon_types.specs.declared.types.InterfaceType.{InterfaceType}
 use Rattle.canon_args.specs.Params.{InParts, TypedParams}
+use Rattle.canon_lowering.specs.Stages.{Stage}
 
 -- each is the tree of a tuple
 abbrev pub AreProducts : (Tree → Type 0) → Type 0
@@ -40,7 +40,7 @@ products_of Fit Means Walks typed walked i type ms v fits is t has = let (ts, e,
 
 -- ---- in a row
 
-near_turns : (enc : Encoding) (ms : Members) (Has : Tree → Type 0) (ws : List ℕ) (after : Moment) → AreProducts Has → members_flat ms ≤ max_params → length ws ≡ members_flat ms
+near_turns : {K : Type 0} (enc : Encoding) (ms : Members) (Has : Tree → Type 0) (ws : List ℕ) (after : Stage K) → AreProducts Has → members_flat ms ≤ max_params → length ws ≡ members_flat ms
     → Turns false [] [] (value_words false (host_texts enc) (product of_places ms) ws 0 Has) (args_in false (host_texts enc) ms ws (InParts Has)) after
 unfolding requests leaves
 near_turns enc ms Has ws after shaped near count = record {
@@ -65,12 +65,11 @@ module _ {D G : Type 0} (L : GuestLaws G) (options : ℕ) (a c : Parts D G) (ms 
     ending = h.ending;
     ends = h.ends;
     lowered = record {
-      lowered = attempt_as false (moment_of L.seen a) (moment_of L.seen c) [] [] (value_words false (host_texts (encoding_by a options)) (product of_places ms) ws 0 Has) (args_in false (host_texts (encoding_by a options)) ms ws (InParts Has)) h.ending (λ i q. q)
-          (near_turns (encoding_by a options) ms Has ws (moment_of L.seen c) shaped near count) h.attempt;
+      lowered = attempt_as false (stage_of L.seen L.moves a) (stage_of L.seen L.moves c) [] [] (value_words false (host_texts (encoding_by a options)) (product of_places ms) ws 0 Has) (args_in false (host_texts (encoding_by a options)) ms ws (InParts Has)) h.ending (λ i q. q)
+          (near_turns (encoding_by a options) ms Has ws (stage_of L.seen L.moves c) shaped near count) h.attempt;
       asks = λ far. absurd (omega (arith, near, far));
     };
     passed = h.passed;
-    moved = h.moved;
     same = h.same;
     quiet = λ _ none. h.quiet none;
     cause = h.cause;

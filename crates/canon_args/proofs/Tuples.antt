@@ -5,7 +5,7 @@ use Rattle.std.specs.Prelude.{false, take}
 use Rattle.canon_args.proofs.Near.{AreProducts, its_parts}
 use Rattle.canon_args.specs.Params.{InParts}
 use Rattle.canon_args.specs.Results.{LowersTuple, TypedResults}
-use Rattle.canon_context.specs.Core.{Parts, encoding_by, moment_of}
+use Rattle.canon_context.specs.Core.{Parts, encoding_by, stage_of}
 use Rattle.canon_context.specs.declared.fault.Fault.{Fault}
 use Rattle.canon_leaves.specs.Parts.{Part}
 use Rattle.canon_lower_parts.specs.Stores.{TypedStores}
@@ -14,7 +14,7 @@ use Rattle.canon_lowering.proofs.AimedAt.{members_framed}
 use Rattle.canon_lowering.proofs.Attempts.{Turns, attempt_as, keeps_same, with_blocks, within_block}
 use Rattle.canon_lowering.specs.Attempt.{LowersMembers, members_at, members_span, members_words, value_at, value_place, value_words}
 use Rattle.canon_lowering.specs.Lowering.{Ending}
-use Rattle.canon_memory.specs.Guest.{GuestIn, Moment, Seen}
+use Rattle.canon_memory.specs.Guest.{GuestIn, Seen}
 use Rattle.canon_memory.specs.declared.event.Event.{Event}
 use Rattle.canon_model.proofs.Layouts.{members_end-le-size}
 use Rattle.canon_model.specs.Homes.{host_texts}
@@ -28,9 +28,10 @@ use Rattle.canon_model.specs.Shape.{Members, of_places, product}
 use Rattle.canon_model.specs.Text.{Encoding}
 use Rattle.canon_model.specs.Tree.{Tree, Trees, parts, trees_of}
 use Rattle.canon_value_parts.specs.Args.{LowersResults}
+use Rattle.canon_lowering.specs.Stages.{Stage}
 
 -- the words of a tuple are those of its members
-row_turns : (enc : Encoding) (ms : Members) (Has : Tree → Type 0) (ws : List ℕ) (after : Moment) → AreProducts Has
+row_turns : {K : Type 0} (enc : Encoding) (ms : Members) (Has : Tree → Type 0) (ws : List ℕ) (after : Stage K) → AreProducts Has
     → Turns false [] [] (value_words false (host_texts enc) (product of_places ms) ws 0 Has) (members_words false (host_texts enc) ms ws 0 (InParts Has)) after
 unfolding requests leaves
 row_turns enc ms Has ws after shaped = record {
@@ -45,7 +46,7 @@ row_turns enc ms Has ws after shaped = record {
 }
 
 -- a tuple in memory is its members there
-tuple_turns : (enc : Encoding) (ms : Members) (at : ℕ) (Has : Tree → Type 0) (after : Moment) → AreProducts Has
+tuple_turns : {K : Type 0} (enc : Encoding) (ms : Members) (at : ℕ) (Has : Tree → Type 0) (after : Stage K) → AreProducts Has
     → Turns false (value_place false (product of_places ms) at ∷ []) (value_place false (product of_places ms) at ∷ []) (value_at false (host_texts enc) (product of_places ms) at Has) (members_at false (host_texts enc) ms 0 at (InParts Has)) after
 unfolding requests leaves
 tuple_turns enc ms at Has after shaped = record {
@@ -68,12 +69,11 @@ module _ {D G : Type 0} (seen : G → Seen) (moves : GuestIn G → List Event �
     ending = h.ending;
     ends = h.ends;
     lowered = record {
-      near = λ _. attempt_as false (moment_of seen a) (moment_of seen c) [] [] (value_words false (host_texts (encoding_by a options)) (product of_places ms) ws 0 Has) (members_words false (host_texts (encoding_by a options)) ms ws 0 (InParts Has)) h.ending (λ i q. q)
-          (row_turns (encoding_by a options) ms Has ws (moment_of seen c) shaped) h.attempt;
+      near = λ _. attempt_as false (stage_of seen moves a) (stage_of seen moves c) [] [] (value_words false (host_texts (encoding_by a options)) (product of_places ms) ws 0 Has) (members_words false (host_texts (encoding_by a options)) ms ws 0 (InParts Has)) h.ending (λ i q. q)
+          (row_turns (encoding_by a options) ms Has ws (stage_of seen moves c) shaped) h.attempt;
       far = λ far. absurd (omega (arith, near, far));
     };
     passed = h.passed;
-    moved = h.moved;
     same = h.same;
     quiet = λ none. let (same, why) = h.quiet none in (ap (λ (x : Parts D G). x.guest) same, why);
     quiet_near = λ _ none. h.quiet none;
@@ -88,11 +88,10 @@ module _ {D G : Type 0} (seen : G → Seen) (moves : GuestIn G → List Event �
     ends = h.ends;
     lowered = record {
       near = λ near. absurd (omega (arith, near, far));
-      far = λ _. attempt_as false (moment_of seen a) (moment_of seen c) _ _ (value_at false (host_texts (encoding_by a options)) (product of_places ms) at Has) (members_at false (host_texts (encoding_by a options)) ms 0 at (InParts Has)) h.ending (λ i q. q)
-          (tuple_turns (encoding_by a options) ms at Has (moment_of seen c) shaped) h.attempt;
+      far = λ _. attempt_as false (stage_of seen moves a) (stage_of seen moves c) _ _ (value_at false (host_texts (encoding_by a options)) (product of_places ms) at Has) (members_at false (host_texts (encoding_by a options)) ms 0 at (InParts Has)) h.ending (λ i q. q)
+          (tuple_turns (encoding_by a options) ms at Has (stage_of seen moves c) shaped) h.attempt;
     };
     passed = h.passed;
-    moved = h.moved;
     same = h.same;
     quiet = λ none. h.quiet none;
     quiet_near = λ near. absurd (omega (arith, near, far));
@@ -108,12 +107,11 @@ module _ {D G : Type 0} (seen : G → Seen) (moves : GuestIn G → List Event �
     ending = h.ending;
     ends = h.ends;
     lowered = record {
-      near = λ few. subst (λ xs. LowersMembers false (moment_of seen a) (moment_of seen c) (host_texts (encoding_by a options)) ms xs 0 (InParts Has) h.handles h.ending)
+      near = λ few. subst (λ xs. LowersMembers false (stage_of seen moves a) (stage_of seen moves c) (host_texts (encoding_by a options)) ms xs 0 (InParts Has) h.handles h.ending)
           (sym (ap (λ n. take n (ws ++ rest)) (sym (count few)) ∙ take-append_seam ws rest)) (h.lowered.near few);
       far = h.lowered.far;
     };
     passed = h.passed;
-    moved = h.moved;
     same = h.same;
     quiet = h.quiet;
     quiet_near = h.quiet_near;
@@ -122,7 +120,7 @@ module _ {D G : Type 0} (seen : G → Seen) (moves : GuestIn G → List Event �
   }
 
 -- what lowers members one by one lowers their tuple
-pub as_tuple : (before after : Moment) (enc : Encoding) (ms : Members) (Have : Trees → Type 0) (at : ℕ) (ws hs : List ℕ) (ending : Ending) → LowersResults before after enc ms Have at ws hs ending → LowersTuple before after enc ms Have at ws hs ending
+pub as_tuple : {K : Type 0} (before after : Stage K) (enc : Encoding) (ms : Members) (Have : Trees → Type 0) (at : ℕ) (ws hs : List ℕ) (ending : Ending) → LowersResults before after enc ms Have at ws hs ending → LowersTuple before after enc ms Have at ws hs ending
 as_tuple before after enc ms Have at ws hs ending h =
     let span : List Block = members_span false ms 0 at ∷ [] in
     let place : List Block = value_place false (product of_places ms) at ∷ [] in

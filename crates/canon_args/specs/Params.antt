@@ -1,8 +1,7 @@
 -- What lowering a function's parameters does, which are a Rust tuple.
 use Rattle.std.specs.Prelude.{IfErr, List, OnOk, Result, false, ℕ, ◌≡◌, ◌≤◌, ◌⊎◌}
 use Rattle.canon_context.specs.Asks.{SameButHandles}
-use Rattle.canon_context.specs.Core.{Parts, encoding_by, guest_of, moment_of}
-use Rattle.canon_context.specs.Moves.{Moves}
+use Rattle.canon_context.specs.Core.{Parts, encoding_by, stage_of}
 use Rattle.canon_context.specs.Quiet.{have_block}
 use Rattle.canon_context.specs.declared.fault.Fault.{Fault}
 use Rattle.canon_leaves.specs.Parts.{Part}
@@ -37,9 +36,8 @@ pub record TypedParams {D G : Type 0} (seen : G → Seen) (moves : GuestIn G →
   pub handles : List ℕ
   pub ending : Ending
   pub ends : EndsBy gives result ending
-  pub lowered : LowersParams (moment_of seen before) (moment_of seen after) (encoding_by before options) ms (InParts Has) words handles ending
+  pub lowered : LowersParams (stage_of seen moves before) (stage_of seen moves after) (encoding_by before options) ms (InParts Has) words handles ending
   pub passed : HandlesCross before.ledger after.ledger gives handles result
-  pub moved : Moves seen moves (guest_of before) (guest_of after) ending
   pub same : SameButHandles before after
   pub quiet : members_flat ms ≤ max_params → have_block ms ≡ false → (after ≡ record before { ledger = after.ledger }) × IfErr result (λ e. ending ≡ refused)
   pub cause : IfErr result (BlamesIn (encoding_by before options) ms Has)

@@ -4,9 +4,8 @@ use Rattle.canon_lowering.specs.Lowering.{Reallocated}
 use Rattle.canon_memory.specs.Guest.{GuestIn, Seen}
 use Rattle.canon_memory.specs.declared.event.Event.{Event}
 use Rattle.canon_model.specs.Requests.{Call}
-use Rattle.canon_context.specs.Core.{Parts, guest_of, moment_of}
+use Rattle.canon_context.specs.Core.{Parts, stage_of}
 use Rattle.canon_context.specs.Lowers.{answer_of, ending_of}
-use Rattle.canon_context.specs.Moves.{Moves}
 use Rattle.canon_context.specs.declared.fault.Fault.{Fault}
 
 -- only the guest and its memory may differ
@@ -19,7 +18,6 @@ SameButHandles before after = after ≡ record before { guest = after.guest; mem
 
 -- a block was asked for by this call
 pub record AsksFor {T G : Type 0} (seen : G → Seen) (moves : GuestIn G → List Event → GuestIn G → Type 0) (before after : Parts T G) (c : Call) (result : Result ℕ Fault) : Type 0 where
-  pub does : Reallocated (moment_of seen before) (moment_of seen after) c (ending_of result) (answer_of result)
-  pub moved : Moves seen moves (guest_of before) (guest_of after) (ending_of result)
+  pub does : Reallocated (stage_of seen moves before) (stage_of seen moves after) c (ending_of result) (answer_of result)
   pub same : SameBut before after
   pub small : length after.memory ≤ 2 ^ 32

@@ -4,7 +4,9 @@ use Rattle.canon_handles.specs.declared.handle.TypedResourceIndex.{TypedResource
 use Rattle.canon_handles.specs.declared.handle.TypedResourceIndex.TheVariants.{Component as ComponentIndex, Host as HostIndex}
 use Rattle.canon_ledger.specs.Ledger.{LedgerState}
 use Rattle.canon_ledger.specs.Places.{table_of_index}
+use Rattle.canon_lowering.specs.Stages.{Stage}
 use Rattle.canon_memory.specs.Guest.{GuestIn, Moment, Seen, guest_in, moment}
+use Rattle.canon_memory.specs.declared.event.Event.{Event}
 use Rattle.canon_model.specs.Memory.{memory_of}
 use Rattle.canon_model.specs.Text.{Encoding}
 use Rattle.canon_types.specs.Table.{HasResource, TypeTable}
@@ -41,6 +43,10 @@ SameButLedger before after = after ≡ record before { ledger = after.ledger }
 -- the guest and its memory
 abbrev pub moment_of : {T G : Type 0} → (G → Seen) → Parts T G → Moment
 moment_of seen core = moment (seen core.guest) core.memory
+
+-- the same, with how the guest goes on
+abbrev pub stage_of : {T G : Type 0} → (G → Seen) → (GuestIn G → List Event → GuestIn G → Type 0) → Parts T G → Stage (GuestIn G)
+stage_of seen moves core = record { guest = seen core.guest; bytes = core.memory; on = λ n events k. moves (record { guest = core.guest; len = n; wide = core.wide }) events k }
 
 -- the guest, and the length and the width of its memory
 abbrev pub guest_of : {T G : Type 0} → Parts T G → GuestIn G

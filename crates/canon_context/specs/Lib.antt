@@ -6,6 +6,5 @@ pub mod Fuel
 pub mod Host
 pub mod Lifter
 pub mod Lowers
-pub mod Moves
 pub mod Quiet
 pub mod Told

@@ -2,6 +2,7 @@
 
 ghost use Rattle.std.specs.Prelude.{◌≡◌, ◌<◌, ◌≤◌, ◌+◌, ◌*◌, ◌^◌, IfSome, Some, drop, length, slice_get, take};
 ghost use Rattle.canon_lowering.specs.Lowering.{Reallocated};
+ghost use Rattle.canon_lowering.specs.Stages.{bare};
 ghost use Rattle.canon_memory.specs.Guest.{OnAnswer};
 ghost use Rattle.canon_memory.specs.Journal.{realloc_events};
 ghost use Rattle.canon_memory.specs.Realloc.{call};
@@ -90,7 +91,7 @@ impl<'a, T, G: Guest> LowerContext<'a, T, G> {
         requires narrow { old < 2 ^ 32 }
         requires old_sized { old_size < 2 ^ 32 }
         requires new_sized { new_size < 2 ^ 32 }
-        ensures does { Reallocated (moment_of G.seen self.old.core.now) (moment_of G.seen self.new.core.now) (call old old_size old_align new_size) (ending_of result) (answer_of result) }
+        ensures does { Reallocated (bare (moment_of G.seen self.old.core.now)) (bare (moment_of G.seen self.new.core.now)) (call old old_size old_align new_size) (ending_of result) (answer_of result) }
         ensures moves { OnAnswer (guest_answer result) (G.moves (guest_of self.old.core.now) (realloc_events (call old old_size old_align new_size) self.old.core.now.memory (guest_answer result)) (guest_of self.new.core.now)) }
         ensures small { length self.new.core.now.memory ≤ 2 ^ 32 }
         ensures same { self.new.core.now ≡ record self.old.core.now { guest = self.new.core.now.guest; memory = self.new.core.now.memory } }

@@ -2,6 +2,7 @@
 
 ghost use Rattle.std.specs.Prelude.{◌≡◌, ◌≤◌, ◌<◌, ◌^◌, [], IfOk, IsFalse, OnOk, length};
 ghost use Rattle.canon_lowering.specs.Lowering.{Reallocated};
+ghost use Rattle.canon_lowering.specs.Stages.{bare};
 ghost use Rattle.canon_memory.specs.Guest.{Goes, HasCause, OnAnswer};
 ghost use Rattle.canon_memory.specs.Journal.{dtor_events, post_events, realloc_events, resume_events, start_events};
 ghost use Rattle.canon_memory.specs.Realloc.{call};
@@ -241,7 +242,7 @@ impl<T, G: Guest> Core<T, G> {
         requires narrow { old < 2 ^ 32 }
         requires old_sized { old_size < 2 ^ 32 }
         requires new_sized { new_size < 2 ^ 32 }
-        ensures does { Reallocated (moment_of G.seen self.old) (moment_of G.seen self.new) (call old old_size old_align new_size) (ending_of result) (answer_of result) }
+        ensures does { Reallocated (bare (moment_of G.seen self.old)) (bare (moment_of G.seen self.new)) (call old old_size old_align new_size) (ending_of result) (answer_of result) }
         ensures moves { OnAnswer (guest_answer result) (G.moves (guest_of self.old) (realloc_events (call old old_size old_align new_size) self.old.memory (guest_answer result)) (guest_of self.new)) }
         ensures small { length self.new.memory ≤ 2 ^ 32 }
         ensures same { self.new ≡ record self.old { guest = self.new.guest; memory = self.new.memory } }

@@ -5,10 +5,9 @@ use Rattle.std.proofs.lemmas.List.{append-nil, length-drop, take-append-drop}
 use Rattle.std.specs.Prelude.{IfErr, IfSome, OnOk, Option, Some, drop, replicate, take}
 use Rattle.std.specs.declared.alloc.Global.{Global}
 use Rattle.canon_context.specs.Asks.{SameButHandles}
-use Rattle.canon_context.specs.Core.{Parts, SameButLedger, encoding_by, guest_of, moment_of, component_types}
+use Rattle.canon_context.specs.Core.{Parts, SameButLedger, component_types, encoding_by, stage_of}
 use Rattle.canon_context.specs.Host.{Closure, Gave, HostSteps}
 use Rattle.canon_context.specs.Lowers.{ending_of}
-use Rattle.canon_context.specs.Moves.{Moves}
 use Rattle.canon_context.specs.Quiet.{have_block, have_handle}
 use Rattle.canon_context.specs.declared.fault.Fault.{Fault}
 use Rattle.canon_context.specs.declared.host.HostStop.{HostStop}
@@ -16,7 +15,7 @@ use Rattle.canon_context.specs.declared.host.HostView.{HostView}
 use Rattle.canon_ledger.specs.Ledger.{LedgerState, enter}
 use Rattle.canon_lowering.specs.Attempt.{LowersMembers}
 use Rattle.canon_lowering.specs.Lowering.{Ending}
-use Rattle.canon_memory.specs.Guest.{GuestIn, Moment, Seen}
+use Rattle.canon_memory.specs.Guest.{GuestIn, Seen}
 use Rattle.canon_memory.specs.declared.event.Event.{Event}
 use Rattle.canon_model.specs.Homes.{host_texts}
 use Rattle.canon_model.specs.Flat.{max_results}
@@ -37,6 +36,7 @@ use Rattle.canon_host.specs.Asked.{RestStays, row_words}
 use Rattle.canon_host.specs.Serves.{Answers, AnswersBy, AskValues, Calling, CallsFunction, CallsBlank, Concludes, ConcludesBy, EndsAsk, AnswersInRow, LiftsAsked, LoweringRelation, LowersGiven, Serves, ServesBy, ServesEntered, ServesEnteredBy, Steps, Values, blank, value_steps, params_and_results}
 use Rattle.canon_host.specs.declared.asked.Asked.{Asked}
 use Rattle.canon_host.specs.declared.error.HostError.{HostError}
+use Rattle.canon_lowering.specs.Stages.{Stage}
 use Rattle.canon_host.specs.declared.error.HostError.TheVariants as error
 
 -- ---- the call
@@ -69,7 +69,7 @@ module _ {F T G : Type 0} (g : Closure F (HostView T) Val (Result (Unit {0}) Hos
 -- ---- results that are lowered
 
 -- of results in a row there are so many words, and of others none
-lowered_first : (a c : Moment) (enc : Encoding) (ms : Members) (Have : Trees → Type 0) (at : ℕ) (ws rest hs : List ℕ) (e : Ending) → (members_flat ms ≤ max_results → length ws ≡ members_flat ms)
+lowered_first : {K : Type 0} (a c : Stage K) (enc : Encoding) (ms : Members) (Have : Trees → Type 0) (at : ℕ) (ws rest hs : List ℕ) (e : Ending) → (members_flat ms ≤ max_results → length ws ≡ members_flat ms)
     → LowersResults a c enc ms Have at ws hs e → LowersResults a c enc ms Have at (take (members_flat ms) (ws ++ rest)) hs e
 lowered_first a c enc ms Have at ws rest hs e count h = record {
   near = λ few. subst (λ xs. LowersMembers false a c (host_texts enc) ms xs 0 Have hs e) (sym (ap (λ n. take n (ws ++ rest)) (sym (count few)) ∙ take-append_seam ws rest)) (h.near few);
@@ -79,21 +79,21 @@ lowered_first a c enc ms Have at ws rest hs e count h = record {
 module _ {T G : Type 0} (seen : G → Seen) (moves : GuestIn G → List Event → GuestIn G → Type 0) (asked : Asked) where
   pub lowered_given : (before mid after : Parts T G) (at : ℕ) (results : List Val) (ws rest : List ℕ) (r : Result (Unit {0}) Fault)
       → Crosses before.component.types (have_handle (result_members (component_types before) asked.func)) (all_passes (result_members (component_types before) asked.func) results)
-      (λ hs ending. LowersResults (moment_of seen before) (moment_of seen mid) (encoding_by before asked.options) (result_members (component_types before) asked.func) (HaveTrees (result_members (component_types before) asked.func) results) at ws hs ending)
+      (λ hs ending. LowersResults (stage_of seen moves before) (stage_of seen moves mid) (encoding_by before asked.options) (result_members (component_types before) asked.func) (HaveTrees (result_members (component_types before) asked.func) results) at ws hs ending)
       before.ledger mid.ledger r
       → IfErr r (BlamesMembers (encoding_by before asked.options) (result_members (component_types before) asked.func) results)
       → OnOk r (AreSmall (encoding_by before asked.options) (result_members (component_types before) asked.func) results)
       → QuietBut (have_handle (result_members (component_types before) asked.func)) (all_passes (result_members (component_types before) asked.func) results) (have_block (result_members (component_types before) asked.func)) (mid.guest ≡ before.guest) r
       → (members_flat (result_members (component_types before) asked.func) ≤ max_results
       → QuietBut (have_handle (result_members (component_types before) asked.func)) (all_passes (result_members (component_types before) asked.func) results) (have_block (result_members (component_types before) asked.func)) (SameButLedger before mid) r)
-      → Moves seen moves (guest_of before) (guest_of mid) (ending_of r) → SameButHandles before mid
+      → SameButHandles before mid
       → (members_flat (result_members (component_types before) asked.func) ≤ max_results → length ws ≡ members_flat (result_members (component_types before) asked.func)) → after ≡ mid → LowersGiven seen moves asked before at results r after (ws ++ rest)
-  lowered_given before mid after at results ws rest r h cause small quiet quiet_near moved same count is = subst (λ x. LowersGiven seen moves asked before at results r x (ws ++ rest)) (sym is) (record {
+  lowered_given before mid after at results ws rest r h cause small quiet quiet_near same count is = subst (λ x. LowersGiven seen moves asked before at results r x (ws ++ rest)) (sym is) (record {
     lowered = record {
       given = h.given;
       ending = h.ending;
       ends = h.ends;
-      lowered = lowered_first (moment_of seen before) (moment_of seen mid) (encoding_by before asked.options) (result_members (component_types before) asked.func) (HaveTrees (result_members (component_types before) asked.func) results) at ws rest h.given h.ending count h.lowered;
+      lowered = lowered_first (stage_of seen moves before) (stage_of seen moves mid) (encoding_by before asked.options) (result_members (component_types before) asked.func) (HaveTrees (result_members (component_types before) asked.func) results) at ws rest h.given h.ending count h.lowered;
       passed = h.passed;
       as_told = h.as_told;
     };
@@ -101,7 +101,6 @@ module _ {T G : Type 0} (seen : G → Seen) (moves : GuestIn G → List Event �
     small = small;
     quiet = quiet;
     quiet_near = quiet_near;
-    moved = moved;
     same = same;
   })
 

@@ -5,7 +5,7 @@ use Rattle.std.proofs.lemmas.Bool.{cases_lt}
 use Rattle.canon_args.specs.Params.{InParts}
 use Rattle.canon_args.specs.Results.{StoresTuple}
 use Rattle.canon_context.specs.Asks.{SameButHandles}
-use Rattle.canon_context.specs.Core.{Parts, encoding_by, moment_of, component_types}
+use Rattle.canon_context.specs.Core.{Parts, component_types, encoding_by, stage_of}
 use Rattle.canon_context.specs.Host.{StaticClosure}
 use Rattle.canon_context.specs.declared.host.HostStop.{HostStop}
 use Rattle.canon_context.specs.declared.host.HostView.{HostView}
@@ -75,8 +75,8 @@ module _ {F T G P R : Type 0} (g : StaticClosure F (HostView T) P (Result R Host
 
     -- ---- in a row
 
-    in_row : members_flat ms ≤ max_results → LowersMembers false (moment_of seen before) (moment_of seen after) (host_texts enc) ms (take (members_flat ms) words2) 0 (InParts (walks results)) h.handles done
-    in_row few = subst (λ e. LowersMembers false (moment_of seen before) (moment_of seen after) (host_texts enc) ms (take (members_flat ms) words2) 0 (InParts (walks results)) h.handles e) is_done (h.lowered.near few)
+    in_row : members_flat ms ≤ max_results → LowersMembers false (stage_of seen moves before) (stage_of seen moves after) (host_texts enc) ms (take (members_flat ms) words2) 0 (InParts (walks results)) h.handles done
+    in_row few = subst (λ e. LowersMembers false (stage_of seen moves before) (stage_of seen moves after) (host_texts enc) ms (take (members_flat ms) words2) 0 (InParts (walks results)) h.handles e) is_done (h.lowered.near few)
 
     row_shown : (few : members_flat ms ≤ max_results) → AllLawful (in_row few).answers → RepFlatAt true enc (narrow after.memory) (take (members_flat ms) words2) 0 s (parts (in_row few).shown.it)
     row_shown few lawful = blocks_are_read.flat (in_row few).fresh true enc (narrow after.memory) (take (members_flat ms) words2) 0 s (parts (in_row few).shown.it)
@@ -91,7 +91,7 @@ module _ {F T G P R : Type 0} (g : StaticClosure F (HostView T) P (Result R Host
       trees = (in_row few).shown.it;
       walked = (in_row few).shown.is;
       answers = (in_row few).answers;
-      goes = subst (λ (t : Option Trap). Goes (moment_of seen before) (moment_of seen after) (marks_of (in_row few).answers) (events_of (in_row few).answers t)) (in_row few).lowering.cause (in_row few).lowering.goes;
+      goes = subst (λ (t : Option Trap). Goes (stage_of seen moves before) (stage_of seen moves after) (marks_of (in_row few).answers) (events_of (in_row few).answers t)) (in_row few).lowering.cause (in_row few).lowering.goes;
       requested = subst (λ (t : Option Trap). Requested (members_requests false (host_asks enc) ms (in_row few).shown.it) done (in_row few).answers t) (in_row few).lowering.cause
           ((in_row few).requested (in_row few).shown.it (in_row few).shown.is);
       given = given_so (handle_numbers (members_leaves ms (in_row few).shown.it)) (in_row few).shown.handles;
@@ -101,10 +101,10 @@ module _ {F T G P R : Type 0} (g : StaticClosure F (HostView T) P (Result R Host
 
     -- ---- by a pointer
 
-    in_area : max_results < members_flat ms → StoresTuple (moment_of seen before) (moment_of seen after) enc ms at (InParts (walks results)) h.handles done
-    in_area many = subst (λ e. StoresTuple (moment_of seen before) (moment_of seen after) enc ms at (InParts (walks results)) h.handles e) is_done (h.lowered.far many)
+    in_area : max_results < members_flat ms → StoresTuple (stage_of seen moves before) (stage_of seen moves after) enc ms at (InParts (walks results)) h.handles done
+    in_area many = subst (λ e. StoresTuple (stage_of seen moves before) (stage_of seen moves after) enc ms at (InParts (walks results)) h.handles e) is_done (h.lowered.far many)
 
-    area_shown : (many : max_results < members_flat ms) → AllLawful (in_area many).answers → AreHeld (moment_of seen before) (in_area many).answers (value_place false s at ∷ [])
+    area_shown : (many : max_results < members_flat ms) → AllLawful (in_area many).answers → AreHeld (stage_of seen moves before) (in_area many).answers (value_place false s at ∷ [])
         → RepMem true enc (narrow after.memory) at s (parts (in_area many).shown.it)
     area_shown many lawful held = blocks_are_read.memory (value_place false s at ∷ (in_area many).fresh) true enc (narrow after.memory) at s (parts (in_area many).shown.it)
         ((omega (arith, (place many).2, (in_area many).lowering.goes.no_shorter), λ i l u. inl (l, u)), ((in_area many).shown.it, refl, (in_area many).shown.rep lawful held))
@@ -118,7 +118,7 @@ module _ {F T G P R : Type 0} (g : StaticClosure F (HostView T) P (Result R Host
       trees = (in_area many).shown.it;
       walked = (in_area many).shown.is;
       answers = (in_area many).answers;
-      goes = subst (λ (t : Option Trap). Goes (moment_of seen before) (moment_of seen after) (marks_of (in_area many).answers) (events_of (in_area many).answers t)) (in_area many).lowering.cause (in_area many).lowering.goes;
+      goes = subst (λ (t : Option Trap). Goes (stage_of seen moves before) (stage_of seen moves after) (marks_of (in_area many).answers) (events_of (in_area many).answers t)) (in_area many).lowering.cause (in_area many).lowering.goes;
       requested = subst (λ (t : Option Trap). Requested (members_requests false (host_asks enc) ms (in_area many).shown.it) done (in_area many).answers t) (in_area many).lowering.cause
           ((in_area many).requested (in_area many).shown.it (in_area many).shown.is);
       given = given_so (handle_numbers (members_leaves ms (in_area many).shown.it)) (in_area many).shown.handles;

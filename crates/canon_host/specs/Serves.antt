@@ -3,11 +3,10 @@
 use Rattle.std.specs.Prelude.{◌++◌, ◌<◌, ◌≡◌, ◌≤◌, ◌⊎◌, Err, IfErr, List, Ok, OnOk, Result, Vec, false, replicate, take, ℕ}
 use Rattle.std.specs.declared.alloc.Global.{Global}
 use Rattle.canon_context.specs.Asks.{SameButHandles}
-use Rattle.canon_context.specs.Core.{Parts, SameButLedger, encoding_by, guest_of, moment_of, component_types}
+use Rattle.canon_context.specs.Core.{Parts, SameButLedger, component_types, encoding_by, stage_of}
 use Rattle.canon_context.specs.Host.{Closure, Gave, HostSteps}
 use Rattle.canon_context.specs.Lifter.{origin_in}
 use Rattle.canon_context.specs.Lowers.{ending_of}
-use Rattle.canon_context.specs.Moves.{Moves}
 use Rattle.canon_context.specs.Quiet.{have_block, have_handle}
 use Rattle.canon_context.specs.declared.fault.Fault.{Fault}
 use Rattle.canon_context.specs.declared.fault.Fault.TheVariants as fault
@@ -151,7 +150,7 @@ CallsBlank g f asked before params result after results = CallsFunction g f aske
 module _ {T G : Type 0} (seen : G → Seen) (moves : GuestIn G → List Event → GuestIn G → Type 0) (asked : Asked) where
   pub record LowersGiven (before : Parts T G) (at : ℕ) (results : List Val) (result : Result (Unit {0}) Fault) (after : Parts T G) (words : List ℕ) : Type 0 where
     pub lowered : Crosses before.component.types (have_handle (result_members (component_types before) asked.func)) (all_passes (result_members (component_types before) asked.func) results)
-        (λ hs ending. LowersResults (moment_of seen before) (moment_of seen after) (encoding_by before asked.options)
+        (λ hs ending. LowersResults (stage_of seen moves before) (stage_of seen moves after) (encoding_by before asked.options)
         (result_members (component_types before) asked.func) (HaveTrees (result_members (component_types before) asked.func) results) at
         (take (members_flat (result_members (component_types before) asked.func)) words) hs ending)
         before.ledger after.ledger result
@@ -161,7 +160,6 @@ module _ {T G : Type 0} (seen : G → Seen) (moves : GuestIn G → List Event �
     pub quiet : QuietBut (have_handle (result_members (component_types before) asked.func)) (all_passes (result_members (component_types before) asked.func) results) (have_block (result_members (component_types before) asked.func)) (after.guest ≡ before.guest) result
     pub quiet_near : members_flat (result_members (component_types before) asked.func) ≤ max_results
         → QuietBut (have_handle (result_members (component_types before) asked.func)) (all_passes (result_members (component_types before) asked.func) results) (have_block (result_members (component_types before) asked.func)) (SameButLedger before after) result
-    pub moved : Moves seen moves (guest_of before) (guest_of after) (ending_of result)
     pub same : SameButHandles before after
 
   abbrev pub Concludes : Parts T G → List Val → List ℕ → Result (Unit {0}) Fault → Parts T G → List ℕ → Type 0

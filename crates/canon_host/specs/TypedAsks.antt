@@ -2,7 +2,7 @@
 use Rattle.std.specs.Prelude.{Err, List, None, Ok, Result, [], false, length, take, true, ℕ, ◌<◌, ◌∷◌, ◌≡◌, ◌≤◌, ◌⊎◌}
 use Rattle.canon_args.specs.Exactly.{passed_steps}
 use Rattle.canon_context.specs.Asks.{SameButHandles}
-use Rattle.canon_context.specs.Core.{Parts, encoding_by, moment_of, component_types}
+use Rattle.canon_context.specs.Core.{Parts, component_types, encoding_by, stage_of}
 use Rattle.canon_context.specs.Host.{HostSteps, StaticClosure}
 use Rattle.canon_context.specs.declared.fault.Fault.{Fault}
 use Rattle.canon_context.specs.declared.fault.Fault.TheVariants as fault
@@ -150,14 +150,14 @@ module _ {F T G P R : Type 0} (g : StaticClosure F (HostView T) P (Result R Host
     pub trees : Trees
     pub walked : walks through.results (parts trees)
     pub answers : List Answer
-    pub goes : Goes (moment_of seen before) (moment_of seen after) (marks_of answers) (events_of answers None)
+    pub goes : Goes (stage_of seen moves before) (stage_of seen moves after) (marks_of answers) (events_of answers None)
     pub requested : Requested (members_requests false (host_asks (encoding_by before asked.options)) (result_members (component_types before) asked.func) trees) done answers None
     pub given : LeavesTake (leave (do_step (ExitScope (top_scope through.called.ledger.handles)) through.called.ledger).after) (given_parts gives asked before through.results)
         (handle_numbers (members_leaves (result_members (component_types before) asked.func) trees)) after.ledger
     pub near : members_flat (result_members (component_types before) asked.func) ≤ max_results → AllLawful answers
         → RepFlatAt true (encoding_by before asked.options) (narrow after.memory) (take (members_flat (result_members (component_types before) asked.func)) words2) 0 (product of_places (result_members (component_types before) asked.func)) (parts trees)
     pub far : max_results < members_flat (result_members (component_types before) asked.func) → AllLawful answers
-        → AreHeld (moment_of seen before) answers (value_place false (product of_places (result_members (component_types before) asked.func)) at ∷ [])
+        → AreHeld (stage_of seen moves before) answers (value_place false (product of_places (result_members (component_types before) asked.func)) at ∷ [])
         → RepMem true (encoding_by before asked.options) (narrow after.memory) at (product of_places (result_members (component_types before) asked.func)) (parts trees)
 
   -- An ask that was served is answered so.

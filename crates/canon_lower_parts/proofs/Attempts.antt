@@ -2,9 +2,8 @@
 use Rattle.std.proofs.Common.{◌≡◌, ◌++◌, Bool, Err, List, None, Ok, Result, [], ◌∷◌, false, true, inl, inr, refl, subst, sym, ⊎_elim, ℕ}
 use Rattle.std.specs.Prelude.{IfErr, OnOk, ◌⊎◌}
 use Rattle.canon_context.proofs.Cores.{not_done}
-use Rattle.canon_context.proofs.Moves.{GuestLaws, moves_none, moves_then}
-use Rattle.canon_context.specs.Core.{Parts, guest_of, moment_of}
-use Rattle.canon_context.specs.Moves.{Moves}
+use Rattle.canon_context.proofs.Moves.{GuestLaws}
+use Rattle.canon_context.specs.Core.{Parts, stage_of}
 use Rattle.canon_context.specs.declared.fault.Fault.{Fault}
 use Rattle.canon_context.specs.declared.fault.Fault.TheVariants as fault
 use Rattle.canon_leaves.proofs.Leaves.{leaves_stop_first, leaves_stop_then, leaves_then, stops_at_once}
@@ -117,7 +116,7 @@ module _ {D G : Type 0} (L : GuestLaws G) where
   Does a b places aim gives blocks still Large r = TypedAttempt L.seen L.moves a b places aim gives blocks still Large r
 
   -- nothing is asked for, and no handle is given
-  pub typed_none : {X : Type 0} (a : Parts D G) (places : List Block) (aim : Aim X) (blocks : Bool) (Large : Fault → X → Type 0) → Attempt false (moment_of L.seen a) (moment_of L.seen a) places aim [] done → IsSmall aim.Is Large
+  pub typed_none : {X : Type 0} (a : Parts D G) (places : List Block) (aim : Aim X) (blocks : Bool) (Large : Fault → X → Type 0) → Attempt false (stage_of L.seen L.moves a) (stage_of L.seen L.moves a) places aim [] done → IsSmall aim.Is Large
       → Does a a places aim [] blocks (Kept a a) Large (Ok tt)
   typed_none a places aim blocks Large h small = record {
     handles = [];
@@ -125,7 +124,6 @@ module _ {D G : Type 0} (L : GuestLaws G) where
     ends = inl refl;
     attempt = h;
     passed = (refl, refl);
-    moved = moves_none L (guest_of a) done;
     same = refl;
     quiet = λ e. (refl, tt);
     cause = tt;
@@ -135,7 +133,7 @@ module _ {D G : Type 0} (L : GuestLaws G) where
   -- the same said of another aim
   pub typed_map : {X Y : Type 0} (a b : Parts D G) (part whole : List Block) (aim : Aim X) (other : Aim Y) (gives : List (List Part)) (blocks blocks2 : Bool) (still : Type 0) (Large : Fault → X → Type 0) (Large2 : Fault → Y → Type 0)
       (r : Result (Unit {0}) Fault)
-      → ((hs : List ℕ) (e : Ending) → Attempt false (moment_of L.seen a) (moment_of L.seen b) part aim hs e → Attempt false (moment_of L.seen a) (moment_of L.seen b) whole other hs e) → (blocks2 ≡ false → blocks ≡ false)
+      → ((hs : List ℕ) (e : Ending) → Attempt false (stage_of L.seen L.moves a) (stage_of L.seen L.moves b) part aim hs e → Attempt false (stage_of L.seen L.moves a) (stage_of L.seen L.moves b) whole other hs e) → (blocks2 ≡ false → blocks ≡ false)
       → AsLarge aim.Is other.Is Large Large2 → Does a b part aim gives blocks still Large r → Does a b whole other gives blocks2 still Large2 r
   typed_map a b part whole aim other gives blocks blocks2 still Large Large2 r f quieter same h = record {
     handles = h.handles;
@@ -143,7 +141,6 @@ module _ {D G : Type 0} (L : GuestLaws G) where
     ends = h.ends;
     attempt = f h.handles h.ending h.attempt;
     passed = h.passed;
-    moved = h.moved;
     same = h.same;
     quiet = λ none. h.quiet (quieter none);
     cause = cause_as aim.Is other.Is Large Large2 r same h.cause;
@@ -153,21 +150,19 @@ module _ {D G : Type 0} (L : GuestLaws G) where
   -- a first one, and then a second
   pub typed_then : {X Y Z : Type 0} (a b c : Parts D G) (p q big : List Block) (first : Aim X) (second : Aim Y) (whole : Aim Z) (gs fs : List (List Part)) (b1 b2 b3 : Bool) (still1 still2 still3 : Type 0)
       (Large1 : Fault → X → Type 0) (Large2 : Fault → Y → Type 0) (Large3 : Fault → Z → Type 0) (r : Result (Unit {0}) Fault)
-      → ((hs ks : List ℕ) (e : Ending) → Attempt false (moment_of L.seen a) (moment_of L.seen b) p first hs done → Attempt false (moment_of L.seen b) (moment_of L.seen c) q second ks e
-      → Attempt false (moment_of L.seen a) (moment_of L.seen c) big whole (hs ++ ks) e)
+      → ((hs ks : List ℕ) (e : Ending) → Attempt false (stage_of L.seen L.moves a) (stage_of L.seen L.moves b) p first hs done → Attempt false (stage_of L.seen L.moves b) (stage_of L.seen L.moves c) q second ks e
+      → Attempt false (stage_of L.seen L.moves a) (stage_of L.seen L.moves c) big whole (hs ++ ks) e)
       → (b3 ≡ false → (b1 ≡ false) × (b2 ≡ false)) → (still1 → still2 → still3) → EitherLarge first.Is second.Is whole.Is Large1 Large2 Large3
       → Does a b p first gs b1 still1 Large1 (Ok tt) → Does b c q second fs b2 still2 Large2 r → Does a c big whole (gs ++ fs) b3 still3 Large3 r
   typed_then a b c p q big first second whole gs fs b1 b2 b3 still1 still2 still3 Large1 Large2 Large3 r f quieter stay either h k =
-      let whole_first : Attempt false (moment_of L.seen a) (moment_of L.seen b) p first h.handles done =
-      subst (λ (e : Ending). Attempt false (moment_of L.seen a) (moment_of L.seen b) p first h.handles e) (ends_done gs tt h.ending h.ends) h.attempt in
+      let whole_first : Attempt false (stage_of L.seen L.moves a) (stage_of L.seen L.moves b) p first h.handles done =
+      subst (λ (e : Ending). Attempt false (stage_of L.seen L.moves a) (stage_of L.seen L.moves b) p first h.handles e) (ends_done gs tt h.ending h.ends) h.attempt in
       record {
         handles = h.handles ++ k.handles;
         ending = k.ending;
         ends = ends_more fs (gs ++ fs) r k.ending (none_later gs fs) k.ends;
         attempt = f h.handles k.handles k.ending whole_first k.attempt;
         passed = cross_then a.ledger b.ledger c.ledger gs fs h.handles k.handles r h.passed k.passed;
-        moved = moves_then L (guest_of a) (guest_of b) (guest_of c) k.ending _ _ whole_first.lowering.goes.events k.attempt.lowering.goes.events
-            (subst (λ (e : Ending). Moves L.seen L.moves (guest_of a) (guest_of b) e) (ends_done gs tt h.ending h.ends) h.moved) k.moved;
         same = handles_then a b c h.same k.same;
         quiet = λ none. let (n1, n2) = quieter none in let one = h.quiet n1 in let two = k.quiet n2 in (stay one.0 two.0, two.1);
         cause = cause_then first.Is second.Is whole.Is Large1 Large2 Large3 either r k.cause;
@@ -177,7 +172,7 @@ module _ {D G : Type 0} (L : GuestLaws G) where
   -- a first one fails
   pub typed_stop : {X Y Z : Type 0} (a b : Parts D G) (p big : List Block) (first : Aim X) (Second : Y → Type 0) (whole : Aim Z) (gs fs : List (List Part)) (b1 b3 : Bool) (still : Type 0)
       (Large1 : Fault → X → Type 0) (Large2 : Fault → Y → Type 0) (Large3 : Fault → Z → Type 0) (e : Fault)
-      → ((hs : List ℕ) (d : Ending) → NotDone d → Attempt false (moment_of L.seen a) (moment_of L.seen b) p first hs d → Attempt false (moment_of L.seen a) (moment_of L.seen b) big whole hs d)
+      → ((hs : List ℕ) (d : Ending) → NotDone d → Attempt false (stage_of L.seen L.moves a) (stage_of L.seen L.moves b) p first hs d → Attempt false (stage_of L.seen L.moves a) (stage_of L.seen L.moves b) big whole hs d)
       → (b3 ≡ false → b1 ≡ false) → EitherLarge first.Is Second whole.Is Large1 Large2 Large3
       → Does a b p first gs b1 still Large1 (Err e) → Does a b big whole (gs ++ fs) b3 still Large3 (Err e)
   typed_stop a b p big first Second whole gs fs b1 b3 still Large1 Large2 Large3 e f quieter either h = record {
@@ -186,7 +181,6 @@ module _ {D G : Type 0} (L : GuestLaws G) where
     ends = ends_more gs (gs ++ fs) (Err e) h.ending (none_first gs fs) h.ends;
     attempt = f h.handles h.ending (ends_early gs e h.ending h.ends) h.attempt;
     passed = cross_stop a.ledger b.ledger gs fs h.handles h.handles e h.passed;
-    moved = h.moved;
     same = h.same;
     quiet = λ none. h.quiet (quieter none);
     cause = cause_first first.Is Second whole.Is Large1 Large2 Large3 either e h.cause;
@@ -200,9 +194,8 @@ module _ {D G : Type 0} (L : GuestLaws G) where
     handles = h.handles;
     ending = h.ending;
     ends = h.ends;
-    attempt = attempt_other false (moment_of L.seen a) (moment_of L.seen b) places aim other h.ending (ends_early gives e h.ending h.ends) same h.attempt;
+    attempt = attempt_other false (stage_of L.seen L.moves a) (stage_of L.seen L.moves b) places aim other h.ending (ends_early gives e h.ending h.ends) same h.attempt;
     passed = h.passed;
-    moved = h.moved;
     same = h.same;
     quiet = h.quiet;
     cause = λ x is. h.cause x (same x is).0;

@@ -1,11 +1,10 @@
 -- Blocks that are asked for, and what stands in them.
 use Rattle.std.proofs.Common.{◌≡◌, ◌≤◌, ◌<◌, ◌+◌, ◌*◌, ◌^◌, ◌∙◌, ◌∷◌, Err, List, Ok, Result, [], ap, ap₂, arith, false, inl, inr, length, refl, subst, sym, true, ⊎_elim, ℕ}
 use Rattle.canon_context.proofs.Cores.{not_done, same_encoding}
-use Rattle.canon_context.proofs.Moves.{GuestLaws, moves_none, moves_then, moves_written}
+use Rattle.canon_context.proofs.Moves.{GuestLaws}
 use Rattle.canon_context.specs.Asks.{AsksFor}
-use Rattle.canon_context.specs.Core.{Parts, encoding_by, guest_of, moment_of}
+use Rattle.canon_context.specs.Core.{Parts, encoding_by, stage_of}
 use Rattle.canon_context.specs.Lowers.{fault_ending}
-use Rattle.canon_context.specs.Moves.{Moves}
 use Rattle.canon_context.specs.Quiet.{has_block}
 use Rattle.canon_context.specs.declared.fault.Fault.{Fault}
 use Rattle.canon_context.specs.declared.fault.Fault.TheVariants as fault
@@ -17,7 +16,7 @@ use Rattle.canon_lowering.proofs.Attempts.{attempt_other, attempt_refused}
 use Rattle.canon_lowering.proofs.Lowerings.{NotDone, lowering_within, when_not}
 use Rattle.canon_lowering.specs.Attempt.{Attempt, LowersValue, StoresMembers, StoresValue, items_call, value_words}
 use Rattle.canon_lowering.specs.Lowering.{Ending, Reallocated, done, refused}
-use Rattle.canon_memory.specs.Guest.{GuestIn, Moment, Seen, moment}
+use Rattle.canon_memory.specs.Guest.{GuestIn, Seen}
 use Rattle.canon_memory.specs.Realloc.{call}
 use Rattle.canon_memory.specs.declared.event.Event.{Event}
 use Rattle.canon_model.specs.Homes.{host_texts}
@@ -34,6 +33,7 @@ use Rattle.canon_lower_parts.specs.Lowers.{HandlesCross}
 use Rattle.canon_lower_parts.specs.Places.{BlockAsked, IsGivenBlock, IsNoBlock, IsPairPut, TypedPlaces}
 use Rattle.canon_lower_parts.specs.Stores.{TypedMembersStore, TypedStores}
 use Rattle.canon_lower_parts.specs.declared.blocks.Placed.{Placed}
+use Rattle.canon_lowering.specs.Stages.{Stage, holding}
 
 -- ---- what is asked for
 
@@ -50,7 +50,7 @@ asked_items seen moves before after s n bytes unit alignment r eu ea (whole, few
 
 -- ---- faults of a request: no value is to blame
 
-pub elsewhere_asked : (a b : Moment) (c : Call) (e : Fault) (p : ℕ) → Reallocated a b c (fault_ending e) p → IsElsewhere e
+pub elsewhere_asked : {K : Type 0} (a b : Stage K) (c : Call) (e : Fault) (p : ℕ) → Reallocated a b c (fault_ending e) p → IsElsewhere e
 elsewhere_asked a b c (fault.TypeMismatch k) p h = absurd h
 elsewhere_asked a b c (fault.LengthMismatch k) p h = absurd h
 elsewhere_asked a b c (fault.FieldName k) p h = absurd h
@@ -75,7 +75,7 @@ elsewhere_asked a b c (fault.Resource r) p h = absurd h
 
 -- ---- a value that was lowered to words, and not to its end
 
-stop_at : {hs : List ℕ} (a b : Moment) (enc : Encoding) (s : Shape) (at : ℕ) (Has : Tree → Type 0) (ws : List ℕ) (e : Ending) → NotDone e → LowersValue false a b (host_texts enc) s ws 0 Has hs e → StoresValue false a b (host_texts enc) s at Has hs e
+stop_at : {K : Type 0} {hs : List ℕ} (a b : Stage K) (enc : Encoding) (s : Shape) (at : ℕ) (Has : Tree → Type 0) (ws : List ℕ) (e : Ending) → NotDone e → LowersValue false a b (host_texts enc) s ws 0 Has hs e → StoresValue false a b (host_texts enc) s at Has hs e
 stop_at a b enc s at Has ws e not h = record {
   answers = h.answers;
   trap = h.trap;
@@ -102,9 +102,8 @@ module _ {D G : Type 0} (L : GuestLaws G) (options : ℕ) where
             handles = [];
             ending = refused;
             ends = inl refl;
-            attempt = attempt_refused false (moment_of L.seen a) [] _ small;
+            attempt = attempt_refused false (stage_of L.seen L.moves a) [] _ small;
             passed = cross_stopped a.ledger a.ledger gs (fault.SizeOverflow n) refl refl;
-            moved = moves_none L (guest_of a) refused;
             same = refl;
             quiet = λ none. absurd (not_false none);
             cause = λ t has. inr (inl (sym (counts t has), many));
@@ -117,12 +116,11 @@ module _ {D G : Type 0} (L : GuestLaws G) (options : ℕ) where
         handles = [];
         ending = fault_ending e;
         ends = inl refl;
-        attempt = pairs.list_ungiven false (moment_of L.seen a) (moment_of L.seen b) (host_texts (encoding_by a options)) k s n 0 [] 0 Has (fault_ending e) (not_done e) h.small counts h.does;
-        passed = cross_stopped a.ledger b.ledger gs e (same_ledger a b h.same) (ungiven_elsewhere (moment_of L.seen a) (moment_of L.seen b) (items_call false s n) e 0 h.does);
-        moved = h.moved;
+        attempt = pairs.list_ungiven false (stage_of L.seen L.moves a) (stage_of L.seen L.moves b) (host_texts (encoding_by a options)) k s n 0 [] 0 Has (fault_ending e) (not_done e) h.small counts h.does;
+        passed = cross_stopped a.ledger b.ledger gs e (same_ledger a b h.same) (ungiven_elsewhere (stage_of L.seen L.moves a) (stage_of L.seen L.moves b) (items_call false s n) e 0 h.does);
         same = same_handles a b h.same;
         quiet = λ none. absurd (not_false none);
-        cause = λ t has. inl (elsewhere_asked (moment_of L.seen a) (moment_of L.seen b) (items_call false s n) e 0 h.does);
+        cause = λ t has. inl (elsewhere_asked (stage_of L.seen L.moves a) (stage_of L.seen L.moves b) (items_call false s n) e 0 h.does);
         small = tt;
       };
       narrow = tt;
@@ -132,15 +130,12 @@ module _ {D G : Type 0} (L : GuestLaws G) (options : ℕ) where
     module _ (all : ℕ) (ms : Members) (group : Trees → Trees) (back : Tree → Trees) (row : (enc : Encoding) → MakesRow false (host_texts enc) s n ms all group) (Have : Trees → Type 0)
         (to : (ts : Trees) → Have ts → Has (items (group ts)) × (tree_count ts ≡ all)) (from : (t : Tree) → Has t → Have (back t) × (trees_of t ≡ group (back t)))
         (items_large : (enc : Encoding) → AsItems enc s ms Has back) (a b c : Parts D G) (p : ℕ) (g : IsGivenBlock L.seen L.moves a b s n p) where
-      words : (r : Result (Unit {0}) Fault) (h : TypedMembersStore L.seen L.moves options b c ms 0 p Have gs r) → LowersValue false (moment_of L.seen a) (moment_of L.seen c) (host_texts (encoding_by a options)) (list k s) (p ∷ n ∷ []) 0 Has h.handles h.ending
-      words r h = pairs.rows_words false (moment_of L.seen a) (moment_of L.seen b) (moment_of L.seen c) (host_texts (encoding_by a options)) k s n p all ms group back (row (encoding_by a options)) Have Has h.ending g.asked.small g.asked.does (λ _. g.few) to from
-          (subst (λ (x : Encoding). StoresMembers false (moment_of L.seen b) (moment_of L.seen c) (host_texts x) ms 0 p Have h.handles h.ending) (same_encoding a b options g.asked.same) h.attempt)
+      words : (r : Result (Unit {0}) Fault) (h : TypedMembersStore L.seen L.moves options b c ms 0 p Have gs r) → LowersValue false (stage_of L.seen L.moves a) (stage_of L.seen L.moves c) (host_texts (encoding_by a options)) (list k s) (p ∷ n ∷ []) 0 Has h.handles h.ending
+      words r h = pairs.rows_words false (stage_of L.seen L.moves a) (stage_of L.seen L.moves b) (stage_of L.seen L.moves c) (host_texts (encoding_by a options)) k s n p all ms group back (row (encoding_by a options)) Have Has h.ending g.asked.small g.asked.does (λ _. g.few) to from
+          (subst (λ (x : Encoding). StoresMembers false (stage_of L.seen L.moves b) (stage_of L.seen L.moves c) (host_texts x) ms 0 p Have h.handles h.ending) (same_encoding a b options g.asked.same) h.attempt)
 
       passed : (r : Result (Unit {0}) Fault) (h : TypedMembersStore L.seen L.moves options b c ms 0 p Have gs r) → HandlesCross a.ledger c.ledger gs h.handles r
       passed r h = subst (λ (l : LedgerState). HandlesCross l c.ledger gs h.handles r) (same_ledger a b g.asked.same) h.passed
-
-      moved : (r : Result (Unit {0}) Fault) (h : TypedMembersStore L.seen L.moves options b c ms 0 p Have gs r) → Moves L.seen L.moves (guest_of a) (guest_of c) h.ending
-      moved r h = moves_then L (guest_of a) (guest_of b) (guest_of c) h.ending _ _ g.asked.does.answered.goes.events h.attempt.lowering.goes.events g.asked.moved h.moved
 
       all_small : (h : TypedMembersStore L.seen L.moves options b c ms 0 p Have gs (Ok tt)) (t : Tree) → Has t → (e : Fault) → ¬ HaveLarge (encoding_by a options) ms e (back t)
       all_small h t has e some = h.small (back t) (from t has).0 e (subst (λ (x : Encoding). HaveLarge x ms e (back t)) (sym (same_encoding a b options g.asked.same)) some)
@@ -153,7 +148,6 @@ module _ {D G : Type 0} (L : GuestLaws G) (options : ℕ) where
           ends = h.ends;
           attempt = words (Ok tt) h;
           passed = passed (Ok tt) h;
-          moved = moved (Ok tt) h;
           same = handles_then a b c (same_handles a b g.asked.same) h.same;
           quiet = λ none. absurd (not_false none);
           cause = tt;
@@ -168,9 +162,8 @@ module _ {D G : Type 0} (L : GuestLaws G) (options : ℕ) where
           handles = h.handles;
           ending = h.ending;
           ends = h.ends;
-          attempt = attempt_other false (moment_of L.seen a) (moment_of L.seen c) [] _ (value_words false (host_texts (encoding_by a options)) (list k s) [] 0 Has) h.ending (ends_early gs e h.ending h.ends) (λ t has. (has, refl)) (words (Err e) h);
+          attempt = attempt_other false (stage_of L.seen L.moves a) (stage_of L.seen L.moves c) [] _ (value_words false (host_texts (encoding_by a options)) (list k s) [] 0 Has) h.ending (ends_early gs e h.ending h.ends) (λ t has. (has, refl)) (words (Err e) h);
           passed = passed (Err e) h;
-          moved = moved (Err e) h;
           same = handles_then a b c (same_handles a b g.asked.same) h.same;
           quiet = λ none. absurd (not_false none);
           cause = cause_of Have Has (HaveLarge (encoding_by a options) ms) (HasLarge (encoding_by a options) (list k s)) e (λ t has. (back t, (from t has).0, λ some. inr ((items_large (encoding_by a options) t has e).0 some)))
@@ -187,9 +180,8 @@ module _ {D G : Type 0} (L : GuestLaws G) (options : ℕ) where
     handles = h.placed.handles;
     ending = h.placed.ending;
     ends = h.placed.ends;
-    attempt = stop_at (moment_of L.seen a) (moment_of L.seen b) (encoding_by a options) s at Has [] h.placed.ending (ends_early gs e h.placed.ending h.placed.ends) h.placed.attempt;
+    attempt = stop_at (stage_of L.seen L.moves a) (stage_of L.seen L.moves b) (encoding_by a options) s at Has [] h.placed.ending (ends_early gs e h.placed.ending h.placed.ends) h.placed.attempt;
     passed = h.placed.passed;
-    moved = h.placed.moved;
     same = h.placed.same;
     quiet = λ none. absurd (not_false (sym block ∙ none));
     cause = h.placed.cause;
@@ -201,24 +193,22 @@ module _ {D G : Type 0} (L : GuestLaws G) (options : ℕ) where
     Stored s = TypedStores L.seen L.moves options a c s at Has gs (Ok tt)
 
     block_put : (s : Shape) → has_block s ≡ true → (h : TypedPlaces L.seen L.moves options a b s Has gs (Ok x))
-        → (LowersValue false (moment_of L.seen a) (moment (L.seen b.guest) b.memory) (host_texts (encoding_by a options)) s (x.pointer ∷ x.length ∷ []) 0 Has h.placed.handles done
-        → Attempt false (moment (L.seen b.guest) b.memory) (moment (L.seen b.guest) c.memory) (pairs.pair_place false at ∷ []) (pairs.pair_aim false at x.pointer x.length) [] done
-        → StoresValue false (moment_of L.seen a) (moment (L.seen b.guest) c.memory) (host_texts (encoding_by a options)) s at Has h.placed.handles done)
+        → (LowersValue false (stage_of L.seen L.moves a) (holding (stage_of L.seen L.moves b) b.memory) (host_texts (encoding_by a options)) s (x.pointer ∷ x.length ∷ []) 0 Has h.placed.handles done
+        → Attempt false (holding (stage_of L.seen L.moves b) b.memory) (holding (stage_of L.seen L.moves b) c.memory) (pairs.pair_place false at ∷ []) (pairs.pair_aim false at x.pointer x.length) [] done
+        → StoresValue false (stage_of L.seen L.moves a) (holding (stage_of L.seen L.moves b) c.memory) (host_texts (encoding_by a options)) s at Has h.placed.handles done)
         → Stored s
     block_put s block h store =
         let is_done = ends_done gs tt h.placed.ending h.placed.ends in
-        let lowered : LowersValue false (moment_of L.seen a) (moment_of L.seen b) (host_texts (encoding_by a options)) s (x.pointer ∷ x.length ∷ []) 0 Has h.placed.handles done =
-        subst (λ (e : Ending). LowersValue false (moment_of L.seen a) (moment_of L.seen b) (host_texts (encoding_by a options)) s (x.pointer ∷ x.length ∷ []) 0 Has h.placed.handles e) is_done h.placed.attempt in
-        let moved : Moves L.seen L.moves (guest_of a) (guest_of b) done = subst (λ (e : Ending). Moves L.seen L.moves (guest_of a) (guest_of b) e) is_done h.placed.moved in
-        let written : Attempt false (moment (L.seen b.guest) b.memory) (moment (L.seen b.guest) c.memory) (pairs.pair_place false at ∷ []) (pairs.pair_aim false at x.pointer x.length) [] done =
-        pairs.pair_written false (L.seen b.guest) b.memory c.memory at x.pointer x.length lowered.lowering.small room w.pair.writes w.pair.pointer w.pair.count in
+        let lowered : LowersValue false (stage_of L.seen L.moves a) (stage_of L.seen L.moves b) (host_texts (encoding_by a options)) s (x.pointer ∷ x.length ∷ []) 0 Has h.placed.handles done =
+        subst (λ (e : Ending). LowersValue false (stage_of L.seen L.moves a) (stage_of L.seen L.moves b) (host_texts (encoding_by a options)) s (x.pointer ∷ x.length ∷ []) 0 Has h.placed.handles e) is_done h.placed.attempt in
+        let written : Attempt false (holding (stage_of L.seen L.moves b) b.memory) (holding (stage_of L.seen L.moves b) c.memory) (pairs.pair_place false at ∷ []) (pairs.pair_aim false at x.pointer x.length) [] done =
+        pairs.pair_written false (stage_of L.seen L.moves b) b.memory c.memory at x.pointer x.length lowered.lowering.small room w.pair.writes w.pair.pointer w.pair.count in
         subst (λ (y : Parts D G). TypedStores L.seen L.moves options a y s at Has gs (Ok tt)) (sym w.same) (record {
           handles = h.placed.handles;
           ending = done;
           ends = inl refl;
           attempt = store lowered written;
           passed = h.placed.passed;
-          moved = moves_written L (guest_of a) b.guest b.wide b.memory c.memory done w.pair.writes.same_length moved;
           same = ap (λ (y : Parts D G). record y { memory = c.memory }) h.placed.same;
           quiet = λ none. absurd (not_false (sym block ∙ none));
           cause = tt;
@@ -228,8 +218,8 @@ module _ {D G : Type 0} (L : GuestLaws G) (options : ℕ) where
     pub list_put : (z s : Shape) (k : ListKind) → z ≡ list k s → TypedPlaces L.seen L.moves options a b z Has gs (Ok x) → Stored z
     list_put z s k shape h = subst Stored (sym shape) (
         let here : TypedPlaces L.seen L.moves options a b (list k s) Has gs (Ok x) = subst (λ (y : Shape). TypedPlaces L.seen L.moves options a b y Has gs (Ok x)) shape h in
-        block_put (list k s) refl here (λ lowered written. pairs.list_stored false (host_texts (encoding_by a options)) at x.pointer x.length Has (λ _. here.narrow.0) (λ _. here.narrow.1) (moment_of L.seen a) (L.seen b.guest) b.memory c.memory written k s lowered)
+        block_put (list k s) refl here (λ lowered written. pairs.list_stored false (host_texts (encoding_by a options)) at x.pointer x.length Has (λ _. here.narrow.0) (λ _. here.narrow.1) (stage_of L.seen L.moves a) (stage_of L.seen L.moves b) b.memory c.memory written k s lowered)
         )
 
     pub text_put : TypedPlaces L.seen L.moves options a b string Has gs (Ok x) → Stored string
-    text_put h = block_put string refl h (λ lowered written. pairs.string_stored false (host_texts (encoding_by a options)) at x.pointer x.length Has (λ _. h.narrow.0) (λ _. h.narrow.1) (moment_of L.seen a) (L.seen b.guest) b.memory c.memory written lowered)
+    text_put h = block_put string refl h (λ lowered written. pairs.string_stored false (host_texts (encoding_by a options)) at x.pointer x.length Has (λ _. h.narrow.0) (λ _. h.narrow.1) (stage_of L.seen L.moves a) (stage_of L.seen L.moves b) b.memory c.memory written lowered)

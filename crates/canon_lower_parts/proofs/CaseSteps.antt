@@ -2,8 +2,7 @@
 use Rattle.std.proofs.Common.{◌≡◌, ◌≤◌, ◌<◌, ◌+◌, ◌^◌, ◌∙◌, Bool, List, Result, ap, arith, false, length, refl, subst, suc, sym, true, zero, ℕ}
 use Rattle.std.proofs.Math.Nat.{mod-eq_of_lt}
 use Rattle.canon_context.proofs.Moves.{GuestLaws}
-use Rattle.canon_context.specs.Core.{Parts, encoding_by, guest_of, moment_of}
-use Rattle.canon_context.specs.Moves.{Moves}
+use Rattle.canon_context.specs.Core.{Parts, encoding_by, stage_of}
 use Rattle.canon_context.specs.Quiet.{cases_have_block, has_block, have_block}
 use Rattle.canon_context.specs.declared.fault.Fault.{Fault}
 use Rattle.canon_leaves.specs.Parts.{Part}
@@ -70,11 +69,10 @@ module _ {D G : Type 0} (L : GuestLaws G) (options : ℕ) where
         handles = g.handles;
         ending = g.ending;
         ends = g.ends;
-        attempt = variant_stored false (host_texts enc) k cs at d lt Have (moment_of L.seen a) (moment_of L.seen b2) (moment_of L.seen c)
-            (tag_written false (host_texts enc) (L.seen a.guest) a.memory b.memory cs at d w.small (omega (arith, room, ap (size false) shape, tag-le-size false k cs)) w.put.writes (w.put.stored ∙ mod-eq_of_lt (tag_fits (case_count cs) d lt few)))
+        attempt = variant_stored false (host_texts enc) k cs at d lt Have (stage_of L.seen L.moves a) (stage_of L.seen L.moves b2) (stage_of L.seen L.moves c)
+            (tag_written false (host_texts enc) (stage_of L.seen L.moves a) a.memory b.memory cs at d w.small (omega (arith, room, ap (size false) shape, tag-le-size false k cs)) w.put.writes (w.put.stored ∙ mod-eq_of_lt (tag_fits (case_count cs) d lt few)))
             Has g.ending (omega (arith, room, ap (size false) shape, w.put.writes.same_length, g.attempt.lowering.goes.no_shorter)) to from g.attempt;
         passed = g.passed;
-        moved = subst (λ (n : ℕ). Moves L.seen L.moves (record { guest = a.guest; len = n; wide = a.wide }) (guest_of c) g.ending) w.put.writes.same_length g.moved;
         same = g.same;
         quiet = λ none. g.quiet (case_quiet cs d none);
         cause = cause_as Have Has (HaveLarge enc (case_members cs d)) (HasLarge enc (variant k cs)) r (variant_large enc k cs d Have Has from) g.cause;

@@ -3,7 +3,7 @@ use Rattle.std.proofs.Common.{◌≡◌, ◌≤◌, ◌+◌, ◌*◌, ◌∙◌,
 use Rattle.std.specs.Prelude.{flat_map}
 use Rattle.canon_model.specs.Homes.{host_texts}
 use Rattle.canon_context.proofs.Moves.{GuestLaws}
-use Rattle.canon_context.specs.Core.{Parts, encoding_by, moment_of, component_types}
+use Rattle.canon_context.specs.Core.{Parts, component_types, encoding_by, stage_of}
 use Rattle.canon_context.specs.declared.fault.Fault.{Fault}
 use Rattle.canon_leaves.specs.Parts.{Part}
 use Rattle.canon_lowering.proofs.AimedAt as aimed
@@ -68,10 +68,9 @@ module _ {D G : Type 0} (L : GuestLaws G) (options : ℕ) {A : Type 0} (Walks : 
         handles = h.handles;
         ending = h.ending;
         ends = h.ends;
-        attempt = aimed.fixed_stored false (moment_of L.seen a) (moment_of L.seen c) (host_texts (encoding_by a options)) n s at (EachMeans Walks xs) (RowMeans Walks xs) (omega (arith, room, ap (size false) of.shape, h.attempt.lowering.goes.no_shorter))
+        attempt = aimed.fixed_stored false (stage_of L.seen L.moves a) (stage_of L.seen L.moves c) (host_texts (encoding_by a options)) n s at (EachMeans Walks xs) (RowMeans Walks xs) (omega (arith, room, ap (size false) of.shape, h.attempt.lowering.goes.no_shorter))
             (λ ts each. ((ts, refl, each), each_count Walks xs ts each ∙ is)) (row_trees Walks xs) h.ending h.attempt;
         passed = h.passed;
-        moved = h.moved;
         same = h.same;
         quiet = λ none. h.quiet (copies_quiet n s none);
         cause = cause_as (EachMeans Walks xs) (RowMeans Walks xs) (HaveLarge (encoding_by a options) (copies n s)) (HasLarge (encoding_by a options) (fixed n s)) r (fixed_large (encoding_by a options) n s Walks xs is) h.cause;

@@ -3,8 +3,8 @@ use Rattle.std.proofs.Common.{◌≡◌, ◌≤◌, ◌<◌, ◌+◌, ◌^◌, �
 use Rattle.std.proofs.Math.Nat.{mod-eq_of_lt}
 use Rattle.std.proofs.lemmas.List.{get_or-set_same}
 use Rattle.std.specs.Prelude.{slice_index}
-use Rattle.canon_context.proofs.Moves.{GuestLaws, moves_none, moves_written}
-use Rattle.canon_context.specs.Core.{Parts, encoding_by, guest_of, moment_of}
+use Rattle.canon_context.proofs.Moves.{GuestLaws}
+use Rattle.canon_context.specs.Core.{Parts, encoding_by, stage_of}
 use Rattle.canon_context.specs.Faults.{faulted, resource_fault}
 use Rattle.canon_context.specs.declared.fault.Fault.{Fault}
 use Rattle.canon_leaves.proofs.Leaves.{leaves_one, leaves_stop_one}
@@ -23,7 +23,6 @@ use Rattle.canon_lowering.specs.Attempt.{LowersValue, StoresValue}
 use Rattle.canon_lowering.specs.Lowering.{done, refused}
 use Rattle.canon_lowering.specs.Steps.{Writes}
 use Rattle.canon_lowering.specs.Storing.{narrow}
-use Rattle.canon_memory.specs.Guest.{moment}
 use Rattle.canon_memory.specs.Realloc.{block}
 use Rattle.canon_model.specs.Homes.{host_texts}
 use Rattle.canon_model.specs.Layout.{flat, size}
@@ -37,6 +36,7 @@ use Rattle.canon_types.specs.declared.types.InterfaceType.TheVariants as ty
 use Rattle.canon_typed.specs.Meaning.{IsHandle}
 use Rattle.canon_typed.specs.Types.{IsHandleType}
 use Rattle.canon_value_parts.proofs.HandleSteps.{handle_flat, handle_size}
+use Rattle.canon_lowering.specs.Stages.{holding}
 
 -- ---- given
 
@@ -91,7 +91,6 @@ module _ {D G : Type 0} (L : GuestLaws G) (options : ℕ) (a b : Parts D G) (own
         ends = inl refl;
         attempt = words owned (set dst 0 w) (omega (arith, here, few));
         passed = subst (λ (n : ℕ). HandlesCross {T = Unit {0}} a.ledger b.ledger gives (n ∷ []) (Ok tt)) (sym is) given.passed;
-        moved = moves_none L (guest_of a) done;
         same = refl;
         quiet = λ none. (refl, tt);
         cause = tt;
@@ -99,9 +98,9 @@ module _ {D G : Type 0} (L : GuestLaws G) (options : ℕ) (a b : Parts D G) (own
       }))
     where
       words : (owns : Bool) (ws : List ℕ) → slice_index ws 0 < 2 ^ 32
-          → LowersValue false (moment_of L.seen a) (moment_of L.seen a) (host_texts (encoding_by a options)) (shaped_handle owns r) ws 0 IsHandle (low (slice_index ws 0) ∷ []) done
-      words true ws lt = own_words false (moment_of L.seen a) (host_texts (encoding_by a options)) ws 0 IsHandle small r lt (low (slice_index ws 0), refl)
-      words false ws lt = borrow_words false (moment_of L.seen a) (host_texts (encoding_by a options)) ws 0 IsHandle small r lt (low (slice_index ws 0), refl)
+          → LowersValue false (stage_of L.seen L.moves a) (stage_of L.seen L.moves a) (host_texts (encoding_by a options)) (shaped_handle owns r) ws 0 IsHandle (low (slice_index ws 0) ∷ []) done
+      words true ws lt = own_words false (stage_of L.seen L.moves a) (host_texts (encoding_by a options)) ws 0 IsHandle small r lt (low (slice_index ws 0), refl)
+      words false ws lt = borrow_words false (stage_of L.seen L.moves a) (host_texts (encoding_by a options)) ws 0 IsHandle small r lt (low (slice_index ws 0), refl)
 
   -- none was
   pub handle_refused : (ws : List ℕ) (gives : List (List Part)) (e : Fault) → GivesNumber a b gives (Err e) → Low ws gives (Err e)
@@ -110,9 +109,8 @@ module _ {D G : Type 0} (L : GuestLaws G) (options : ℕ) (a b : Parts D G) (own
         handles = [];
         ending = refused;
         ends = given.refusal.0;
-        attempt = attempt_refused false (moment_of L.seen a) [] _ small;
+        attempt = attempt_refused false (stage_of L.seen L.moves a) [] _ small;
         passed = given.passed;
-        moved = moves_none L (guest_of a) refused;
         same = refl;
         quiet = λ none. (refl, refl);
         cause = λ t has. inl given.refusal.1;
@@ -144,7 +142,6 @@ module _ {D G : Type 0} (L : GuestLaws G) (options : ℕ) (a b : Parts D G) (own
         ends = inl refl;
         attempt = bytes owned written;
         passed = subst (λ (n : ℕ). HandlesCross {T = Unit {0}} a.ledger b.ledger gives (n ∷ []) (Ok tt)) (sym there) given.passed;
-        moved = moves_written L (guest_of a) a.guest a.wide a.memory c.memory done written.same_length (moves_none L (guest_of a) done);
         same = refl;
         quiet = λ none. (refl, tt);
         cause = tt;
@@ -152,9 +149,9 @@ module _ {D G : Type 0} (L : GuestLaws G) (options : ℕ) (a b : Parts D G) (own
       }))
     where
       bytes : (owns : Bool) → Writes (block at 4) a.memory c.memory
-          → StoresValue false (moment_of L.seen a) (moment (L.seen a.guest) c.memory) (host_texts (encoding_by a options)) (shaped_handle owns r) at IsHandle (num (narrow c.memory) at 4 ∷ []) done
-      bytes true w = own_stored false (L.seen a.guest) a.memory c.memory (host_texts (encoding_by a options)) at IsHandle small r (handle_room at room) w (num (narrow c.memory) at 4, refl)
-      bytes false w = borrow_stored false (L.seen a.guest) a.memory c.memory (host_texts (encoding_by a options)) at IsHandle small r (handle_room at room) w (num (narrow c.memory) at 4, refl)
+          → StoresValue false (stage_of L.seen L.moves a) (holding (stage_of L.seen L.moves a) c.memory) (host_texts (encoding_by a options)) (shaped_handle owns r) at IsHandle (num (narrow c.memory) at 4 ∷ []) done
+      bytes true w = own_stored false (stage_of L.seen L.moves a) a.memory c.memory (host_texts (encoding_by a options)) at IsHandle small r (handle_room at room) w (num (narrow c.memory) at 4, refl)
+      bytes false w = borrow_stored false (stage_of L.seen L.moves a) a.memory c.memory (host_texts (encoding_by a options)) at IsHandle small r (handle_room at room) w (num (narrow c.memory) at 4, refl)
 
   -- none was
   pub handle_unstored : (at : ℕ) (gives : List (List Part)) (e : Fault) → GivesNumber a b gives (Err e) → Stored b at gives (Err e)
@@ -163,9 +160,8 @@ module _ {D G : Type 0} (L : GuestLaws G) (options : ℕ) (a b : Parts D G) (own
         handles = [];
         ending = refused;
         ends = given.refusal.0;
-        attempt = attempt_refused false (moment_of L.seen a) _ _ small;
+        attempt = attempt_refused false (stage_of L.seen L.moves a) _ _ small;
         passed = given.passed;
-        moved = moves_none L (guest_of a) refused;
         same = refl;
         quiet = λ none. (refl, refl);
         cause = λ t has. inl given.refusal.1;

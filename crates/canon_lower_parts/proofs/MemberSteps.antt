@@ -3,9 +3,8 @@ use Rattle.std.specs.Prelude.{OnOk}
 use Rattle.std.proofs.Common.{◌≡◌, ◌≤◌, ◌+◌, ◌++◌, ◌^◌, ◌∙◌, Err, IfErr, List, Ok, Result, [], ◌∷◌, ap, append-nil, arith, false, inl, length, refl, subst, sym, ℕ}
 use Rattle.std.proofs.Math.Nat.{zero-mod}
 use Rattle.std.proofs.lemmas.Nat.Gcd.{dvd_of_mod-eq-zero}
-use Rattle.canon_context.proofs.Moves.{GuestLaws, moves_none, moves_then}
-use Rattle.canon_context.specs.Core.{Parts, encoding_by, guest_of, moment_of}
-use Rattle.canon_context.specs.Moves.{Moves}
+use Rattle.canon_context.proofs.Moves.{GuestLaws}
+use Rattle.canon_context.specs.Core.{Parts, encoding_by, stage_of}
 use Rattle.canon_context.specs.Quiet.{has_block, have_block}
 use Rattle.canon_context.specs.declared.fault.Fault.{Fault}
 use Rattle.canon_leaves.specs.Parts.{Part}
@@ -36,9 +35,9 @@ begins_zero s = begins-same false 0 s (dvd_of_mod-eq-zero (align false s) (zero-
 module _ {D G : Type 0} (L : GuestLaws G) (options : ℕ) where
   -- what a value that was stored did
   pub stored_done : (a b : Parts D G) (s : Shape) (at : ℕ) (Has : Tree → Type 0) (gs : List (List Part)) (h : TypedStores L.seen L.moves options a b s at Has gs (Ok tt))
-      → StoresValue false (moment_of L.seen a) (moment_of L.seen b) (host_texts (encoding_by a options)) s at Has h.handles done × Moves L.seen L.moves (guest_of a) (guest_of b) done
-  stored_done a b s at Has gs h = subst (λ (e : Ending). StoresValue false (moment_of L.seen a) (moment_of L.seen b) (host_texts (encoding_by a options)) s at Has h.handles e × Moves L.seen L.moves (guest_of a) (guest_of b) e)
-      (ends_done gs tt h.ending h.ends) (h.attempt, h.moved)
+      → StoresValue false (stage_of L.seen L.moves a) (stage_of L.seen L.moves b) (host_texts (encoding_by a options)) s at Has h.handles done
+  stored_done a b s at Has gs h = subst (λ (e : Ending). StoresValue false (stage_of L.seen L.moves a) (stage_of L.seen L.moves b) (host_texts (encoding_by a options)) s at Has h.handles e)
+      (ends_done gs tt h.ending h.ends) h.attempt
 
   pub members_nothing : (a : Parts D G) (o at : ℕ) → length a.memory ≤ 2 ^ 32 → TypedMembersStore L.seen L.moves options a a no_members o at NoTrees [] (Ok tt)
   unfolding requests leaves
@@ -46,9 +45,8 @@ module _ {D G : Type 0} (L : GuestLaws G) (options : ℕ) where
     handles = [];
     ending = done;
     ends = inl refl;
-    attempt = attempt_none false (moment_of L.seen a) (members_span false no_members o at ∷ []) (members_at false (host_texts (encoding_by a options)) no_members o at NoTrees) no_trees small refl (λ ts e. refl) refl (λ pointer rest. refl);
+    attempt = attempt_none false (stage_of L.seen L.moves a) (members_span false no_members o at ∷ []) (members_at false (host_texts (encoding_by a options)) no_members o at NoTrees) no_trees small refl (λ ts e. refl) refl (λ pointer rest. refl);
     passed = (refl, refl);
-    moved = moves_none L (guest_of a) done;
     same = refl;
     quiet = λ none. (refl, tt);
     cause = tt;
@@ -61,16 +59,15 @@ module _ {D G : Type 0} (L : GuestLaws G) (options : ℕ) where
   members_more a b c s ms o at Has Have gs ks r h k =
       let enc : Encoding = encoding_by a options in
       let same_enc = handles_encoding a b options h.same in
-      let (stored, moved) = stored_done a b s (at + begins false o s) Has gs h in
-      let rest : StoresMembers false (moment_of L.seen b) (moment_of L.seen c) (host_texts enc) ms (ends false o s) at Have k.handles k.ending =
-      subst (λ (z : Encoding). StoresMembers false (moment_of L.seen b) (moment_of L.seen c) (host_texts z) ms (ends false o s) at Have k.handles k.ending) same_enc k.attempt in
+      let stored = stored_done a b s (at + begins false o s) Has gs h in
+      let rest : StoresMembers false (stage_of L.seen L.moves b) (stage_of L.seen L.moves c) (host_texts enc) ms (ends false o s) at Have k.handles k.ending =
+      subst (λ (z : Encoding). StoresMembers false (stage_of L.seen L.moves b) (stage_of L.seen L.moves c) (host_texts z) ms (ends false o s) at Have k.handles k.ending) same_enc k.attempt in
       record {
         handles = h.handles ++ k.handles;
         ending = k.ending;
         ends = ends_more ks (gs ++ ks) r k.ending (none_later gs ks) k.ends;
-        attempt = aimed.members_cons false (host_texts enc) [] s ms o at Has Have (moment_of L.seen a) (moment_of L.seen b) (moment_of L.seen c) k.ending stored rest;
+        attempt = aimed.members_cons false (host_texts enc) [] s ms o at Has Have (stage_of L.seen L.moves a) (stage_of L.seen L.moves b) (stage_of L.seen L.moves c) k.ending stored rest;
         passed = cross_then a.ledger b.ledger c.ledger gs ks h.handles k.handles r h.passed k.passed;
-        moved = moves_then L (guest_of a) (guest_of b) (guest_of c) k.ending _ _ h.attempt.lowering.goes.events k.attempt.lowering.goes.events moved k.moved;
         same = handles_then a b c h.same k.same;
         quiet = λ none. ((k.quiet (no_later (has_block s) (have_block ms) none)).0 ∙ (h.quiet (no_first (has_block s) (have_block ms) none)).0, (k.quiet (no_later (has_block s) (have_block ms) none)).1);
         cause = cause_then Has Have (FirstAnd Has Have) (HasLarge enc s) (HaveLarge enc ms) (HaveLarge enc (member [] s ms)) (first_large enc s ms Has Have) r (subst (λ (z : Encoding). IfErr r (Cause Have (HaveLarge z ms))) same_enc k.cause);
@@ -86,9 +83,8 @@ module _ {D G : Type 0} (L : GuestLaws G) (options : ℕ) where
         handles = h.handles;
         ending = h.ending;
         ends = ends_more gs (gs ++ ks) (Err e) h.ending (none_first gs ks) h.ends;
-        attempt = aimed.members_stop false (host_texts enc) [] s ms o at Has Have (moment_of L.seen a) (moment_of L.seen b) h.ending (ends_early gs e h.ending h.ends) h.attempt;
+        attempt = aimed.members_stop false (host_texts enc) [] s ms o at Has Have (stage_of L.seen L.moves a) (stage_of L.seen L.moves b) h.ending (ends_early gs e h.ending h.ends) h.attempt;
         passed = cross_stop a.ledger b.ledger gs ks h.handles h.handles e h.passed;
-        moved = h.moved;
         same = h.same;
         quiet = λ none. h.quiet (no_first (has_block s) (have_block ms) none);
         cause = cause_first Has Have (FirstAnd Has Have) (HasLarge enc s) (HaveLarge enc ms) (HaveLarge enc (member [] s ms)) (first_large enc s ms Has Have) e h.cause;
@@ -116,10 +112,9 @@ module _ {D G : Type 0} (L : GuestLaws G) (options : ℕ) where
     handles = h.handles;
     ending = h.ending;
     ends = h.ends;
-    attempt = aimed.product_stored false (moment_of L.seen a) (moment_of L.seen c) (host_texts (encoding_by a options)) k ms at Have (ProductMeans Have) h.ending (omega (arith, room, ap (size false) shape, h.attempt.lowering.goes.no_shorter))
+    attempt = aimed.product_stored false (stage_of L.seen L.moves a) (stage_of L.seen L.moves c) (host_texts (encoding_by a options)) k ms at Have (ProductMeans Have) h.ending (omega (arith, room, ap (size false) shape, h.attempt.lowering.goes.no_shorter))
         (λ ts have. (ts, refl, have)) (λ t (ts, is, have). subst Have (sym (ap trees_of is)) have) h.attempt;
     passed = h.passed;
-    moved = h.moved;
     same = h.same;
     quiet = h.quiet;
     cause = cause_as Have (ProductMeans Have) (HaveLarge (encoding_by a options) ms) (HasLarge (encoding_by a options) (product k ms)) r (product_large (encoding_by a options) k ms Have) h.cause;

@@ -1,7 +1,7 @@
 -- A scalar, stored by its word.
 use Rattle.std.proofs.Common.{◌≡◌, ◌≤◌, ◌+◌, ◌%◌, ◌^◌, ◌∙◌, Ok, [], ap, arith, false, inl, length, refl, subst, sym, ℕ}
-use Rattle.canon_context.proofs.Moves.{GuestLaws, moves_none, moves_written}
-use Rattle.canon_context.specs.Core.{Parts, encoding_by, guest_of}
+use Rattle.canon_context.proofs.Moves.{GuestLaws}
+use Rattle.canon_context.specs.Core.{Parts, encoding_by, stage_of}
 use Rattle.canon_lowering.proofs.AimedAt.{scalar_stored}
 use Rattle.canon_lowering.specs.Lowering.{done}
 use Rattle.canon_lowering.specs.Steps.{Writes}
@@ -35,10 +35,9 @@ module _ {D G : Type 0} (L : GuestLaws G) (options : ℕ) where
         handles = [];
         ending = done;
         ends = inl refl;
-        attempt = scalar_stored false (L.seen a.guest) a.memory b.memory (host_texts (encoding_by a options)) at Has small k t (omega (arith, room, ap (size false) shape)) written
+        attempt = scalar_stored false (stage_of L.seen L.moves a) a.memory b.memory (host_texts (encoding_by a options)) at Has small k t (omega (arith, room, ap (size false) shape)) written
             (subst (λ (n : ℕ). ScalarIs k n t) (sym there) low) (subst (λ (n : ℕ). IsLeast k n) (sym there) lowest) has;
         passed = (refl, refl);
-        moved = moves_written L (guest_of a) a.guest a.wide a.memory b.memory done put.writes.same_length (moves_none L (guest_of a) done);
         same = refl;
         quiet = λ none. (refl, tt);
         cause = tt;

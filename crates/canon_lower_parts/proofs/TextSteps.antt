@@ -2,7 +2,7 @@
 use Rattle.std.proofs.Common.{◌≡◌, ◌≤◌, ◌+◌, Result, arith, length, ◌⊎◌, ◌∷◌, Err, List, Ok, String, [], ap, false, inl, inr, refl, string_bytes, subst, sym, ℕ}
 use Rattle.std.specs.declared.alloc.Global.{Global}
 use Rattle.canon_context.proofs.Moves.{GuestLaws}
-use Rattle.canon_context.specs.Core.{Parts, encoding_by, moment_of, component_types}
+use Rattle.canon_context.specs.Core.{Parts, component_types, encoding_by, stage_of}
 use Rattle.canon_context.specs.Lowers.{fault_ending}
 use Rattle.canon_context.specs.declared.fault.Fault.{Fault}
 use Rattle.canon_context.specs.declared.fault.Fault.TheVariants as fault
@@ -59,9 +59,9 @@ text_large enc s e n is long t (cs, k, same, spelled) = subst (λ (x : Fault). H
 
 module _ {D G : Type 0} (L : GuestLaws G) (options : ℕ) (a b : Parts D G) (s : String Global) where
   -- a text's trees are the string's
-  as_string : (ws : List ℕ) (e : Ending) → LowersValue false (moment_of L.seen a) (moment_of L.seen b) (host_texts (encoding_by a options)) string ws 0 (IsTextOf (string_bytes s)) [] e
-      → LowersValue false (moment_of L.seen a) (moment_of L.seen b) (host_texts (encoding_by a options)) string ws 0 (TextMeans s) [] e
-  as_string ws e h = attempt_as false (moment_of L.seen a) (moment_of L.seen b) [] [] (value_words false (host_texts (encoding_by a options)) string ws 0 (IsTextOf (string_bytes s)))
+  as_string : (ws : List ℕ) (e : Ending) → LowersValue false (stage_of L.seen L.moves a) (stage_of L.seen L.moves b) (host_texts (encoding_by a options)) string ws 0 (IsTextOf (string_bytes s)) [] e
+      → LowersValue false (stage_of L.seen L.moves a) (stage_of L.seen L.moves b) (host_texts (encoding_by a options)) string ws 0 (TextMeans s) [] e
+  as_string ws e h = attempt_as false (stage_of L.seen L.moves a) (stage_of L.seen L.moves b) [] [] (value_words false (host_texts (encoding_by a options)) string ws 0 (IsTextOf (string_bytes s)))
       (value_words false (host_texts (encoding_by a options)) string ws 0 (TextMeans s)) e (λ i q. q) (record {
         turn = λ t. t;
         back = λ t. t;
@@ -81,7 +81,6 @@ module _ {D G : Type 0} (L : GuestLaws G) (options : ℕ) (a b : Parts D G) (s :
       ends = inl refl;
       attempt = as_string (p ∷ n ∷ []) done h.lowered;
       passed = (refl, same_ledger a b h.same);
-      moved = h.moved;
       same = same_handles a b h.same;
       quiet = λ none. absurd (not_false none);
       cause = tt;
@@ -98,7 +97,6 @@ module _ {D G : Type 0} (L : GuestLaws G) (options : ℕ) (a b : Parts D G) (s :
       ends = inl refl;
       attempt = as_string [] (fault_ending e) h.lowered;
       passed = cross_stopped a.ledger b.ledger [] e (same_ledger a b h.same) (ledger_unless e (λ r is. let (still, n, long, many) = h.blames (ap fault_ending is) in let other : e ≡ fault.Resource r = is in cc));
-      moved = h.moved;
       same = same_handles a b h.same;
       quiet = λ none. absurd (not_false none);
       cause = λ t has. blamed t has (own_or_elsewhere e);

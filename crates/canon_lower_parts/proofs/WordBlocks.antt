@@ -1,7 +1,7 @@
 -- Texts and lists in blocks of their own, in two words.
 use Rattle.std.proofs.Common.{◌≡◌, ◌∙◌, ◌∷◌, Err, List, Ok, Result, [], ap, false, length, refl, subst, sym, true, ℕ}
 use Rattle.canon_context.proofs.Moves.{GuestLaws}
-use Rattle.canon_context.specs.Core.{Parts, encoding_by, moment_of}
+use Rattle.canon_context.specs.Core.{Parts, encoding_by, stage_of}
 use Rattle.canon_context.specs.Quiet.{has_block}
 use Rattle.canon_context.specs.declared.fault.Fault.{Fault}
 use Rattle.canon_leaves.specs.Parts.{Part}
@@ -39,10 +39,9 @@ module _ {D G : Type 0} (L : GuestLaws G) (options : ℕ) (a b : Parts D G) (s :
     handles = h.placed.handles;
     ending = h.placed.ending;
     ends = h.placed.ends;
-    attempt = words_moved false (moment_of L.seen a) (moment_of L.seen b) (host_texts (encoding_by a options)) s (x.pointer ∷ x.length ∷ []) ws 0 0 Has h.placed.ending fits
+    attempt = words_moved false (stage_of L.seen L.moves a) (stage_of L.seen L.moves b) (host_texts (encoding_by a options)) s (x.pointer ∷ x.length ∷ []) ws 0 0 Has h.placed.ending fits
         (subst (λ (n : ℕ). SameWords (x.pointer ∷ x.length ∷ []) 0 ws 0 n) (sym two) there) h.placed.attempt;
     passed = h.placed.passed;
-    moved = h.placed.moved;
     same = h.placed.same;
     quiet = λ none. absurd (not_false (sym block ∙ none));
     cause = tt;
@@ -55,9 +54,8 @@ module _ {D G : Type 0} (L : GuestLaws G) (options : ℕ) (a b : Parts D G) (s :
     handles = h.placed.handles;
     ending = h.placed.ending;
     ends = h.placed.ends;
-    attempt = attempt_other false (moment_of L.seen a) (moment_of L.seen b) [] _ (value_words false (host_texts (encoding_by a options)) s ws 0 Has) h.placed.ending (ends_early gs e h.placed.ending h.placed.ends) (λ t has. (has, refl)) h.placed.attempt;
+    attempt = attempt_other false (stage_of L.seen L.moves a) (stage_of L.seen L.moves b) [] _ (value_words false (host_texts (encoding_by a options)) s ws 0 Has) h.placed.ending (ends_early gs e h.placed.ending h.placed.ends) (λ t has. (has, refl)) h.placed.attempt;
     passed = h.placed.passed;
-    moved = h.placed.moved;
     same = h.placed.same;
     quiet = λ none. absurd (not_false (sym block ∙ none));
     cause = h.placed.cause;

@@ -3,7 +3,7 @@ use Rattle.std.proofs.Common.{◌≡◌, ◌≤◌, ◌<◌, ◌+◌, ◌^◌, �
 use Rattle.std.proofs.lemmas.List.{get_or_past}
 use Rattle.std.specs.Prelude.{IfOk, slice_index}
 use Rattle.canon_context.proofs.Moves.{GuestLaws}
-use Rattle.canon_context.specs.Core.{Parts, encoding_by, moment_of}
+use Rattle.canon_context.specs.Core.{Parts, encoding_by, stage_of}
 use Rattle.canon_context.specs.Quiet.{cases_have_block, has_block}
 use Rattle.canon_context.specs.declared.fault.Fault.{Fault}
 use Rattle.canon_leaves.specs.Parts.{Part}
@@ -27,9 +27,9 @@ use Rattle.canon_model.specs.Requests.{host_asks, members_requests, requests}
 use Rattle.canon_model.specs.Shape.{Cases, Members, Shape, VariantKind, bare, case_count, member, no_cases, no_members, payload, variant}
 use Rattle.canon_model.specs.Text.{Encoding}
 use Rattle.canon_model.specs.Tree.{Tree, Trees, case, case_number, no_trees, tree, tree_at}
-use Rattle.canon_memory.specs.Guest.{Moment}
 use Rattle.canon_typed.specs.Meaning.{CaseMeans, NoTrees}
 use Rattle.canon_types.specs.Instance.{Instance}
+use Rattle.canon_lowering.specs.Stages.{Stage}
 
 -- ---- of the cases
 
@@ -61,7 +61,7 @@ unfolding requests
 only_asks enc u ts t e = subst (λ (zs : Trees). members_requests false (host_asks enc) (only u) zs ≡ requests false (host_asks enc) u (tree_at zs 0)) (sym e) (append-nil (requests false (host_asks enc) u t))
 
 -- a value as the only member
-only_member : {hs : List ℕ} (a c : Moment) (enc : Encoding) (u : Shape) (ws : List ℕ) (i : ℕ) (Has : Tree → Type 0) (e : Ending) → LowersValue false a c (host_texts enc) u ws i Has hs e → LowersMembers false a c (host_texts enc) (only u) ws i (FirstAnd Has NoTrees) hs e
+only_member : {K : Type 0} {hs : List ℕ} (a c : Stage K) (enc : Encoding) (u : Shape) (ws : List ℕ) (i : ℕ) (Has : Tree → Type 0) (e : Ending) → LowersValue false a c (host_texts enc) u ws i Has hs e → LowersMembers false a c (host_texts enc) (only u) ws i (FirstAnd Has NoTrees) hs e
 unfolding requests leaves flat
 only_member a c enc u ws i Has e h = attempt_as false a c [] [] _ (members_words false (host_texts enc) (only u) ws i (FirstAnd Has NoTrees)) e (λ j q. q) (record {
   turn = λ t. tree t no_trees;
@@ -82,12 +82,12 @@ module _ {D G : Type 0} (L : GuestLaws G) (options : ℕ) (a c : Parts D G) (s :
   pub bare_lowers : (ws : List ℕ) → length a.memory ≤ 2 ^ 32 → case_members cs d ≡ no_members → length ws ≡ flat s → IsCaseWords d 1 ws → TypedLowers L.seen L.moves options a a s ws 0 (λ t. t ≡ case d) [] (Ok tt)
   unfolding flat requests leaves
   bare_lowers ws small none room (tag, zeros) =
-      let members : LowersMembers false (moment_of L.seen a) (moment_of L.seen a) (host_texts enc) (case_members cs d) ws 1 NoTrees [] done =
-      subst (λ (ms : Members). LowersMembers false (moment_of L.seen a) (moment_of L.seen a) (host_texts enc) ms ws 1 NoTrees [] done) (sym none)
-      (attempt_none false (moment_of L.seen a) [] (members_words false (host_texts enc) no_members ws 1 NoTrees) no_trees small refl (λ ts h. refl) refl (λ pointer rest. refl)) in
+      let members : LowersMembers false (stage_of L.seen L.moves a) (stage_of L.seen L.moves a) (host_texts enc) (case_members cs d) ws 1 NoTrees [] done =
+      subst (λ (ms : Members). LowersMembers false (stage_of L.seen L.moves a) (stage_of L.seen L.moves a) (host_texts enc) ms ws 1 NoTrees [] done) (sym none)
+      (attempt_none false (stage_of L.seen L.moves a) [] (members_words false (host_texts enc) no_members ws 1 NoTrees) no_trees small refl (λ ts h. refl) refl (λ pointer rest. refl)) in
       subst (λ (z : Shape). TypedLowers L.seen L.moves options a a z ws 0 (λ t. t ≡ case d) [] (Ok tt)) (sym shape)
       (typed_none L a [] (value_words false (host_texts enc) (variant k cs) ws 0 (λ t. t ≡ case d)) (has_block (variant k cs)) (HasLarge enc (variant k cs))
-      (variant_words false (moment_of L.seen a) (moment_of L.seen a) (host_texts enc) k cs ws 0 d NoTrees (λ t. t ≡ case d) done inside tag few
+      (variant_words false (stage_of L.seen L.moves a) (stage_of L.seen L.moves a) (host_texts enc) k cs ws 0 d NoTrees (λ t. t ≡ case d) done inside tag few
       (λ j l u. zeros j (omega (arith, l)) (omega (arith, u, room, ap flat shape)))
       (λ ts h. (ap (λ us. case_tree d us) h, subst (λ ms. CaseIs false (host_texts enc) ms d (case_tree d ts)) (sym none) (ap (λ us. case_tree d us) h)))
       (λ t e. (ap case_number e, ap payload_trees e, subst (λ ms. CaseIs false (host_texts enc) ms d t) (sym none) e)) members)
@@ -95,15 +95,15 @@ module _ {D G : Type 0} (L : GuestLaws G) (options : ℕ) (a c : Parts D G) (s :
 
   -- with one
   module _ (u : Shape) (Has : Tree → Type 0) (gives : List (List Part)) (one : case_members cs d ≡ only u) where
-    with_payload : {hs : List ℕ} (ws : List ℕ) (e : Ending) → slice_index ws 0 ≡ d → AreZero ws (1 + flat u) (1 + cases_flat cs) → LowersValue false (moment_of L.seen a) (moment_of L.seen c) (host_texts enc) u ws 1 Has hs e
-        → LowersValue false (moment_of L.seen a) (moment_of L.seen c) (host_texts enc) (variant k cs) ws 0 (CaseOf d Has) hs e
+    with_payload : {hs : List ℕ} (ws : List ℕ) (e : Ending) → slice_index ws 0 ≡ d → AreZero ws (1 + flat u) (1 + cases_flat cs) → LowersValue false (stage_of L.seen L.moves a) (stage_of L.seen L.moves c) (host_texts enc) u ws 1 Has hs e
+        → LowersValue false (stage_of L.seen L.moves a) (stage_of L.seen L.moves c) (host_texts enc) (variant k cs) ws 0 (CaseOf d Has) hs e
     unfolding flat
-    with_payload {hs = hs} ws e tag zeros h = variant_words false (moment_of L.seen a) (moment_of L.seen c) (host_texts enc) k cs ws 0 d (FirstAnd Has NoTrees) (CaseOf d Has) e inside tag few
+    with_payload {hs = hs} ws e tag zeros h = variant_words false (stage_of L.seen L.moves a) (stage_of L.seen L.moves c) (host_texts enc) k cs ws 0 d (FirstAnd Has NoTrees) (CaseOf d Has) e inside tag few
         (subst (λ (ms : Members). AreZero ws (1 + members_flat ms) (1 + cases_flat cs)) (sym one) (λ j l v. zeros j (omega (arith, l)) v))
         (λ ts (t, us, e2, has, none). let is : ts ≡ tree t no_trees = e2 ∙ ap (λ (zs : Trees). tree t zs) none in
         ((t, ap (λ (zs : Trees). case_tree d zs) is, has), subst (λ (ms : Members). CaseIs false (host_texts enc) ms d (case_tree d ts)) (sym one) (t, ap (λ (zs : Trees). case_tree d zs) is)))
         (λ t (v, e2, has). (ap case_number e2, (v, no_trees, ap payload_trees e2, has, refl), subst (λ (ms : Members). CaseIs false (host_texts enc) ms d t) (sym one) (v, e2)))
-        (subst (λ (ms : Members). LowersMembers false (moment_of L.seen a) (moment_of L.seen c) (host_texts enc) ms ws 1 (FirstAnd Has NoTrees) hs e) (sym one) (only_member (moment_of L.seen a) (moment_of L.seen c) enc u ws 1 Has e h))
+        (subst (λ (ms : Members). LowersMembers false (stage_of L.seen L.moves a) (stage_of L.seen L.moves c) (host_texts enc) ms ws 1 (FirstAnd Has NoTrees) hs e) (sym one) (only_member (stage_of L.seen L.moves a) (stage_of L.seen L.moves c) enc u ws 1 Has e h))
 
     whole : (ws : List ℕ) (r : Result (Unit {0}) Fault) → slice_index ws 0 ≡ d → AreZero ws (1 + flat u) (1 + cases_flat cs) → TypedLowers L.seen L.moves options a c u ws 1 Has gives r
         → TypedLowers L.seen L.moves options a c (variant k cs) ws 0 (CaseOf d Has) gives r

@@ -2,7 +2,7 @@
 use Rattle.std.proofs.Common.{◌≡◌, ◌≤◌, ◌+◌, ◌*◌, ◌^◌, ◌∙◌, Err, List, Ok, Result, [], ◌∷◌, ap, arith, drop, false, length, refl, subst, sym, ℕ}
 use Rattle.std.specs.Prelude.{flat_map}
 use Rattle.canon_context.proofs.Moves.{GuestLaws}
-use Rattle.canon_context.specs.Core.{Parts, encoding_by, moment_of, component_types}
+use Rattle.canon_context.specs.Core.{Parts, component_types, encoding_by, stage_of}
 use Rattle.canon_context.specs.Quiet.{has_block, have_block}
 use Rattle.canon_context.specs.declared.fault.Fault.{Fault}
 use Rattle.canon_leaves.specs.Parts.{Part}
@@ -98,7 +98,7 @@ fixed_lowers L options a c s u n Walks xs ws gs r shape count h =
     subst (λ (z : Shape). TypedLowers L.seen L.moves options a c z ws 0 (RowMeans Walks xs) gs r) (sym shape)
     (typed_map L a c [] [] (members_words false (host_texts enc) (copies n u) ws 0 (EachMeans Walks xs)) (value_words false (host_texts enc) (fixed n u) ws 0 (RowMeans Walks xs)) gs (have_block (copies n u)) (has_block (fixed n u)) (Kept a c)
     (HaveLarge enc (copies n u)) (HasLarge enc (fixed n u)) r
-    (λ hs e m. fixed_words false (moment_of L.seen a) (moment_of L.seen c) (host_texts enc) n u ws 0 (EachMeans Walks xs) (RowMeans Walks xs) e
+    (λ hs e m. fixed_words false (stage_of L.seen L.moves a) (stage_of L.seen L.moves c) (host_texts enc) n u ws 0 (EachMeans Walks xs) (RowMeans Walks xs) e
     (λ ts each. ((ts, refl, each), each_count Walks xs ts each ∙ count)) (row_trees Walks xs) m)
     (copies_quiet n u) (fixed_large enc n u Walks xs count) here)
 

@@ -6,7 +6,7 @@ use Rattle.std.proofs.lemmas.Slice.{between-put_mid}
 use Rattle.std.specs.Prelude.{slice_index}
 use borrow.Rule.Slice.PartMut.{put_mid}
 use Rattle.canon_context.proofs.Moves.{GuestLaws}
-use Rattle.canon_context.specs.Core.{Parts, encoding_by, moment_of}
+use Rattle.canon_context.specs.Core.{Parts, encoding_by, stage_of}
 use Rattle.canon_context.specs.Quiet.{has_block, have_block}
 use Rattle.canon_context.specs.declared.fault.Fault.{Fault}
 use Rattle.canon_leaves.specs.Parts.{Part}
@@ -59,7 +59,7 @@ module _ {D G : Type 0} (L : GuestLaws G) (options : ℕ) where
       let here : w ≡ slice_index (set dst 0 w) 0 = sym (get_or-set_same dst 0 w 0 (omega (arith, room, ap flat shape))) in
       subst (λ (z : Shape). Low a a z (set dst 0 w) 0 Has [] (Ok tt)) (sym shape)
       (typed_none L a [] (value_words false (host_texts (encoding_by a options)) (scalar k) (set dst 0 w) 0 Has) (has_block (scalar k)) (HasLarge (encoding_by a options) (scalar k))
-      (scalar_words false (moment_of L.seen a) (host_texts (encoding_by a options)) (set dst 0 w) 0 Has small k t
+      (scalar_words false (stage_of L.seen L.moves a) (host_texts (encoding_by a options)) (set dst 0 w) 0 Has small k t
       (subst (λ (x : ℕ). ScalarIs k (x % 2 ^ flat_bits k) t) here is) (subst (λ (x : ℕ). IsLeastWord k x) here least) has) (λ u is e some. some))
 
   -- ---- a value whose words are a part of more
@@ -69,7 +69,7 @@ module _ {D G : Type 0} (L : GuestLaws G) (options : ℕ) where
   moved_lowers a c s ws vs i j Has gives r fits same h =
       typed_map L a c [] [] (value_words false (host_texts (encoding_by a options)) s ws i Has) (value_words false (host_texts (encoding_by a options)) s vs j Has) gives (has_block s) (has_block s) (Kept a c)
       (HasLarge (encoding_by a options) s) (HasLarge (encoding_by a options) s) r
-      (λ hs e k. words_moved false (moment_of L.seen a) (moment_of L.seen c) (host_texts (encoding_by a options)) s ws vs i j Has e fits same k) (λ e. e) (λ t has. (t, has, λ e b. b, λ e b. b)) h
+      (λ hs e k. words_moved false (stage_of L.seen L.moves a) (stage_of L.seen L.moves c) (host_texts (encoding_by a options)) s ws vs i j Has e fits same k) (λ e. e) (λ t has. (t, has, λ e b. b, λ e b. b)) h
 
   pub at_lowers : (a c : Parts D G) (s : Shape) (dst vs : List ℕ) (i k : ℕ) (Has : Tree → Type 0) (gives : List (List Part)) (r : Result (Unit {0}) Fault) → ((t : Tree) → Has t → Fits s t) → k ≡ flat s → i + flat s ≤ length dst
       → length vs ≡ flat s → Low a c s vs 0 Has gives r → Low a c s (put_mid i k dst vs) i Has gives r
@@ -81,7 +81,7 @@ module _ {D G : Type 0} (L : GuestLaws G) (options : ℕ) where
   pub members_none : (a : Parts D G) (ws : List ℕ) (i : ℕ) → length a.memory ≤ 2 ^ 32 → Lows a a no_members ws i NoTrees [] (Ok tt)
   unfolding flat requests leaves
   members_none a ws i small = typed_none L a [] (members_words false (host_texts (encoding_by a options)) no_members ws i NoTrees) (have_block no_members) (HaveLarge (encoding_by a options) no_members)
-      (attempt_none false (moment_of L.seen a) [] (members_words false (host_texts (encoding_by a options)) no_members ws i NoTrees) no_trees small refl (λ ts h. refl) refl (λ pointer rest. refl)) (λ ts none e some. some)
+      (attempt_none false (stage_of L.seen L.moves a) [] (members_words false (host_texts (encoding_by a options)) no_members ws i NoTrees) no_trees small refl (λ ts h. refl) refl (λ pointer rest. refl)) (λ ts none e some. some)
 
   -- the first member's words are there at the end too
   pub members_more : (a b c : Parts D G) (s : Shape) (ms : Members) (ws vs : List ℕ) (i : ℕ) (Has : Tree → Type 0) (Have : Trees → Type 0) (gs fs : List (List Part)) (r : Result (Unit {0}) Fault)
@@ -92,7 +92,7 @@ module _ {D G : Type 0} (L : GuestLaws G) (options : ℕ) where
       subst (λ (x : Encoding). TypedAttempt L.seen L.moves b c [] (members_words false (host_texts x) ms vs (i + flat s) Have) fs (have_block ms) (Kept b c) (HaveLarge x ms) r) (handles_encoding a b options h.same) k in
       typed_then L a b c [] [] [] (value_words false (host_texts enc) s ws i Has) (members_words false (host_texts enc) ms vs (i + flat s) Have) (members_words false (host_texts enc) (member [] s ms) vs i (FirstAnd Has Have)) gs fs
       (has_block s) (have_block ms) (have_block (member [] s ms)) (Kept a b) (Kept b c) (Kept a c) (HasLarge enc s) (HaveLarge enc ms) (HaveLarge enc (member [] s ms)) r
-      (λ hs ks e first second. members_words_cons false (host_texts enc) [] s ms i Has Have vs (moment_of L.seen a) (moment_of L.seen b) (moment_of L.seen c) ws e fits same first second)
+      (λ hs ks e first second. members_words_cons false (host_texts enc) [] s ms i Has Have vs (stage_of L.seen L.moves a) (stage_of L.seen L.moves b) (stage_of L.seen L.moves c) ws e fits same first second)
       (λ none. (no_first (has_block s) (have_block ms) none, no_later (has_block s) (have_block ms) none)) (λ one two. two ∙ ap (λ (x : Parts D G). record x { ledger = c.ledger }) one)
       (first_large enc s ms Has Have) h rest
 
@@ -103,7 +103,7 @@ module _ {D G : Type 0} (L : GuestLaws G) (options : ℕ) where
       let enc : Encoding = encoding_by a options in
       typed_stop L a b [] [] (value_words false (host_texts enc) s ws i Has) Have (members_words false (host_texts enc) (member [] s ms) ws i (FirstAnd Has Have)) gs fs (has_block s) (have_block (member [] s ms)) (Kept a b)
       (HasLarge enc s) (HaveLarge enc ms) (HaveLarge enc (member [] s ms)) e
-      (λ hs d not first. members_words_stop false (host_texts enc) [] s ms i Has Have ws (moment_of L.seen a) (moment_of L.seen b) ws d not first) (no_first (has_block s) (have_block ms))
+      (λ hs d not first. members_words_stop false (host_texts enc) [] s ms i Has Have ws (stage_of L.seen L.moves a) (stage_of L.seen L.moves b) ws d not first) (no_first (has_block s) (have_block ms))
       (first_large enc s ms Has Have) h
 
   pub product_lowers : (a c : Parts D G) (s : Shape) (k : ProductKind) (ms : Members) (ws : List ℕ) (Have : Trees → Type 0) (gives : List (List Part)) (r : Result (Unit {0}) Fault) → s ≡ product k ms
@@ -113,7 +113,7 @@ module _ {D G : Type 0} (L : GuestLaws G) (options : ℕ) where
       subst (λ (z : Shape). Low a c z ws 0 (ProductMeans Have) gives r) (sym shape)
       (typed_map L a c [] [] (members_words false (host_texts enc) ms ws 0 Have) (value_words false (host_texts enc) (product k ms) ws 0 (ProductMeans Have)) gives (have_block ms) (has_block (product k ms)) (Kept a c)
       (HaveLarge enc ms) (HasLarge enc (product k ms)) r
-      (λ hs e m. product_words false (moment_of L.seen a) (moment_of L.seen c) (host_texts enc) k ms ws 0 Have (ProductMeans Have) e (λ ts have. (ts, refl, have)) (λ t (ts, e2, have). subst Have (sym (ap trees_of e2)) have) m) (λ e. e)
+      (λ hs e m. product_words false (stage_of L.seen L.moves a) (stage_of L.seen L.moves c) (host_texts enc) k ms ws 0 Have (ProductMeans Have) e (λ ts have. (ts, refl, have)) (λ t (ts, e2, have). subst Have (sym (ap trees_of e2)) have) m) (λ e. e)
       (product_large enc k ms Have) h)
 
 pub scalar_room : (s : Shape) (k : Scalar) (dst : List ℕ) → s ≡ scalar k → length dst ≡ flat s → 0 < length dst

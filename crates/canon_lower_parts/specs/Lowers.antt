@@ -1,9 +1,8 @@
 -- What lowering a typed value, or values in a row, does. A core goes from one to another.
 use Rattle.std.specs.Prelude.{Bool, Err, IfErr, List, None, Ok, OnOk, Result, [], false, ℕ, ◌≡◌, ◌⊎◌}
 use Rattle.canon_context.specs.Asks.{SameButHandles}
-use Rattle.canon_context.specs.Core.{Parts, guest_of, moment_of}
+use Rattle.canon_context.specs.Core.{Parts, stage_of}
 use Rattle.canon_context.specs.Lowers.{ending_of}
-use Rattle.canon_context.specs.Moves.{Moves}
 use Rattle.canon_context.specs.declared.fault.Fault.{Fault}
 use Rattle.canon_context.specs.declared.fault.Fault.TheVariants as fault
 use Rattle.canon_lower_parts.specs.Blames.{IsElsewhere}
@@ -36,9 +35,8 @@ pub record TypedAttempt {D G X : Type 0} (seen : G → Seen) (moves : GuestIn G 
   pub handles : List ℕ
   pub ending : Ending
   pub ends : EndsBy gives result ending
-  pub attempt : Attempt false (moment_of seen before) (moment_of seen after) places aim handles ending
+  pub attempt : Attempt false (stage_of seen moves before) (stage_of seen moves after) places aim handles ending
   pub passed : HandlesCross before.ledger after.ledger gives handles result
-  pub moved : Moves seen moves (guest_of before) (guest_of after) ending
   pub same : SameButHandles before after
   pub quiet : blocks ≡ false → still × IfErr result (λ e. ending ≡ refused)
   pub cause : IfErr result (λ e. (x : X) → aim.Is x → IsElsewhere e ⊎ Large e x)

@@ -13,7 +13,7 @@ use Rattle.canon_model.specs.Requests.{case_requests, members_requests, requests
 use Rattle.canon_model.specs.Shape.{Cases, Members, Shape, VariantKind, bare, case_count, member, no_cases, no_members, payload, variant}
 use Rattle.canon_model.specs.Text.{Encoding}
 use Rattle.canon_model.specs.Tree.{Tree, Trees, case, case_number, case_of, no_trees, payload_of, tree}
-use Rattle.canon_memory.specs.Guest.{Moment, Seen, moment}
+use Rattle.canon_lowering.specs.Stages.{Stage, holding}
 use Rattle.canon_memory.specs.Realloc.{block}
 use Rattle.canon_lowering.specs.Steps.{Apart, Writes}
 use Rattle.canon_lowering.specs.Lowering.{Ending, done}
@@ -102,8 +102,8 @@ module _ (wide : Bool) (texts : Texts) where
     home = λ blocks more xs ys k u ps qs r e. e;
   }
 
-  pub tag_written : (g : Seen) (m m2 : List ℕ) (cs : Cases) (at d : ℕ) → length m ≤ 2 ^ 32 → at + tag_size (case_count cs) ≤ length m → Writes (tag_span cs at) m m2 → tag_at (memory_of m2 wide) at cs ≡ d
-      → Attempt wide (moment g m) (moment g m2) (tag_span cs at ∷ []) (tag_aim cs at d) [] done
+  pub tag_written : {K : Type 0} (g : Stage K) (m m2 : List ℕ) (cs : Cases) (at d : ℕ) → length m ≤ 2 ^ 32 → at + tag_size (case_count cs) ≤ length m → Writes (tag_span cs at) m m2 → tag_at (memory_of m2 wide) at cs ≡ d
+      → Attempt wide (holding g m) (holding g m2) (tag_span cs at ∷ []) (tag_aim cs at d) [] done
   tag_written g m m2 cs at d small room w e = attempt_write wide g m m2 (tag_span cs at) (tag_aim cs at d) tt small w tt (λ u h. refl) ((omega (arith, room, w.same_length), λ i l u. inl (l, u)), e) (λ rest. refl) (λ rest. refl)
 
   case_end : (cs : Cases) (i : ℕ) → members_end wide 0 (case_members cs i) ≤ size wide (payload_shape cs i)
@@ -127,7 +127,7 @@ module _ (wide : Bool) (texts : Texts) where
     handles = λ ts. handle_numbers (members_leaves (case_members cs d) ts);
   }
 
-  module _ (k : VariantKind) (cs : Cases) (at d : ℕ) (lt : d < case_count cs) (Have : Trees → Type 0) (a b c : Moment) (w : Attempt wide a b (tag_span cs at ∷ []) (tag_aim cs at d) [] done) where
+  module _ {K : Type 0} (k : VariantKind) (cs : Cases) (at d : ℕ) (lt : d < case_count cs) (Have : Trees → Type 0) (a b c : Stage K) (w : Attempt wide a b (tag_span cs at ∷ []) (tag_aim cs at d) [] done) where
     abbrev pub inner : ℕ
     inner = at + payload_offset wide cs
 
@@ -190,7 +190,7 @@ module _ (wide : Bool) (texts : Texts) (pointer : ℕ → ℕ → Type 0) (ws : 
   case_flat_home (payload name s cs) (suc i) d j e ts xs ys lt zeros is h = case_flat_home cs i d j e ts xs ys (omega arith) zeros is h
 
 -- a tag in its word, the words of the payload, and zeros behind them
-pub variant_words : {hs : List ℕ} (wide : Bool) (a c : Moment) (texts : Texts) (k : VariantKind) (cs : Cases) (ws : List ℕ) (i d : ℕ) (Have : Trees → Type 0) (Has : Tree → Type 0) (e : Ending) → d < case_count cs
+pub variant_words : {K : Type 0} {hs : List ℕ} (wide : Bool) (a c : Stage K) (texts : Texts) (k : VariantKind) (cs : Cases) (ws : List ℕ) (i d : ℕ) (Have : Trees → Type 0) (Has : Tree → Type 0) (e : Ending) → d < case_count cs
     → slice_index ws i ≡ d → d < 2 ^ 32 → AreZero ws (i + 1 + members_flat (case_members cs d)) (i + 1 + cases_flat cs) → ((ts : Trees) → Have ts → Has (case_tree d ts) × CaseIs wide texts (case_members cs d) d (case_tree d ts))
     → ((t : Tree) → Has t → (case_number t ≡ d) × Have (payload_trees t) × CaseIs wide texts (case_members cs d) d t) → LowersMembers wide a c texts (case_members cs d) ws (i + 1) Have hs e
     → LowersValue wide a c texts (variant k cs) ws i Has hs e

@@ -11,7 +11,7 @@ use Rattle.canon_model.specs.Rep.{ScalarIs, bits_of}
 use Rattle.canon_model.specs.Requests.{requests}
 use Rattle.canon_model.specs.Shape.{Members, Name, ProductKind, Scalar, Shape, borrow, fixed, flags, member, own, product, scalar}
 use Rattle.canon_model.specs.Tree.{Tree, Trees, bits, handle, parts, tree, tree_count, trees_of}
-use Rattle.canon_memory.specs.Guest.{Moment}
+use Rattle.canon_lowering.specs.Stages.{Stage}
 use Rattle.canon_lowering.specs.Lowering.{Ending, done}
 use Rattle.canon_lowering.specs.Attempt.{LowersMembers, LowersValue, handle_numbers, members_words, value_words}
 use Rattle.canon_lowering.specs.Copies.{copies}
@@ -45,7 +45,7 @@ members_words_framed wide texts ms ws i Have = record {
 }
 
 -- the same words elsewhere
-pub words_moved : {hs : List ℕ} (wide : Bool) (a b : Moment) (texts : Texts) (s : Shape) (ws vs : List ℕ) (i j : ℕ) (Has : Tree → Type 0) (e : Ending) → ((t : Tree) → Has t → Fits s t) → SameWords ws i vs j (flat s)
+pub words_moved : {K : Type 0} {hs : List ℕ} (wide : Bool) (a b : Stage K) (texts : Texts) (s : Shape) (ws vs : List ℕ) (i j : ℕ) (Has : Tree → Type 0) (e : Ending) → ((t : Tree) → Has t → Fits s t) → SameWords ws i vs j (flat s)
     → LowersValue wide a b texts s ws i Has hs e → LowersValue wide a b texts s vs j Has hs e
 words_moved wide a b texts s ws vs i j Has e fits same h = attempt_as wide a b [] [] _ (value_words wide texts s vs j Has) e (λ k q. q) (record {
   turn = λ t. t;
@@ -60,7 +60,7 @@ words_moved wide a b texts s ws vs i j Has e fits same h = attempt_as wide a b [
 
 -- ---- values that ask for nothing
 
-module _ (wide : Bool) (a : Moment) (texts : Texts) (ws : List ℕ) (i : ℕ) (Has : Tree → Type 0) (small : length a.bytes ≤ 2 ^ 32) where
+module _ {K : Type 0} (wide : Bool) (a : Stage K) (texts : Texts) (ws : List ℕ) (i : ℕ) (Has : Tree → Type 0) (small : length a.bytes ≤ 2 ^ 32) where
   pub scalar_words : (k : Scalar) (t : Tree) → ScalarIs k (slice_index ws i % 2 ^ flat_bits k) t → IsLeastWord k (slice_index ws i) → Has t → LowersValue wide a a texts (scalar k) ws i Has [] done
   unfolding requests leaves
   scalar_words k t is least has = attempt_none wide a [] (value_words wide texts (scalar k) ws i Has) t small has (λ u h. refl) (is, λ s. least) (λ pointer rest. ((is, least), refl))
@@ -92,16 +92,16 @@ module _ (wide : Bool) (texts : Texts) (name : Name) (s : Shape) (ms : Members) 
     handles = λ t ts. handle_numbers_append (leaves s t) _;
   }
 
-  pub members_words_cons : {hs ks : List ℕ} (a b c : Moment) (ws : List ℕ) (e : Ending) → ((t : Tree) → Has t → Fits s t) → SameWords ws i vs i (flat s) → LowersValue wide a b texts s ws i Has hs done
+  pub members_words_cons : {K : Type 0} {hs ks : List ℕ} (a b c : Stage K) (ws : List ℕ) (e : Ending) → ((t : Tree) → Has t → Fits s t) → SameWords ws i vs i (flat s) → LowersValue wide a b texts s ws i Has hs done
       → LowersMembers wide b c texts ms vs (i + flat s) Have ks e → LowersMembers wide a c texts (member name s ms) vs i (FirstAnd Has Have) (hs ++ ks) e
   members_words_cons a b c ws e fits same h r = attempt_then wide a b c [] [] [] _ _ _ _ words_join (words_framed wide texts s vs i Has) (members_words_framed wide texts ms vs _ Have) (λ k q. q) (λ k q. q) (λ k q r. q)
       (words_moved wide a b texts s ws vs i i Has done fits same h) e r
 
-  pub members_words_stop : {hs ks : List ℕ} (a b : Moment) (ws : List ℕ) (e : Ending) → NotDone e → LowersValue wide a b texts s ws i Has hs e → LowersMembers wide a b texts (member name s ms) vs i (FirstAnd Has Have) ks e
+  pub members_words_stop : {K : Type 0} {hs ks : List ℕ} (a b : Stage K) (ws : List ℕ) (e : Ending) → NotDone e → LowersValue wide a b texts s ws i Has hs e → LowersMembers wide a b texts (member name s ms) vs i (FirstAnd Has Have) ks e
   members_words_stop {hs = hs} a b ws e not h = attempt_stop wide a b b [] [] [] _ _ _ _ words_join (words_framed wide texts s vs i Has) (members_words_framed wide texts ms vs _ Have) (λ k q. q) (λ k q. q) (λ k q r. q) e not
       (attempt_other {ks = hs} wide a b [] _ (value_words wide texts s vs i Has) e not (λ t has. (has, refl)) h)
 
-pub product_words : {hs : List ℕ} (wide : Bool) (a c : Moment) (texts : Texts) (k : ProductKind) (ms : Members) (ws : List ℕ) (i : ℕ) (Have : Trees → Type 0) (Has : Tree → Type 0) (e : Ending)
+pub product_words : {K : Type 0} {hs : List ℕ} (wide : Bool) (a c : Stage K) (texts : Texts) (k : ProductKind) (ms : Members) (ws : List ℕ) (i : ℕ) (Have : Trees → Type 0) (Has : Tree → Type 0) (e : Ending)
     → ((ts : Trees) → Have ts → Has (parts ts)) → ((t : Tree) → Has t → Have (trees_of t)) → LowersMembers wide a c texts ms ws i Have hs e → LowersValue wide a c texts (product k ms) ws i Has hs e
 unfolding requests leaves
 product_words wide a c texts k ms ws i Have Has e to from h = attempt_as wide a c [] [] _ (value_words wide texts (product k ms) ws i Has) e (λ k q. q) (record {
@@ -115,7 +115,7 @@ product_words wide a c texts k ms ws i Have Has e to from h = attempt_as wide a 
   handles = λ ts is. refl;
 }) h
 
-pub fixed_words : {hs : List ℕ} (wide : Bool) (a c : Moment) (texts : Texts) (n : ℕ) (s : Shape) (ws : List ℕ) (i : ℕ) (Have : Trees → Type 0) (Has : Tree → Type 0) (e : Ending)
+pub fixed_words : {K : Type 0} {hs : List ℕ} (wide : Bool) (a c : Stage K) (texts : Texts) (n : ℕ) (s : Shape) (ws : List ℕ) (i : ℕ) (Have : Trees → Type 0) (Has : Tree → Type 0) (e : Ending)
     → ((ts : Trees) → Have ts → Has (parts ts) × (tree_count ts ≡ n)) → ((t : Tree) → Has t → Have (trees_of t)) → LowersMembers wide a c texts (copies n s) ws i Have hs e
     → LowersValue wide a c texts (fixed n s) ws i Has hs e
 unfolding requests leaves

@@ -6,10 +6,11 @@ use Rattle.canon_model.proofs.Blocks.{in_either, in_left, in_right}
 use Rattle.canon_model.specs.Homes.{AnyPointer, PointsTo}
 use Rattle.canon_model.specs.Memory.{Block, InBlocks, Within, memory_of}
 use Rattle.canon_model.specs.Requests.{Call, Request, call_of}
-use Rattle.canon_memory.specs.Guest.{Moment, Seen, moment}
+use Rattle.canon_lowering.specs.Stages.{GoesBy, Stage, bare, holding, moment_at}
 use Rattle.canon_memory.specs.Realloc.{new_block, block}
 use Rattle.canon_lowering.specs.Steps.{Apart, Writes}
-use Rattle.canon_lowering.specs.Lowering.{AllLawful, Answer, AtMostOne, BeginsWith, Ending, Granted, Lowering, Reallocated, Requested, WhenDone, addresses_of, done, misaligned, out_of_bounds, refused, short, trapped}
+use Rattle.canon_lowering.specs.Lowering.{AllLawful, Answer, AtMostOne, BeginsWith, Ending, Granted, Lowering, CauseOf, Reallocated, Requested, UnlessShort, WhenDone, addresses_of, done, events_of, misaligned, out_of_bounds, refused, short, trapped}
+use Rattle.canon_memory.specs.declared.event.Event.{Event}
 use Rattle.canon_lowering.specs.Attempt.{Aim, AreHeld, Attempt, Shown}
 use Rattle.canon_lowering.proofs.Lowerings.{NotDone, addresses_append, answer, lowering_anew, lowering_filled, lowering_write, requested_cons, requested_stopped, stopped, stopped_asked, in_first, in_second, lawful_first, lawful_second, lowering_none, lowering_refused, lowering_then, lowering_within, requested_later, requested_none, requested_part, requested_then, tidy_first, tidy_second, when, when_not}
 
@@ -44,15 +45,15 @@ FirstAnd Has Have ts = (t : Tree) × (rest : Trees) × (ts ≡ tree t rest) × H
 
 -- ---- held places
 
-held_within : (a : Moment) (xs : List Answer) (big part : List Block) → Within part big → AreHeld a xs big → AreHeld a xs part
+held_within : {K : Type 0} (a : Stage K) (xs : List Answer) (big part : List Block) → Within part big → AreHeld a xs big → AreHeld a xs part
 held_within a xs big part w (inl h) = inl (λ i g. h i (w i g))
 held_within a xs big part w (inr h) = inr (h.0, λ i g k. h.1 i g (w i k))
 
-held_before : (a : Moment) (xs ys : List Answer) (big part : List Block) → Within part big → AreHeld a (xs ++ ys) big → AreHeld a xs part
+held_before : {K : Type 0} (a : Stage K) (xs ys : List Answer) (big part : List Block) → Within part big → AreHeld a (xs ++ ys) big → AreHeld a xs part
 held_before a xs ys big part w (inl h) = inl (λ i g. h i (w i g))
 held_before a xs ys big part w (inr h) = inr (tidy_first xs ys h.0, λ i g k. h.1 i (in_first xs ys i g) (w i k))
 
-held_after : (a b : Moment) (xs ys : List Answer) (big part : List Block) → Within a.guest.live b.guest.live → Within part big → AreHeld a (xs ++ ys) big → AreHeld b ys part
+held_after : {K : Type 0} (a b : Stage K) (xs ys : List Answer) (big part : List Block) → Within a.guest.live b.guest.live → Within part big → AreHeld a (xs ++ ys) big → AreHeld b ys part
 held_after a b xs ys big part l w (inl h) = inl (λ i g. l i (h i (w i g)))
 held_after a b xs ys big part l w (inr h) = inr (tidy_second xs ys h.0, λ i g k. h.1 i (in_second xs ys i g) (w i k))
 
@@ -67,7 +68,7 @@ pub record Joins {X Y Z : Type 0} (first : Aim X) (second : Aim Y) (whole : Aim 
   pub home : (pointer : ℕ → ℕ → Type 0) (x : X) (y : Y) (xs zs ys : List ℕ) → first.Home pointer x xs zs → second.Home pointer y zs ys → whole.Home pointer (join x y) xs ys
   pub handles : (x : X) (y : Y) → whole.handles (join x y) ≡ first.handles x ++ second.handles y
 
-module _ {X Y Z : Type 0} (wide : Bool) (a b c : Moment) (p q big : List Block) (first : Aim X) (second : Aim Y) (whole : Aim Z) (join : X → Y → Z) (joins : Joins first second whole join)
+module _ {K : Type 0} {X Y Z : Type 0} (wide : Bool) (a b c : Stage K) (p q big : List Block) (first : Aim X) (second : Aim Y) (whole : Aim Z) (join : X → Y → Z) (joins : Joins first second whole join)
     (f1 : IsFramed wide first) (f2 : IsFramed wide second) (inside : Within p big) (inside2 : Within q big) (apart : Apart p q) where
   module _ {hs : List ℕ} (h : Attempt wide a b p first hs done) where
     -- what the first showed is kept by the second
@@ -145,7 +146,7 @@ module _ {X Y Z : Type 0} (wide : Bool) (a b c : Moment) (p q big : List Block) 
 -- ---- one
 
 -- nothing asked for or written, and perhaps a fault of the value itself
-pub attempt_none : {X : Type 0} (wide : Bool) (a : Moment) (places : List Block) (aim : Aim X) (x : X) → length a.bytes ≤ 2 ^ 32 → aim.Is x → ((y : X) → aim.Is y → aim.asks y ≡ []) → aim.Rep (places ++ []) a.bytes x
+pub attempt_none : {K : Type 0} {X : Type 0} (wide : Bool) (a : Stage K) (places : List Block) (aim : Aim X) (x : X) → length a.bytes ≤ 2 ^ 32 → aim.Is x → ((y : X) → aim.Is y → aim.asks y ≡ []) → aim.Rep (places ++ []) a.bytes x
     → ((pointer : ℕ → ℕ → Type 0) (rest : List ℕ) → aim.Home pointer x rest rest) → Attempt wide a a places aim (aim.handles x) done
 attempt_none wide a places aim x small is none rep home = record {
   answers = [];
@@ -163,11 +164,11 @@ attempt_none wide a places aim x small is none rep home = record {
   };
 }
 
-pub attempt_refused : {X : Type 0} {hs : List ℕ} (wide : Bool) (a : Moment) (places : List Block) (aim : Aim X) → length a.bytes ≤ 2 ^ 32 → Attempt wide a a places aim hs refused
+pub attempt_refused : {K : Type 0} {X : Type 0} {hs : List ℕ} (wide : Bool) (a : Stage K) (places : List Block) (aim : Aim X) → length a.bytes ≤ 2 ^ 32 → Attempt wide a a places aim hs refused
 attempt_refused wide a places aim small = record { answers = []; trap = None; fresh = []; lowering = lowering_refused a places small; requested = λ x is. requested_later _ refused tt; shown = tt }
 
 -- the same said of another x, at wider places
-pub record Turns {X Y : Type 0} (wide : Bool) (part whole : List Block) (aim : Aim X) (other : Aim Y) (after : Moment) : Type 1 where
+pub record Turns {K : Type 0} {X Y : Type 0} (wide : Bool) (part whole : List Block) (aim : Aim X) (other : Aim Y) (after : Stage K) : Type 1 where
   pub turn : X → Y
   pub back : Y → X
   pub is : (x : X) → aim.Is x → other.Is (turn x)
@@ -177,7 +178,7 @@ pub record Turns {X Y : Type 0} (wide : Bool) (part whole : List Block) (aim : A
   pub home : (pointer : ℕ → ℕ → Type 0) (x : X) (xs ys : List ℕ) → aim.Is x → aim.Home pointer x xs ys → other.Home pointer (turn x) xs ys
   pub handles : (x : X) → aim.Is x → other.handles (turn x) ≡ aim.handles x
 
-pub attempt_as : {X Y : Type 0} {hs : List ℕ} (wide : Bool) (a b : Moment) (part whole : List Block) (aim : Aim X) (other : Aim Y) (e : Ending) → Within part whole → Turns wide part whole aim other b
+pub attempt_as : {K : Type 0} {X Y : Type 0} {hs : List ℕ} (wide : Bool) (a b : Stage K) (part whole : List Block) (aim : Aim X) (other : Aim Y) (e : Ending) → Within part whole → Turns wide part whole aim other b
     → Attempt wide a b part aim hs e → Attempt wide a b whole other hs e
 attempt_as {hs = hs} wide a b part whole aim other e w t h = record {
   answers = h.answers;
@@ -196,7 +197,7 @@ attempt_as {hs = hs} wide a b part whole aim other e w t h = record {
 }
 
 -- where it wasn't done, it says as little of another aim
-pub attempt_other : {X : Type 0} {hs ks : List ℕ} (wide : Bool) (a b : Moment) (places : List Block) (aim other : Aim X) (e : Ending) → NotDone e → ((x : X) → other.Is x → aim.Is x × (other.asks x ≡ aim.asks x))
+pub attempt_other : {K : Type 0} {X : Type 0} {hs ks : List ℕ} (wide : Bool) (a b : Stage K) (places : List Block) (aim other : Aim X) (e : Ending) → NotDone e → ((x : X) → other.Is x → aim.Is x × (other.asks x ≡ aim.asks x))
     → Attempt wide a b places aim hs e → Attempt wide a b places other ks e
 attempt_other wide a b places aim other e not same h = record {
   answers = h.answers;
@@ -208,7 +209,7 @@ attempt_other wide a b places aim other e not same h = record {
 }
 
 -- with the same answers
-pub other_asked : {X : Type 0} {hs : List ℕ} (wide : Bool) (a b : Moment) (places : List Block) (aim other : Aim X) (ks : List ℕ) (e : Ending) (not : NotDone e) (same : (x : X) → other.Is x → aim.Is x × (other.asks x ≡ aim.asks x))
+pub other_asked : {K : Type 0} {X : Type 0} {hs : List ℕ} (wide : Bool) (a b : Stage K) (places : List Block) (aim other : Aim X) (ks : List ℕ) (e : Ending) (not : NotDone e) (same : (x : X) → other.Is x → aim.Is x × (other.asks x ≡ aim.asks x))
     (h : Attempt wide a b places aim hs e) → let r = attempt_other {ks = ks} wide a b places aim other e not same h in (r.answers ≡ h.answers) × (r.trap ≡ h.trap)
 unfolding attempt_other
 other_asked wide a b places aim other ks e not same h = (refl, refl)
@@ -216,7 +217,7 @@ other_asked wide a b places aim other ks e not same h = (refl, refl)
 -- ---- a block that is asked for, and what is put into it
 
 -- what stands in the block at p, as another says it that points to it
-pub record Points {X Y : Type 0} (area : Block) (c : Call) (p : ℕ) (inner : Aim X) (whole : Aim Y) (after : Moment) : Type 1 where
+pub record Points {K : Type 0} {X Y : Type 0} (area : Block) (c : Call) (p : ℕ) (inner : Aim X) (whole : Aim Y) (after : Stage K) : Type 1 where
   pub turn : X → Y
   pub back : Y → X
   pub is : (x : X) → inner.Is x → whole.Is (turn x)
@@ -226,7 +227,7 @@ pub record Points {X Y : Type 0} (area : Block) (c : Call) (p : ℕ) (inner : Ai
   pub home : (pointer : ℕ → ℕ → Type 0) (x : X) (xs ys : List ℕ) → inner.Is x → inner.Home pointer x xs ys → whole.Home pointer (turn x) (p ∷ xs) ys
   pub handles : (x : X) → inner.Is x → whole.handles (turn x) ≡ inner.handles x
 
-module _ {X Y : Type 0} (wide : Bool) (a b d : Moment) (c : Call) (p : ℕ) (places : List Block) (inner : Aim X) (whole : Aim Y) (e : Ending) (anew : c.old_size ≡ 0) (small : length b.bytes ≤ 2 ^ 32) (g : Granted a b c p)
+module _ {K : Type 0} {X Y : Type 0} (wide : Bool) (a b d : Stage K) (c : Call) (p : ℕ) (places : List Block) (inner : Aim X) (whole : Aim Y) (e : Ending) (anew : c.old_size ≡ 0) (small : length b.bytes ≤ 2 ^ 32) (g : Granted a b c p)
     (f : IsFramed wide inner) (inside : Within places (new_block c p ∷ [])) (t : Points (new_block c p) c p inner whole d) where
   abbrev area : Block
   area = new_block c p
@@ -271,7 +272,7 @@ module _ {X Y : Type 0} (wide : Bool) (a b d : Moment) (c : Call) (p : ℕ) (pla
   block_only r none calm = (none, calm)
 
 -- the block isn't given
-pub attempt_ungiven : {Y : Type 0} {hs : List ℕ} (wide : Bool) (a b : Moment) (c : Call) (p : ℕ) (places : List Block) (whole : Aim Y) (e : Ending) → NotDone e → length b.bytes ≤ 2 ^ 32
+pub attempt_ungiven : {K : Type 0} {Y : Type 0} {hs : List ℕ} (wide : Bool) (a b : Stage K) (c : Call) (p : ℕ) (places : List Block) (whole : Aim Y) (e : Ending) → NotDone e → length b.bytes ≤ 2 ^ 32
     → ((y : Y) → whole.Is y → (r : Request) × (rs : List Request) × (whole.asks y ≡ r ∷ rs) × ((last : ℕ) → c ≡ call_of last r)) → Reallocated a b c e p → Attempt wide a b places whole hs e
 attempt_ungiven wide a b c p places whole e not small asks h =
     let r = stopped a b c e p not small h in
@@ -285,7 +286,7 @@ attempt_ungiven wide a b c p places whole e not small asks h =
     }
 
 -- it alone is asked for
-pub ungiven_asked : {Y : Type 0} (wide : Bool) (a b : Moment) (c : Call) (p : ℕ) (places : List Block) (whole : Aim Y) (hs : List ℕ) (e : Ending) (not : NotDone e) (small : length b.bytes ≤ 2 ^ 32)
+pub ungiven_asked : {K : Type 0} {Y : Type 0} (wide : Bool) (a b : Stage K) (c : Call) (p : ℕ) (places : List Block) (whole : Aim Y) (hs : List ℕ) (e : Ending) (not : NotDone e) (small : length b.bytes ≤ 2 ^ 32)
     (asks : (y : Y) → whole.Is y → (r : Request) × (rs : List Request) × (whole.asks y ≡ r ∷ rs) × ((last : ℕ) → c ≡ call_of last r)) (h : Reallocated a b c e p)
     → let r = attempt_ungiven {hs = hs} wide a b c p places whole e not small asks h in BeginsWith c e r.answers r.trap × AtMostOne r.answers r.trap
 unfolding attempt_ungiven
@@ -294,8 +295,8 @@ ungiven_asked wide a b c p places whole hs e not small asks h = stopped_asked a 
 -- ---- bytes of a place
 
 -- nothing is asked for, and the bytes of a place are written
-pub attempt_write : {X : Type 0} (wide : Bool) (g : Seen) (xs ys : List ℕ) (b : Block) (aim : Aim X) (x : X) → length xs ≤ 2 ^ 32 → Writes b xs ys → aim.Is x → ((y : X) → aim.Is y → aim.asks y ≡ []) → aim.Rep (b ∷ []) ys x
-    → ((rest : List ℕ) → aim.Home AnyPointer x rest rest) → ((rest : List ℕ) → aim.Home (PointsTo (memory_of ys wide)) x rest rest) → Attempt wide (moment g xs) (moment g ys) (b ∷ []) aim (aim.handles x) done
+pub attempt_write : {K : Type 0} {X : Type 0} (wide : Bool) (g : Stage K) (xs ys : List ℕ) (b : Block) (aim : Aim X) (x : X) → length xs ≤ 2 ^ 32 → Writes b xs ys → aim.Is x → ((y : X) → aim.Is y → aim.asks y ≡ []) → aim.Rep (b ∷ []) ys x
+    → ((rest : List ℕ) → aim.Home AnyPointer x rest rest) → ((rest : List ℕ) → aim.Home (PointsTo (memory_of ys wide)) x rest rest) → Attempt wide (holding g xs) (holding g ys) (b ∷ []) aim (aim.handles x) done
 attempt_write wide g xs ys b aim x small w is none rep home memory_home = record {
   answers = [];
   trap = None;
@@ -304,3 +305,44 @@ attempt_write wide g xs ys b aim x small w is none rep home memory_home = record
   requested = λ y h. subst (λ rs. Requested rs done [] None) (sym (none y h)) requested_none;
   shown = record { it = x; is = is; handles = refl; rep = λ all held. rep; homes = home; memory_homes = λ all held rest. memory_home rest };
 }
+
+-- ---- where nothing is said of how the guest goes on
+
+bare_so : {K : Type 0} (e : Ending) (a b : Stage K) (es : List Event) → UnlessShort e (GoesBy (bare (moment_at a)) (bare (moment_at b)) es)
+bare_so done a b es = λ more k on. tt
+bare_so refused a b es = λ more k on. tt
+bare_so (misaligned n) a b es = λ more k on. tt
+bare_so (out_of_bounds n) a b es = λ more k on. tt
+bare_so trapped a b es = λ more k on. tt
+bare_so short a b es = tt
+
+pub attempt_bare : {K : Type 0} {X : Type 0} {hs : List ℕ} (wide : Bool) (a b : Stage K) (places : List Block) (aim : Aim X) (e : Ending) → Attempt wide a b places aim hs e → Attempt wide (bare (moment_at a)) (bare (moment_at b)) places aim hs e
+attempt_bare {hs = hs} wide a b places aim e h = record {
+  answers = h.answers;
+  trap = h.trap;
+  fresh = h.fresh;
+  lowering = record { goes = h.lowering.goes; moves = bare_so e a b (events_of h.answers h.trap); small = h.lowering.small; lawful = h.lowering.lawful; tidy = h.lowering.tidy; gained = h.lowering.gained; cause = cause_bare e h.lowering.cause; accepted = h.lowering.accepted };
+  requested = h.requested;
+  shown = when e (Shown wide a b places aim h.answers h.fresh hs) (Shown wide (bare (moment_at a)) (bare (moment_at b)) places aim h.answers h.fresh hs) (λ k. record {
+    it = k.it;
+    is = k.is;
+    handles = k.handles;
+    rep = k.rep;
+    homes = k.homes;
+    memory_homes = k.memory_homes;
+  }) h.shown;
+}
+  where
+    cause_bare : (e : Ending) → CauseOf a b h.answers h.trap e → CauseOf (bare (moment_at a)) (bare (moment_at b)) h.answers h.trap e
+    cause_bare done c = c
+    cause_bare refused c = c
+    cause_bare (misaligned n) c = c
+    cause_bare (out_of_bounds n) c = c
+    cause_bare trapped c = c
+    cause_bare short c = c
+
+-- with the same answers
+pub bare_asked : {K : Type 0} {X : Type 0} {hs : List ℕ} (wide : Bool) (a b : Stage K) (places : List Block) (aim : Aim X) (e : Ending) (h : Attempt wide a b places aim hs e)
+    → let r = attempt_bare wide a b places aim e h in (r.answers ≡ h.answers) × (r.trap ≡ h.trap)
+unfolding attempt_bare
+bare_asked wide a b places aim e h = (refl, refl)

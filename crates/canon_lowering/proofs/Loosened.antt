@@ -12,7 +12,7 @@ use Rattle.canon_model.specs.Leaves.{leaves}
 use Rattle.canon_model.specs.Shape.{ListKind, Members, Name, ProductKind, Scalar, Shape, fixed, list, member, own, product, scalar, string}
 use Rattle.canon_model.specs.Text.{IsLeastTag, Spells, text_align, text_bytes, text_form}
 use Rattle.canon_model.specs.Tree.{Tree, Trees, bits, case, case_of, code_point, handle, items, no_trees, number, parts, text, tree, tree_count, trees_of, truth}
-use Rattle.canon_memory.specs.Guest.{Moment, Seen, moment}
+use Rattle.canon_lowering.specs.Stages.{Stage, holding}
 use Rattle.canon_memory.specs.Realloc.{block}
 use Rattle.canon_lowering.specs.Attempt.{Aim, Attempt, LowersValue, members_at, members_span, value_at, value_place, value_words}
 use Rattle.canon_lowering.specs.Carried.{LowersCarried, MembersCarried, StoresCarried, loosened}
@@ -45,13 +45,13 @@ loose_joins K L M first second whole join joins alike = record {
 
 -- the x that one of the aim is alike to
 abbrev pub closed : {X : Type 0} → (X → X → Type 0) → Aim X → Aim X
-closed {X} K aim = record { Is = λ y. (x : X) × aim.Is x × K x y; asks = aim.asks; Rep = aim.Rep; Home = aim.Home; handles = aim.handles }
+closed {X} R aim = record { Is = λ y. (x : X) × aim.Is x × R x y; asks = aim.asks; Rep = aim.Rep; Home = aim.Home; handles = aim.handles }
 
 -- what is said of another x, of these, is said where others stand
-pub loose_turns : {X Y : Type 0} (K : X → X → Type 0) (L : Y → Y → Type 0) (wide : Bool) (part whole : List Block) (aim : Aim X) (other : Aim Y) (after : Moment) → ((x : X) → K x x) → ((y : Y) → L y y)
-    → (t : Turns wide part whole (closed K aim) (closed L other) after) → ((x w : X) → K x w → L (t.turn x) (t.turn w)) → ((x : X) → aim.Is x → other.Is (t.turn x)) → ((y : Y) → other.Is y → aim.Is (t.back y))
-    → Turns wide part whole (loosened K aim) (loosened L other) after
-loose_turns K L wide part whole aim other after kself lself t alike is is_back = record {
+pub loose_turns : {K : Type 0} {X Y : Type 0} (R : X → X → Type 0) (L : Y → Y → Type 0) (wide : Bool) (part whole : List Block) (aim : Aim X) (other : Aim Y) (after : Stage K) → ((x : X) → R x x) → ((y : Y) → L y y)
+    → (t : Turns wide part whole (closed R aim) (closed L other) after) → ((x w : X) → R x w → L (t.turn x) (t.turn w)) → ((x : X) → aim.Is x → other.Is (t.turn x)) → ((y : Y) → other.Is y → aim.Is (t.back y))
+    → Turns wide part whole (loosened R aim) (loosened L other) after
+loose_turns R L wide part whole aim other after kself lself t alike is is_back = record {
   turn = t.turn;
   back = t.back;
   is = is;
@@ -63,8 +63,8 @@ loose_turns K L wide part whole aim other after kself lself t alike is is_back =
 }
 
 -- what stands as it is told stands where another may
-pub loosely : {X : Type 0} {hs : List ℕ} (K : X → X → Type 0) (wide : Bool) (a b : Moment) (places : List Block) (aim : Aim X) (e : Ending) → ((x : X) → K x x) → Attempt wide a b places aim hs e → Attempt wide a b places (loosened K aim) hs e
-loosely K wide a b places aim e itself h = attempt_as wide a b places places aim (loosened K aim) e (λ i g. g) (record {
+pub loosely : {K : Type 0} {X : Type 0} {hs : List ℕ} (R : X → X → Type 0) (wide : Bool) (a b : Stage K) (places : List Block) (aim : Aim X) (e : Ending) → ((x : X) → R x x) → Attempt wide a b places aim hs e → Attempt wide a b places (loosened R aim) hs e
+loosely R wide a b places aim e itself h = attempt_as wide a b places places aim (loosened R aim) e (λ i g. g) (record {
   turn = λ x. x;
   back = λ x. x;
   is = λ x is. is;
@@ -113,18 +113,18 @@ module _ (wide : Bool) (texts : Texts) (name : Name) (s : Shape) (ms : Members) 
   carried_join = loose_joins Respelled AllRespelled AllRespelled _ _ _ _ (members_join wide texts name s ms o at Has Have) (λ t u ts us k l. (u, us, refl, k, l))
 
   -- a member was carried, and then the others
-  pub carried_cons : {hs ks : List ℕ} (a b c : Moment) (e : Ending) → StoresCarried wide a b texts s (at + begins wide o s) Has hs done → MembersCarried wide b c texts ms (ends wide o s) at Have ks e
+  pub carried_cons : {K : Type 0} {hs ks : List ℕ} (a b c : Stage K) (e : Ending) → StoresCarried wide a b texts s (at + begins wide o s) Has hs done → MembersCarried wide b c texts ms (ends wide o s) at Have ks e
       → MembersCarried wide a c texts (member name s ms) o at (FirstAnd Has Have) (hs ++ ks) e
   carried_cons a b c e h r = attempt_then wide a b c _ _ _ _ _ _ _ carried_join (carried_framed wide texts s _ Has) (carried_members_framed wide texts ms _ at Have)
       (first_in wide texts name s ms o at Has Have) (others_in wide texts name s ms o at Has Have) (apart wide texts name s ms o at Has Have) h e r
 
   -- it wasn't
-  pub carried_stop : {hs ks : List ℕ} (a b : Moment) (e : Ending) → NotDone e → StoresCarried wide a b texts s (at + begins wide o s) Has hs e → MembersCarried wide a b texts (member name s ms) o at (FirstAnd Has Have) ks e
+  pub carried_stop : {K : Type 0} {hs ks : List ℕ} (a b : Stage K) (e : Ending) → NotDone e → StoresCarried wide a b texts s (at + begins wide o s) Has hs e → MembersCarried wide a b texts (member name s ms) o at (FirstAnd Has Have) ks e
   carried_stop a b e not h = attempt_stop wide a b b _ (members_span wide ms (ends wide o s) at ∷ []) _ _ _ _ _ carried_join (carried_framed wide texts s _ Has) (carried_members_framed wide texts ms _ at Have)
       (first_in wide texts name s ms o at Has Have) (others_in wide texts name s ms o at Has Have) (apart wide texts name s ms o at Has Have) e not h
 
 -- members that were carried make up a product
-pub product_carried : {hs : List ℕ} (wide : Bool) (a c : Moment) (texts : Texts) (k : ProductKind) (ms : Members) (at : ℕ) (Have : Trees → Type 0) (Has : Tree → Type 0) (e : Ending) → at + size wide (product k ms) ≤ length c.bytes
+pub product_carried : {K : Type 0} {hs : List ℕ} (wide : Bool) (a c : Stage K) (texts : Texts) (k : ProductKind) (ms : Members) (at : ℕ) (Have : Trees → Type 0) (Has : Tree → Type 0) (e : Ending) → at + size wide (product k ms) ≤ length c.bytes
     → ((ts : Trees) → Have ts → Has (parts ts)) → ((t : Tree) → Has t → Have (trees_of t)) → MembersCarried wide a c texts ms 0 at Have hs e → StoresCarried wide a c texts (product k ms) at Has hs e
 unfolding requests leaves
 product_carried wide a c texts k ms at Have Has e room to from h =
@@ -152,7 +152,7 @@ respelled_count no_trees us h = ap tree_count h
 respelled_count (tree t ts) us (u, more, e, k, ks) = ap tree_count e ∙ ap suc (respelled_count ts more ks)
 
 -- and a list of fixed length
-pub fixed_carried : {hs : List ℕ} (wide : Bool) (a c : Moment) (texts : Texts) (n : ℕ) (s : Shape) (at : ℕ) (Have : Trees → Type 0) (Has : Tree → Type 0) (e : Ending) → at + size wide (fixed n s) ≤ length c.bytes
+pub fixed_carried : {K : Type 0} {hs : List ℕ} (wide : Bool) (a c : Stage K) (texts : Texts) (n : ℕ) (s : Shape) (at : ℕ) (Have : Trees → Type 0) (Has : Tree → Type 0) (e : Ending) → at + size wide (fixed n s) ≤ length c.bytes
     → ((ts : Trees) → Have ts → Has (parts ts) × (tree_count ts ≡ n)) → ((t : Tree) → Has t → Have (trees_of t)) → MembersCarried wide a c texts (copies n s) 0 at Have hs e → StoresCarried wide a c texts (fixed n s) at Has hs e
 unfolding fixed_turns
 fixed_carried wide a c texts n s at Have Has e room to from h =
@@ -167,19 +167,19 @@ fixed_carried wide a c texts n s at Have Has e room to from h =
 
 -- ---- values that ask for nothing
 
-module _ (wide : Bool) (g : Seen) (xs ys : List ℕ) (texts : Texts) (at : ℕ) (Has : Tree → Type 0) (small : length xs ≤ 2 ^ 32) where
+module _ {K : Type 0} (wide : Bool) (g : Stage K) (xs ys : List ℕ) (texts : Texts) (at : ℕ) (Has : Tree → Type 0) (small : length xs ≤ 2 ^ 32) where
   pub scalar_carried : (k : Scalar) (t : Tree) → at + scalar_size k ≤ length xs → Writes (block at (scalar_size k)) xs ys → ScalarIs k (num (memory_of ys wide) at (scalar_size k)) t
-      → IsLeast k (num (memory_of ys wide) at (scalar_size k)) → Has t → StoresCarried wide (moment g xs) (moment g ys) texts (scalar k) at Has [] done
+      → IsLeast k (num (memory_of ys wide) at (scalar_size k)) → Has t → StoresCarried wide (holding g xs) (holding g ys) texts (scalar k) at Has [] done
   scalar_carried k t room w is least has = loosely Respelled wide _ _ _ _ done itself (scalar_stored wide g xs ys texts at Has small k t room w is least has)
 
   -- the handle that the guest is given
-  pub own_carried : (r : ℕ) → at + 4 ≤ length xs → Writes (block at 4) xs ys → Has (handle (num (memory_of ys wide) at 4)) → StoresCarried wide (moment g xs) (moment g ys) texts (own r) at Has (num (memory_of ys wide) at 4 ∷ []) done
+  pub own_carried : (r : ℕ) → at + 4 ≤ length xs → Writes (block at 4) xs ys → Has (handle (num (memory_of ys wide) at 4)) → StoresCarried wide (holding g xs) (holding g ys) texts (own r) at Has (num (memory_of ys wide) at 4 ∷ []) done
   own_carried r room w has = loosely Respelled wide _ _ _ _ done itself (own_stored wide g xs ys texts at Has small r room w has)
 
 -- ---- texts
 
 -- A text that was transcoded stands in its block. It is told with k bytes, as it is spelled where it comes from.
-pub text_carried : (wide : Bool) (a b : Moment) (texts : Texts) (rs : List Request) (p room n k : ℕ) (cs bytes : List ℕ) (Has : Tree → Type 0) → TextBegun a b rs p room bytes → p < 2 ^ 32 → n < 2 ^ 32 → p % text_align texts.encoding ≡ 0
+pub text_carried : {K : Type 0} (wide : Bool) (a b : Stage K) (texts : Texts) (rs : List Request) (p room n k : ℕ) (cs bytes : List ℕ) (Has : Tree → Type 0) → TextBegun a b rs p room bytes → p < 2 ^ 32 → n < 2 ^ 32 → p % text_align texts.encoding ≡ 0
     → length bytes ≡ text_bytes texts.encoding n → Spells (text_form texts.encoding n) bytes cs → IsLeastTag texts.encoding n cs → Has (text cs k) → texts.Long n (text cs k)
     → ((t : Tree) → Has t → texts.asks t ≡ rs) → LowersCarried wide a b texts string (p ∷ n ∷ []) 0 Has [] done
 unfolding requests leaves
@@ -205,9 +205,10 @@ text_carried wide a b texts rs p room n k cs bytes Has h narrow_pointer narrow_l
     }
 
 -- what was done, and then ended for a fault of what is lowered
-ended_late : {a b : Moment} {places fresh : List Block} {answers : List Answer} {trap : Option Trap} → Lowering a b places done answers trap fresh → Lowering a b places refused answers trap fresh
+ended_late : {K : Type 0} {a b : Stage K} {places fresh : List Block} {answers : List Answer} {trap : Option Trap} → Lowering a b places done answers trap fresh → Lowering a b places refused answers trap fresh
 ended_late h = record {
   goes = h.goes;
+  moves = h.moves;
   small = h.small;
   lawful = λ calm. h.lawful tt;
   tidy = λ calm. h.tidy tt;
@@ -217,7 +218,7 @@ ended_late h = record {
 }
 
 -- A text whose block is begun is spelled in no way: there is no tree of it.
-pub text_spoiled : {hs : List ℕ} (wide : Bool) (a b : Moment) (texts : Texts) (rs : List Request) (p room : ℕ) (bytes : List ℕ) (Has : Tree → Type 0) (ws : List ℕ) (i : ℕ) → TextBegun a b rs p room bytes → ((t : Tree) → Has t → ⊥)
+pub text_spoiled : {K : Type 0} {hs : List ℕ} (wide : Bool) (a b : Stage K) (texts : Texts) (rs : List Request) (p room : ℕ) (bytes : List ℕ) (Has : Tree → Type 0) (ws : List ℕ) (i : ℕ) → TextBegun a b rs p room bytes → ((t : Tree) → Has t → ⊥)
     → LowersCarried wide a b texts string ws i Has hs refused
 text_spoiled wide a b texts rs p room bytes Has ws i h none = record {
   answers = h.answers;
@@ -236,8 +237,8 @@ carried_words_framed wide texts s ws i Has = record {
   home = λ blocks more xs ys k t ps qs (u, same, h) g. flat_homes_respelled wide texts blocks more xs ys k ws s i t u ps qs same h g;
 }
 
-module _ (wide : Bool) (texts : Texts) (at p n : ℕ) (Has : Tree → Type 0) (lp : IsFalse wide → p < 2 ^ 32) (ln : IsFalse wide → n < 2 ^ 32) (a : Moment) (g : Seen) (m m2 : List ℕ)
-    (w : Attempt wide (moment g m) (moment g m2) (pair_place wide at ∷ []) (pair_aim wide at p n) [] done) where
+module _ {K : Type 0} (wide : Bool) (texts : Texts) (at p n : ℕ) (Has : Tree → Type 0) (lp : IsFalse wide → p < 2 ^ 32) (ln : IsFalse wide → n < 2 ^ 32) (a : Stage K) (g : Stage K) (m m2 : List ℕ)
+    (w : Attempt wide (holding g m) (holding g m2) (pair_place wide at ∷ []) (pair_aim wide at p n) [] done) where
   -- what is pointed to stands where its pointer and its length were written
   pair_join : (s : Shape) → Joins (value_words wide texts s (p ∷ n ∷ []) 0 Has) (pair_aim wide at p n) (value_at wide texts s at Has) (λ t u. t)
       → Joins (loosened Respelled (value_words wide texts s (p ∷ n ∷ []) 0 Has)) (pair_aim wide at p n) (loosened Respelled (value_at wide texts s at Has)) (λ t u. t)
@@ -250,14 +251,14 @@ module _ (wide : Bool) (texts : Texts) (at p n : ℕ) (Has : Tree → Type 0) (l
     handles = join.handles;
   }
 
-  pub string_carried : {hs : List ℕ} → LowersCarried wide a (moment g m) texts string (p ∷ n ∷ []) 0 Has hs done → StoresCarried wide a (moment g m2) texts string at Has hs done
+  pub string_carried : {hs : List ℕ} → LowersCarried wide a (holding g m) texts string (p ∷ n ∷ []) 0 Has hs done → StoresCarried wide a (holding g m2) texts string at Has hs done
   unfolding size
-  string_carried {hs = hs} h = subst (λ xs. StoresCarried wide a (moment g m2) texts string at Has xs done) (append-nil hs)
-      (attempt_then wide a (moment g m) (moment g m2) [] (pair_place wide at ∷ []) (pair_place wide at ∷ []) _ _ (loosened Respelled (value_at wide texts string at Has)) _ (pair_join string (string_join wide texts at p n Has lp ln))
+  string_carried {hs = hs} h = subst (λ xs. StoresCarried wide a (holding g m2) texts string at Has xs done) (append-nil hs)
+      (attempt_then wide a (holding g m) (holding g m2) [] (pair_place wide at ∷ []) (pair_place wide at ∷ []) _ _ (loosened Respelled (value_at wide texts string at Has)) _ (pair_join string (string_join wide texts at p n Has lp ln))
       (carried_words_framed wide texts string (p ∷ n ∷ []) 0 Has) (pair_framed wide at p n) (λ i q. absurd q) (λ i q. q) (λ i q r. absurd q) h done w)
 
-  pub list_carried : {hs : List ℕ} (k : ListKind) (s : Shape) → LowersCarried wide a (moment g m) texts (list k s) (p ∷ n ∷ []) 0 Has hs done → StoresCarried wide a (moment g m2) texts (list k s) at Has hs done
+  pub list_carried : {hs : List ℕ} (k : ListKind) (s : Shape) → LowersCarried wide a (holding g m) texts (list k s) (p ∷ n ∷ []) 0 Has hs done → StoresCarried wide a (holding g m2) texts (list k s) at Has hs done
   unfolding size
-  list_carried {hs = hs} k s h = subst (λ xs. StoresCarried wide a (moment g m2) texts (list k s) at Has xs done) (append-nil hs)
-      (attempt_then wide a (moment g m) (moment g m2) [] (pair_place wide at ∷ []) (pair_place wide at ∷ []) _ _ (loosened Respelled (value_at wide texts (list k s) at Has)) _ (pair_join (list k s) (list_join wide texts at p n Has lp ln k s))
+  list_carried {hs = hs} k s h = subst (λ xs. StoresCarried wide a (holding g m2) texts (list k s) at Has xs done) (append-nil hs)
+      (attempt_then wide a (holding g m) (holding g m2) [] (pair_place wide at ∷ []) (pair_place wide at ∷ []) _ _ (loosened Respelled (value_at wide texts (list k s) at Has)) _ (pair_join (list k s) (list_join wide texts at p n Has lp ln k s))
       (carried_words_framed wide texts (list k s) (p ∷ n ∷ []) 0 Has) (pair_framed wide at p n) (λ i q. absurd q) (λ i q. q) (λ i q r. absurd q) h done w)

@@ -14,7 +14,7 @@ use Rattle.canon_model.specs.Rep.{CaseStored, IsList, Stored}
 use Rattle.canon_model.specs.Requests.{anew, case_requests, requests, tuple_request}
 use Rattle.canon_model.specs.Shape.{Cases, ListKind, Members, Name, ProductKind, Shape, VariantKind, case_count, fixed, list, member, of_places, product, variant}
 use Rattle.canon_model.specs.Tree.{Tree, Trees, case_number, items, list_of_each, no_trees, parts, payload_of, tree, tree_count, trees_of}
-use Rattle.canon_memory.specs.Guest.{Moment}
+use Rattle.canon_lowering.specs.Stages.{Stage}
 use Rattle.canon_memory.specs.Realloc.{block}
 use Rattle.canon_lowering.specs.Attempt.{Attempt, args_call, args_in, handle_numbers, items_call, members_at, members_span, members_words, value_at, value_place, value_words}
 use Rattle.canon_lowering.specs.Carried.{ArgsCarried, LowersCarried, MembersCarried, StoresCarried, WordsCarried, loosened}
@@ -39,7 +39,7 @@ carried_members_words_framed wide texts ms ws i Have = record {
 }
 
 -- the same words elsewhere
-pub carried_words_moved : {hs : List ℕ} (wide : Bool) (a b : Moment) (texts : Texts) (s : Shape) (ws vs : List ℕ) (i j : ℕ) (Has : Tree → Type 0) (e : Ending) → ((t : Tree) → Has t → Fits s t) → SameWords ws i vs j (flat s)
+pub carried_words_moved : {K : Type 0} {hs : List ℕ} (wide : Bool) (a b : Stage K) (texts : Texts) (s : Shape) (ws vs : List ℕ) (i j : ℕ) (Has : Tree → Type 0) (e : Ending) → ((t : Tree) → Has t → Fits s t) → SameWords ws i vs j (flat s)
     → LowersCarried wide a b texts s ws i Has hs e → LowersCarried wide a b texts s vs j Has hs e
 carried_words_moved wide a b texts s ws vs i j Has e fits same h = attempt_as wide a b [] [] (loosened Respelled (value_words wide texts s ws i Has)) (loosened Respelled (value_words wide texts s vs j Has)) e (λ k q. q) (record {
   turn = λ t. t;
@@ -56,16 +56,16 @@ module _ (wide : Bool) (texts : Texts) (name : Name) (s : Shape) (ms : Members) 
   carried_words_join : Joins (loosened Respelled (value_words wide texts s vs i Has)) (loosened AllRespelled (members_words wide texts ms vs (i + flat s) Have)) (loosened AllRespelled (members_words wide texts (member name s ms) vs i (FirstAnd Has Have))) (λ t ts. tree t ts)
   carried_words_join = loose_joins Respelled AllRespelled AllRespelled _ _ _ _ (words_join wide texts name s ms i Has Have vs) (λ t u ts us k l. (u, us, refl, k, l))
 
-  pub words_carried_cons : {hs ks : List ℕ} (a b c : Moment) (ws : List ℕ) (e : Ending) → ((t : Tree) → Has t → Fits s t) → SameWords ws i vs i (flat s) → LowersCarried wide a b texts s ws i Has hs done
+  pub words_carried_cons : {K : Type 0} {hs ks : List ℕ} (a b c : Stage K) (ws : List ℕ) (e : Ending) → ((t : Tree) → Has t → Fits s t) → SameWords ws i vs i (flat s) → LowersCarried wide a b texts s ws i Has hs done
       → WordsCarried wide b c texts ms vs (i + flat s) Have ks e → WordsCarried wide a c texts (member name s ms) vs i (FirstAnd Has Have) (hs ++ ks) e
   words_carried_cons a b c ws e fits same h r = attempt_then wide a b c [] [] [] _ _ _ _ carried_words_join (carried_words_framed wide texts s vs i Has) (carried_members_words_framed wide texts ms vs _ Have) (λ k q. q) (λ k q. q) (λ k q r. q)
       (carried_words_moved wide a b texts s ws vs i i Has done fits same h) e r
 
-  pub words_carried_stop : {hs ks : List ℕ} (a b : Moment) (ws : List ℕ) (e : Ending) → NotDone e → LowersCarried wide a b texts s ws i Has hs e → WordsCarried wide a b texts (member name s ms) vs i (FirstAnd Has Have) ks e
+  pub words_carried_stop : {K : Type 0} {hs ks : List ℕ} (a b : Stage K) (ws : List ℕ) (e : Ending) → NotDone e → LowersCarried wide a b texts s ws i Has hs e → WordsCarried wide a b texts (member name s ms) vs i (FirstAnd Has Have) ks e
   words_carried_stop {hs = hs} a b ws e not h = attempt_stop wide a b b [] [] [] _ _ _ _ carried_words_join (carried_words_framed wide texts s vs i Has) (carried_members_words_framed wide texts ms vs _ Have) (λ k q. q) (λ k q. q) (λ k q r. q) e not
       (attempt_other {ks = hs} wide a b [] _ (loosened Respelled (value_words wide texts s vs i Has)) e not (λ t has. (has, refl)) h)
 
-pub product_words_carried : {hs : List ℕ} (wide : Bool) (a c : Moment) (texts : Texts) (k : ProductKind) (ms : Members) (ws : List ℕ) (i : ℕ) (Have : Trees → Type 0) (Has : Tree → Type 0) (e : Ending)
+pub product_words_carried : {K : Type 0} {hs : List ℕ} (wide : Bool) (a c : Stage K) (texts : Texts) (k : ProductKind) (ms : Members) (ws : List ℕ) (i : ℕ) (Have : Trees → Type 0) (Has : Tree → Type 0) (e : Ending)
     → ((ts : Trees) → Have ts → Has (parts ts)) → ((t : Tree) → Has t → Have (trees_of t)) → WordsCarried wide a c texts ms ws i Have hs e → LowersCarried wide a c texts (product k ms) ws i Has hs e
 unfolding requests leaves
 product_words_carried wide a c texts k ms ws i Have Has e to from h = attempt_as wide a c [] [] (loosened AllRespelled (members_words wide texts ms ws i Have)) (loosened Respelled (value_words wide texts (product k ms) ws i Has)) e (λ k q. q) (record {
@@ -79,7 +79,7 @@ product_words_carried wide a c texts k ms ws i Have Has e to from h = attempt_as
   handles = λ ts is. refl;
 }) h
 
-pub fixed_words_carried : {hs : List ℕ} (wide : Bool) (a c : Moment) (texts : Texts) (n : ℕ) (s : Shape) (ws : List ℕ) (i : ℕ) (Have : Trees → Type 0) (Has : Tree → Type 0) (e : Ending)
+pub fixed_words_carried : {K : Type 0} {hs : List ℕ} (wide : Bool) (a c : Stage K) (texts : Texts) (n : ℕ) (s : Shape) (ws : List ℕ) (i : ℕ) (Have : Trees → Type 0) (Has : Tree → Type 0) (e : Ending)
     → ((ts : Trees) → Have ts → Has (parts ts) × (tree_count ts ≡ n)) → ((t : Tree) → Has t → Have (trees_of t)) → WordsCarried wide a c texts (copies n s) ws i Have hs e
     → LowersCarried wide a c texts (fixed n s) ws i Has hs e
 unfolding requests leaves
@@ -100,7 +100,7 @@ case_respelled : (d : ℕ) (ts us : Trees) → AllRespelled ts us → Respelled 
 case_respelled d no_trees us h = ap (λ vs. case_tree d vs) h
 case_respelled d (tree t ts) us (u, more, e, k, ks) = (u, ap (λ vs. case_tree d vs) e, k)
 
-pub variant_words_carried : {hs : List ℕ} (wide : Bool) (a c : Moment) (texts : Texts) (k : VariantKind) (cs : Cases) (ws : List ℕ) (i d : ℕ) (Have : Trees → Type 0) (Has : Tree → Type 0) (e : Ending) → d < case_count cs
+pub variant_words_carried : {K : Type 0} {hs : List ℕ} (wide : Bool) (a c : Stage K) (texts : Texts) (k : VariantKind) (cs : Cases) (ws : List ℕ) (i d : ℕ) (Have : Trees → Type 0) (Has : Tree → Type 0) (e : Ending) → d < case_count cs
     → slice_index ws i ≡ d → d < 2 ^ 32 → AreZero ws (i + 1 + members_flat (case_members cs d)) (i + 1 + cases_flat cs) → ((ts : Trees) → Have ts → Has (case_tree d ts) × CaseIs wide texts (case_members cs d) d (case_tree d ts))
     → ((t : Tree) → Has t → (case_number t ≡ d) × Have (payload_trees t) × CaseIs wide texts (case_members cs d) d t) → WordsCarried wide a c texts (case_members cs d) ws (i + 1) Have hs e
     → LowersCarried wide a c texts (variant k cs) ws i Has hs e
@@ -130,7 +130,7 @@ variant_words_carried wide a c texts k cs ws i d Have Has e lt first narrow zero
       handles = λ ts have. case_handles wide texts k cs d ts (to ts have).1;
     }) h
 
-module _ (wide : Bool) (texts : Texts) (k : VariantKind) (cs : Cases) (at d : ℕ) (lt : d < case_count cs) (Have : Trees → Type 0) (a b c : Moment) (w : Attempt wide a b (tag_span wide texts cs at ∷ []) (tag_aim wide texts cs at d) [] done) where
+module _ {K : Type 0} (wide : Bool) (texts : Texts) (k : VariantKind) (cs : Cases) (at d : ℕ) (lt : d < case_count cs) (Have : Trees → Type 0) (a b c : Stage K) (w : Attempt wide a b (tag_span wide texts cs at ∷ []) (tag_aim wide texts cs at d) [] done) where
   abbrev there : ℕ
   there = at + payload_offset wide cs
 
@@ -179,7 +179,7 @@ paired_respelled (tree t no_trees) us (u, more, e, k, none) = ap (λ vs. paired 
 paired_respelled (tree t (tree w ts)) us (u, more, e, k, (v, rest, f, l, ks)) =
     (parts (tree u (tree v no_trees)), paired rest, ap (λ vs. paired vs) e ∙ ap (λ vs. paired (tree u vs)) f, (tree u (tree v no_trees), refl, (u, tree v no_trees, refl, k, (v, no_trees, refl, l, refl))), paired_respelled ts rest ks)
 
-pub rows_carried : {hs : List ℕ} (wide : Bool) (a b c : Moment) (texts : Texts) (k : ListKind) (s : Shape) (n p all : ℕ) (ms : Members) (group : Trees → Trees) (back : Tree → Trees) (row : MakesRow wide texts s n ms all group)
+pub rows_carried : {K : Type 0} {hs : List ℕ} (wide : Bool) (a b c : Stage K) (texts : Texts) (k : ListKind) (s : Shape) (n p all : ℕ) (ms : Members) (group : Trees → Trees) (back : Tree → Trees) (row : MakesRow wide texts s n ms all group)
     (Have : Trees → Type 0) (Has : Tree → Type 0) (e : Ending) → length b.bytes ≤ 2 ^ 32 → (g : Granted a b (items_call wide s n) p) → (IsFalse wide → n < 2 ^ 32) → ((ts us : Trees) → AllRespelled ts us → AllRespelled (group ts) (group us))
     → ((ts : Trees) → Have ts → Has (items (group ts)) × (tree_count ts ≡ all)) → ((t : Tree) → Has t → Have (back t) × (trees_of t ≡ group (back t))) → MembersCarried wide b c texts ms 0 p Have hs e
     → LowersCarried wide a c texts (list k s) (p ∷ n ∷ []) 0 Has hs e
@@ -225,7 +225,7 @@ rows_carried wide a b c texts k s n p all ms group back row Have Has e small g f
 -- ---- a function's parameters
 
 module _ (wide : Bool) (texts : Texts) (ms : Members) (Have Have2 : Trees → Type 0) (to : (ts : Trees) → Have ts → Have2 ts) (from : (ts : Trees) → Have2 ts → Have ts) where
-  pub args_carried_near : {hs : List ℕ} (a c : Moment) (ws : List ℕ) (e : Ending) → members_flat ms ≤ max_params → length ws ≡ members_flat ms → WordsCarried wide a c texts ms ws 0 Have hs e → ArgsCarried wide a c texts ms Have2 ws hs e
+  pub args_carried_near : {K : Type 0} {hs : List ℕ} (a c : Stage K) (ws : List ℕ) (e : Ending) → members_flat ms ≤ max_params → length ws ≡ members_flat ms → WordsCarried wide a c texts ms ws 0 Have hs e → ArgsCarried wide a c texts ms Have2 ws hs e
   args_carried_near a c ws e near count h = attempt_as wide a c [] [] (loosened AllRespelled (members_words wide texts ms ws 0 Have)) (loosened AllRespelled (args_in wide texts ms ws Have2)) e (λ i q. q) (record {
     turn = λ ts. ts;
     back = λ ts. ts;
@@ -237,7 +237,7 @@ module _ (wide : Bool) (texts : Texts) (ms : Members) (Have Have2 : Trees → Ty
     handles = λ ts is. refl;
   }) h
 
-  pub args_carried_far : {hs : List ℕ} (a b c : Moment) (p : ℕ) (e : Ending) → max_params < members_flat ms → length b.bytes ≤ 2 ^ 32 → (g : Granted a b (args_call wide ms) p) → MembersCarried wide b c texts ms 0 p Have hs e
+  pub args_carried_far : {K : Type 0} {hs : List ℕ} (a b c : Stage K) (p : ℕ) (e : Ending) → max_params < members_flat ms → length b.bytes ≤ 2 ^ 32 → (g : Granted a b (args_call wide ms) p) → MembersCarried wide b c texts ms 0 p Have hs e
       → ArgsCarried wide a c texts ms Have2 (p ∷ []) hs e
   args_carried_far a b c p e far small g r =
       let span : Within (members_span wide ms 0 p ∷ []) (block p (size wide (product of_places ms)) ∷ []) = within_block _ _ _ _ (omega arith) (omega (arith, members_end-le-size wide of_places ms)) in

@@ -9,8 +9,8 @@ use Rattle.canon_model.specs.Rep.{MembersStored, RepMemIn}
 use Rattle.canon_model.specs.Requests.{Call, Request, members_requests, params_requests, requests}
 use Rattle.canon_model.specs.Shape.{Members, Shape, of_places, product}
 use Rattle.canon_model.specs.Tree.{Tree, Trees}
-use Rattle.canon_memory.specs.Guest.{Moment}
 use Rattle.canon_memory.specs.Realloc.{block, call}
+use Rattle.canon_lowering.specs.Stages.{Stage}
 use Rattle.canon_lowering.specs.Steps.{Apart}
 use Rattle.canon_lowering.specs.Lowering.{AllLawful, AllTidy, Answer, Ending, Lowering, Requested, Trap, WhenDone, addresses_of, blocks_of}
 
@@ -29,10 +29,10 @@ pub record Aim (X : Type 0) : Type 1 where
   pub handles : X → List ℕ
 
 -- The places lived, or no answer came near them.
-abbrev pub AreHeld : Moment → List Answer → List Block → Type 0
+abbrev pub AreHeld : {K : Type 0} → Stage K → List Answer → List Block → Type 0
 AreHeld before answers places = Within places before.guest.live ⊎ (AllTidy answers × Apart (blocks_of answers) places)
 
-module _ {X : Type 0} (wide : Bool) (before after : Moment) (places : List Block) (aim : Aim X) where
+module _ {K : Type 0} {X : Type 0} (wide : Bool) (before after : Stage K) (places : List Block) (aim : Aim X) where
   -- It stands, and these are the handles of the x that it is.
   pub record Shown (answers : List Answer) (fresh : List Block) (hs : List ℕ) : Type 0 where
     pub it : X
@@ -99,16 +99,16 @@ members_span wide ms o at = block (at + o) (members_end wide o ms - o)
 
 -- ---- the attempts
 
-abbrev pub StoresValue : Bool → Moment → Moment → Texts → Shape → ℕ → (Tree → Type 0) → List ℕ → Ending → Type 0
+abbrev pub StoresValue : {K : Type 0} → Bool → Stage K → Stage K → Texts → Shape → ℕ → (Tree → Type 0) → List ℕ → Ending → Type 0
 StoresValue wide before after texts s at Has hs ending = Attempt wide before after (value_place wide s at ∷ []) (value_at wide texts s at Has) hs ending
 
-abbrev pub StoresMembers : Bool → Moment → Moment → Texts → Members → ℕ → ℕ → (Trees → Type 0) → List ℕ → Ending → Type 0
+abbrev pub StoresMembers : {K : Type 0} → Bool → Stage K → Stage K → Texts → Members → ℕ → ℕ → (Trees → Type 0) → List ℕ → Ending → Type 0
 StoresMembers wide before after texts ms o at Have hs ending = Attempt wide before after (members_span wide ms o at ∷ []) (members_at wide texts ms o at Have) hs ending
 
-abbrev pub LowersValue : Bool → Moment → Moment → Texts → Shape → List ℕ → ℕ → (Tree → Type 0) → List ℕ → Ending → Type 0
+abbrev pub LowersValue : {K : Type 0} → Bool → Stage K → Stage K → Texts → Shape → List ℕ → ℕ → (Tree → Type 0) → List ℕ → Ending → Type 0
 LowersValue wide before after texts s ws i Has hs ending = Attempt wide before after [] (value_words wide texts s ws i Has) hs ending
 
-abbrev pub LowersMembers : Bool → Moment → Moment → Texts → Members → List ℕ → ℕ → (Trees → Type 0) → List ℕ → Ending → Type 0
+abbrev pub LowersMembers : {K : Type 0} → Bool → Stage K → Stage K → Texts → Members → List ℕ → ℕ → (Trees → Type 0) → List ℕ → Ending → Type 0
 LowersMembers wide before after texts ms ws i Have hs ending = Attempt wide before after [] (members_words wide texts ms ws i Have) hs ending
 
 -- ---- the blocks that are asked for
@@ -132,5 +132,5 @@ args_in wide texts ms ws Have = record {
   handles = λ ts. handle_numbers (members_leaves ms ts);
 }
 
-abbrev pub LowersArgs : Bool → Moment → Moment → Texts → Members → (Trees → Type 0) → List ℕ → List ℕ → Ending → Type 0
+abbrev pub LowersArgs : {K : Type 0} → Bool → Stage K → Stage K → Texts → Members → (Trees → Type 0) → List ℕ → List ℕ → Ending → Type 0
 LowersArgs wide before after texts ms Have ws hs ending = Attempt wide before after [] (args_in wide texts ms ws Have) hs ending

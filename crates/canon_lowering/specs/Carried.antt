@@ -9,7 +9,7 @@ use Rattle.canon_model.specs.Rep.{MembersStored, RepMem}
 use Rattle.canon_model.specs.Shape.{Members, Shape}
 use Rattle.canon_model.specs.Text.{Encoding}
 use Rattle.canon_model.specs.Tree.{Tree, Trees}
-use Rattle.canon_memory.specs.Guest.{Moment}
+use Rattle.canon_lowering.specs.Stages.{Stage}
 use Rattle.canon_lowering.specs.Attempt.{Aim, Attempt, args_in, members_at, members_span, members_words, value_at, value_place, value_words}
 use Rattle.canon_lowering.specs.Lowering.{Ending}
 
@@ -23,20 +23,20 @@ loosened {X} Alike aim = record {
   handles = aim.handles;
 }
 
-abbrev pub StoresCarried : Bool → Moment → Moment → Texts → Shape → ℕ → (Tree → Type 0) → List ℕ → Ending → Type 0
+abbrev pub StoresCarried : {K : Type 0} → Bool → Stage K → Stage K → Texts → Shape → ℕ → (Tree → Type 0) → List ℕ → Ending → Type 0
 StoresCarried wide before after texts s at Has hs ending = Attempt wide before after (value_place wide s at ∷ []) (loosened Respelled (value_at wide texts s at Has)) hs ending
 
-abbrev pub MembersCarried : Bool → Moment → Moment → Texts → Members → ℕ → ℕ → (Trees → Type 0) → List ℕ → Ending → Type 0
+abbrev pub MembersCarried : {K : Type 0} → Bool → Stage K → Stage K → Texts → Members → ℕ → ℕ → (Trees → Type 0) → List ℕ → Ending → Type 0
 MembersCarried wide before after texts ms o at Have hs ending = Attempt wide before after (members_span wide ms o at ∷ []) (loosened AllRespelled (members_at wide texts ms o at Have)) hs ending
 
-abbrev pub LowersCarried : Bool → Moment → Moment → Texts → Shape → List ℕ → ℕ → (Tree → Type 0) → List ℕ → Ending → Type 0
+abbrev pub LowersCarried : {K : Type 0} → Bool → Stage K → Stage K → Texts → Shape → List ℕ → ℕ → (Tree → Type 0) → List ℕ → Ending → Type 0
 LowersCarried wide before after texts s ws i Has hs ending = Attempt wide before after [] (loosened Respelled (value_words wide texts s ws i Has)) hs ending
 
-abbrev pub WordsCarried : Bool → Moment → Moment → Texts → Members → List ℕ → ℕ → (Trees → Type 0) → List ℕ → Ending → Type 0
+abbrev pub WordsCarried : {K : Type 0} → Bool → Stage K → Stage K → Texts → Members → List ℕ → ℕ → (Trees → Type 0) → List ℕ → Ending → Type 0
 WordsCarried wide before after texts ms ws i Have hs ending = Attempt wide before after [] (loosened AllRespelled (members_words wide texts ms ws i Have)) hs ending
 
 -- a function's parameters
-abbrev pub ArgsCarried : Bool → Moment → Moment → Texts → Members → (Trees → Type 0) → List ℕ → List ℕ → Ending → Type 0
+abbrev pub ArgsCarried : {K : Type 0} → Bool → Stage K → Stage K → Texts → Members → (Trees → Type 0) → List ℕ → List ℕ → Ending → Type 0
 ArgsCarried wide before after texts ms Have ws hs ending = Attempt wide before after [] (loosened AllRespelled (args_in wide texts ms ws Have)) hs ending
 
 -- ---- what is told of a value that is read in a memory

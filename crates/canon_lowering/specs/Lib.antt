@@ -1,4 +1,5 @@
 pub mod Steps
+pub mod Stages
 pub mod Lowering
 pub mod Storing
 pub mod Texts

@@ -3,14 +3,12 @@ use Rattle.std.proofs.Common.{◌≡◌, ◌≤◌, ◌<◌, ◌%◌, ◌++◌, 
 use Rattle.std.proofs.lemmas.Bool.{cond-false, cond-true}
 use Rattle.std.proofs.lemmas.List.{append-nil}
 use Rattle.canon_lowering.proofs.Attempts.{attempt_refused}
-use Rattle.canon_lowering.proofs.Lowerings.{stopped}
 use Rattle.canon_lowering.proofs.TextSteps.{text_begin, text_begin_stop, text_end, text_resize, text_resize_stop, text_write}
 use Rattle.canon_lowering.specs.Attempt.{LowersValue}
 use Rattle.canon_lowering.specs.Lowering.{Ending, Reallocated, done, refused}
 use Rattle.canon_lowering.specs.Steps.{Writes}
 use Rattle.canon_lowering.specs.Storing.{narrow}
 use Rattle.canon_lowering.specs.Texts.{TextBegun}
-use Rattle.canon_memory.specs.Guest.{Moment}
 use Rattle.canon_memory.specs.Memory.{written_over}
 use Rattle.canon_memory.specs.Realloc.{block, call}
 use Rattle.canon_model.proofs.Texts.{spells_same}
@@ -20,16 +18,16 @@ use Rattle.canon_model.specs.Requests.{Call, Request, anew, resized_at, shrunk_a
 use Rattle.canon_model.specs.Shape.{string}
 use Rattle.canon_model.specs.Text.{Encoding, IsLeastTag, Spells, in_utf8, text_align, text_bytes, text_form, most_bytes}
 use Rattle.canon_model.specs.Tree.{Tree, scalars_of}
-use Rattle.canon_context.specs.Core.{Parts, encoding_by, guest_of, moment_of}
+use Rattle.canon_context.specs.Core.{Parts, encoding_by, stage_of}
 use Rattle.canon_string.specs.Limits.{IsTooLong}
 use Rattle.canon_string.specs.Texts.{FitsTo, IsTextOf, PutsText}
 use Rattle.canon_context.specs.Lowers.{fault_ending}
-use Rattle.canon_context.specs.Moves.{Moves}
 use Rattle.canon_context.specs.Asks.{AsksFor, SameBut}
 use Rattle.canon_context.specs.declared.fault.Fault.{Fault}
 use Rattle.canon_context.specs.declared.fault.Fault.TheVariants as fault
-use Rattle.canon_context.proofs.Moves.{GuestLaws, moves_none, moves_then, moves_written}
+use Rattle.canon_context.proofs.Moves.{GuestLaws}
 use Rattle.canon_context.proofs.Cores.{not_done, same_then, written_whole}
+use Rattle.canon_lowering.specs.Stages.{Stage}
 
 pub not_too_long : (enc : Encoding) (source cs : List ℕ) → Spells in_utf8 source cs → most_bytes enc (length source) cs < 2 ^ 31 → (n : ℕ) → ¬ IsTooLong enc source n
 not_too_long enc source cs spells short n long =
@@ -37,7 +35,7 @@ not_too_long enc source cs spells short n long =
     omega (arith, short, many)
 
 -- a request for a block isn't refused before it is asked
-never_refused : (a b : Moment) (c : Call) (end : Ending) (p : ℕ) → end ≡ refused → Reallocated a b c end p → ⊥
+never_refused : {K : Type 0} (a b : Stage K) (c : Call) (end : Ending) (p : ℕ) → end ≡ refused → Reallocated a b c end p → ⊥
 never_refused a b c end p is h = subst (λ (x : Ending). Reallocated a b c x p) is h
 
 -- its trees have its scalar values
@@ -64,8 +62,7 @@ module _ {T G : Type 0} (L : GuestLaws G) (options : ℕ) where
   -- From a to b these requests were met, and the last of them gave the k bytes at p, aligned to `al`: where the answers were
   -- lawful, they begin with these bytes.
   pub record Begun (a b : Parts T G) (al : ℕ) (rs : List Request) (p k : ℕ) (bytes : List ℕ) : Type 0 where
-    pub text : TextBegun (moment_of L.seen a) (moment_of L.seen b) rs p k bytes
-    pub moved : Moves L.seen L.moves (guest_of a) (guest_of b) done
+    pub text : TextBegun (stage_of L.seen L.moves a) (stage_of L.seen L.moves b) rs p k bytes
     pub same : SameBut a b
     pub small : length b.memory ≤ 2 ^ 32
     pub aligned : p % al ≡ 0
@@ -73,8 +70,7 @@ module _ {T G : Type 0} (L : GuestLaws G) (options : ℕ) where
 
   pub begun_first : (a b : Parts T G) (al k p : ℕ) → AsksFor L.seen L.moves a b (call 0 0 al k) (Ok p) → Begun a b al (anew al k ∷ []) p k []
   begun_first a b al k p h = record {
-    text = text_begin (moment_of L.seen a) (moment_of L.seen b) al k p h.small h.does;
-    moved = h.moved;
+    text = text_begin (stage_of L.seen L.moves a) (stage_of L.seen L.moves b) al k p h.small h.does;
     same = h.same;
     small = h.small;
     aligned = h.does.aligned;
@@ -85,8 +81,7 @@ module _ {T G : Type 0} (L : GuestLaws G) (options : ℕ) where
       → (bytes_at (narrow b.memory) p (length old) ≡ old → bytes_at (narrow m) p (length bytes) ≡ bytes) → Begun a (record b { memory = written_over b.memory m }) al rs p k bytes
   begun_written a b al rs p k old bytes m h w fits begins =
       subst (λ (xs : List ℕ). Begun a (record b { memory = xs }) al rs p k bytes) (sym (written_whole b.memory m w.same_length)) (record {
-        text = text_write (moment_of L.seen a) (L.seen b.guest) b.memory m rs p k old bytes h.text w fits begins;
-        moved = moves_written L (guest_of a) b.guest b.wide b.memory m done w.same_length h.moved;
+        text = text_write (stage_of L.seen L.moves a) (stage_of L.seen L.moves b) b.memory m rs p k old bytes h.text w fits begins;
         same = ap (λ (x : Parts T G). record x { memory = m }) h.same;
         small = omega (arith, h.small, w.same_length);
         aligned = h.aligned;
@@ -96,8 +91,7 @@ module _ {T G : Type 0} (L : GuestLaws G) (options : ℕ) where
   pub begun_again : (a b c : Parts T G) (al : ℕ) (rs : List Request) (p k n q : ℕ) (bytes : List ℕ) → Begun a b al rs p k bytes → AsksFor L.seen L.moves b c (call p k al n) (Ok q) → length bytes ≤ n
       → Begun a c al (rs ++ resized_at al k n ∷ []) q n bytes
   begun_again a b c al rs p k n q bytes h g fits = record {
-    text = text_resize (moment_of L.seen a) (moment_of L.seen b) (moment_of L.seen c) al rs p k n q bytes g.small h.text g.does fits;
-    moved = moves_then L (guest_of a) (guest_of b) (guest_of c) done _ _ h.text.lowering.goes.events g.does.answered.goes.events h.moved g.moved;
+    text = text_resize (stage_of L.seen L.moves a) (stage_of L.seen L.moves b) (stage_of L.seen L.moves c) al rs p k n q bytes g.small h.text g.does fits;
     same = same_then a b c h.same g.same;
     small = g.small;
     aligned = g.does.aligned;
@@ -126,38 +120,34 @@ module _ {T G : Type 0} (L : GuestLaws G) (options : ℕ) where
         → text_align enc ≡ al → length bytes ≡ text_bytes enc n → Spells (text_form enc n) bytes cs
         → IsLeastTag enc n cs → text_requests enc cs ≡ rs → PutsText L.seen L.moves options a b source (Ok (record { pointer = p; length = n }))
     text_stands b al rs p k n bytes short h few to len spelled least asks = record {
-      lowered = under (λ (x : Encoding). LowersValue false (moment_of L.seen a) (moment_of L.seen b) (host_texts x) string (p ∷ n ∷ []) 0 (IsTextOf source) [] done)
-          (text_end false (moment_of L.seen a) (moment_of L.seen b) (host_texts enc) rs p k n cs bytes (IsTextOf source) h.text h.narrow few (subst (λ (x : ℕ). p % x ≡ 0) (sym to) h.aligned) len spelled least
+      lowered = under (λ (x : Encoding). LowersValue false (stage_of L.seen L.moves a) (stage_of L.seen L.moves b) (host_texts x) string (p ∷ n ∷ []) 0 (IsTextOf source) [] done)
+          (text_end false (stage_of L.seen L.moves a) (stage_of L.seen L.moves b) (host_texts enc) rs p k n cs bytes (IsTextOf source) h.text h.narrow few (subst (λ (x : ℕ). p % x ≡ 0) (sym to) h.aligned) len spelled least
           (cs, text_bytes enc n, spells, refl) (record { bytes = bytes; spelled = spelled; count = len; is = refl; least = least }) (asks_of rs asks));
       narrow = (h.narrow, few);
       fits = under (λ (x : Encoding). (j : ℕ) → ¬ IsTooLong x source j) (not_too_long enc source cs spells short);
       blames = tt;
-      moved = h.moved;
       same = h.same;
     }
 
     pub text_unasked : (b : Parts T G) (al k : ℕ) (more : List Request) (e : Fault) → text_requests enc cs ≡ anew al k ∷ more → AsksFor L.seen L.moves a b (call 0 0 al k) (Err e) → PutsText L.seen L.moves options a b source (Err e)
     text_unasked b al k more e asks h = record {
-      lowered = under (λ (x : Encoding). LowersValue false (moment_of L.seen a) (moment_of L.seen b) (host_texts x) string [] 0 (IsTextOf source) [] (fault_ending e))
-          (text_begin_stop false (moment_of L.seen a) (moment_of L.seen b) (host_texts enc) al k (IsTextOf source) [] 0 (fault_ending e) 0 (not_done e) h.small (λ t has. (more, asks_of (anew al k ∷ more) asks t has)) h.does);
+      lowered = under (λ (x : Encoding). LowersValue false (stage_of L.seen L.moves a) (stage_of L.seen L.moves b) (host_texts x) string [] 0 (IsTextOf source) [] (fault_ending e))
+          (text_begin_stop false (stage_of L.seen L.moves a) (stage_of L.seen L.moves b) (host_texts enc) al k (IsTextOf source) [] 0 (fault_ending e) 0 (not_done e) h.small (λ t has. (more, asks_of (anew al k ∷ more) asks t has)) h.does);
       narrow = tt;
       fits = tt;
-      blames = λ is. absurd (never_refused (moment_of L.seen a) (moment_of L.seen b) (call 0 0 al k) (fault_ending e) 0 is h.does);
-      moved = h.moved;
+      blames = λ is. absurd (never_refused (stage_of L.seen L.moves a) (stage_of L.seen L.moves b) (call 0 0 al k) (fault_ending e) 0 is h.does);
       same = h.same;
     }
 
     pub text_ungrown : (b c : Parts T G) (al : ℕ) (rs : List Request) (p k n : ℕ) (bytes : List ℕ) (more : List Request) (e : Fault) → Begun a b al rs p k bytes → text_requests enc cs ≡ rs ++ resized_at al k n ∷ more
         → AsksFor L.seen L.moves b c (call p k al n) (Err e) → PutsText L.seen L.moves options a c source (Err e)
     text_ungrown b c al rs p k n bytes more e h asks g = record {
-      lowered = under (λ (x : Encoding). LowersValue false (moment_of L.seen a) (moment_of L.seen c) (host_texts x) string [] 0 (IsTextOf source) [] (fault_ending e))
-          (text_resize_stop false (moment_of L.seen a) (moment_of L.seen b) (moment_of L.seen c) (host_texts enc) al rs p k n bytes (IsTextOf source) [] 0 (fault_ending e) 0 (not_done e) g.small
+      lowered = under (λ (x : Encoding). LowersValue false (stage_of L.seen L.moves a) (stage_of L.seen L.moves c) (host_texts x) string [] 0 (IsTextOf source) [] (fault_ending e))
+          (text_resize_stop false (stage_of L.seen L.moves a) (stage_of L.seen L.moves b) (stage_of L.seen L.moves c) (host_texts enc) al rs p k n bytes (IsTextOf source) [] 0 (fault_ending e) 0 (not_done e) g.small
           (λ t has. (more, asks_of (rs ++ resized_at al k n ∷ more) asks t has)) h.text g.does);
       narrow = tt;
       fits = tt;
-      blames = λ is. absurd (never_refused (moment_of L.seen b) (moment_of L.seen c) (call p k al n) (fault_ending e) 0 is g.does);
-      moved = moves_then L (guest_of a) (guest_of b) (guest_of c) (fault_ending e) _ _ h.text.lowering.goes.events
-          (stopped (moment_of L.seen b) (moment_of L.seen c) (call p k al n) (fault_ending e) 0 (not_done e) g.small g.does).lowering.goes.events h.moved g.moved;
+      blames = λ is. absurd (never_refused (stage_of L.seen L.moves b) (stage_of L.seen L.moves c) (call p k al n) (fault_ending e) 0 is g.does);
       same = same_then a b c h.same g.same;
     }
 
@@ -169,10 +159,9 @@ module _ {T G : Type 0} (L : GuestLaws G) (options : ℕ) where
 
     pub text_too_long : (n : ℕ) → length a.memory ≤ 2 ^ 32 → n ≡ length source → 2 ^ 31 ≤ most_bytes enc n cs → PutsText L.seen L.moves options a a source (Err (fault.StringTooLong n))
     text_too_long n small is many = record {
-      lowered = attempt_refused false (moment_of L.seen a) [] _ small;
+      lowered = attempt_refused false (stage_of L.seen L.moves a) [] _ small;
       narrow = tt;
       fits = tt;
       blames = λ end. (refl, n, refl, record { scalars = cs; spelled = spells; count = is; many = under (λ (x : Encoding). 2 ^ 31 ≤ most_bytes x n cs) many });
-      moved = moves_none L (guest_of a) (fault_ending (fault.StringTooLong n));
       same = refl;
     }

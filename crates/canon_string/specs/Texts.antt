@@ -10,9 +10,8 @@ use Rattle.canon_model.specs.Shape.{string}
 use Rattle.canon_model.specs.Text.{Spells, in_utf8}
 use Rattle.canon_model.specs.Tree.{Tree, text}
 use Rattle.canon_context.specs.Asks.{AsksFor, SameBut}
-use Rattle.canon_context.specs.Core.{Parts, encoding_by, guest_of, moment_of}
+use Rattle.canon_context.specs.Core.{Parts, encoding_by, stage_of}
 use Rattle.canon_context.specs.Lowers.{ending_of, fault_ending}
-use Rattle.canon_context.specs.Moves.{Moves}
 use Rattle.canon_context.specs.declared.fault.Fault.{Fault}
 use Rattle.canon_context.specs.declared.fault.Fault.TheVariants as fault
 use Rattle.canon_string.specs.Limits.{IsTooLong}
@@ -35,9 +34,8 @@ module _ {T G : Type 0} (seen : G → Seen) (moves : GuestIn G → List Event �
   -- The text, which isn't too long, was put into a block of its own; or it is refused, since it is too long, or for an answer of
   -- the guest's (`ending_of`).
   pub record PutsText (options : ℕ) (before after : Parts T G) (bytes : List ℕ) (result : Result TextBlock Fault) : Type 0 where
-    pub lowered : LowersValue false (moment_of seen before) (moment_of seen after) (host_texts (encoding_by before options)) string (text_words result) 0 (IsTextOf bytes) [] (ending_of result)
+    pub lowered : LowersValue false (stage_of seen moves before) (stage_of seen moves after) (host_texts (encoding_by before options)) string (text_words result) 0 (IsTextOf bytes) [] (ending_of result)
     pub narrow : IfOk result (λ b. (b.pointer < 2 ^ 32) × (b.length < 2 ^ 32))
     pub fits : IfOk result (λ b. (n : ℕ) → ¬ IsTooLong (encoding_by before options) bytes n)
     pub blames : IfErr result (λ e. fault_ending e ≡ refused → (after ≡ before) × (n : ℕ) × (e ≡ fault.StringTooLong n) × IsTooLong (encoding_by before options) bytes n)
-    pub moved : Moves seen moves (guest_of before) (guest_of after) (ending_of result)
     pub same : SameBut before after

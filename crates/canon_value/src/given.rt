@@ -9,10 +9,9 @@ ghost use Rattle.canon_lowering.specs.Attempt.{StoresMembers};
 ghost use Rattle.canon_types.specs.Table.{HasTuple, tuple_members};
 ghost use Rattle.canon_value_parts.specs.Args.{IsArea, IsNoArea, LowersResults};
 ghost use Rattle.canon_value_parts.specs.Resources.{Crosses, PartsLower, QuietBut, all_passes};
-ghost use Rattle.canon_context.specs.Core.{encoding_by, guest_of, moment_of, component_types};
+ghost use Rattle.canon_context.specs.Core.{component_types, encoding_by, stage_of};
 ghost use Rattle.canon_value_parts.specs.Fails.{AreSmall, BlamesMembers};
 ghost use Rattle.canon_context.specs.Lowers.{ending_of};
-ghost use Rattle.canon_context.specs.Moves.{Moves};
 ghost use Rattle.canon_context.specs.Quiet.{Quiet, have_block, have_handle};
 ghost use Rattle.canon_context.specs.Asks.{SameButHandles};
 ghost use Rattle.canon_val.specs.Value.{HaveTrees};
@@ -62,7 +61,7 @@ pub fn lower_results<T, G: Guest>(
     requires near { members_flat (tuple_members (component_types cx.old.core.now) ty) ≤ max_results → length dst.old ≡ members_flat (tuple_members (component_types cx.old.core.now) ty) }
     requires far { max_results < members_flat (tuple_members (component_types cx.old.core.now) ty) → at + size false (product of_places (tuple_members (component_types cx.old.core.now) ty)) ≤ length cx.old.core.now.memory }
     ensures lowered { Crosses cx.old.core.now.component.types (have_handle (tuple_members (component_types cx.old.core.now) ty)) (all_passes (tuple_members (component_types cx.old.core.now) ty) results.now)
-        (λ hs ending. LowersResults (moment_of G.seen cx.old.core.now) (moment_of G.seen cx.new.core.now) (encoding_by cx.old.core.now cx.old.options)
+        (λ hs ending. LowersResults (stage_of G.seen G.moves cx.old.core.now) (stage_of G.seen G.moves cx.new.core.now) (encoding_by cx.old.core.now cx.old.options)
         (tuple_members (component_types cx.old.core.now) ty) (HaveTrees (tuple_members (component_types cx.old.core.now) ty) results.now) at dst.new hs ending)
         cx.old.core.now.ledger cx.new.core.now.ledger result }
     ensures cause { IfErr result (BlamesMembers (encoding_by cx.old.core.now cx.old.options) (tuple_members (component_types cx.old.core.now) ty) results.now) }
@@ -73,7 +72,6 @@ pub fn lower_results<T, G: Guest>(
         QuietBut (have_handle (tuple_members (component_types cx.old.core.now) ty)) (all_passes (tuple_members (component_types cx.old.core.now) ty) results.now) (have_block (tuple_members (component_types cx.old.core.now) ty))
         (cx.new.core.now ≡ record cx.old.core.now { ledger = cx.new.core.now.ledger }) result }
     ensures kept { max_results < members_flat (tuple_members (component_types cx.old.core.now) ty) → dst.new ≡ dst.old }
-    ensures moves { Moves G.seen G.moves (guest_of cx.old.core.now) (guest_of cx.new.core.now) (ending_of result) }
     ensures same_core { SameButHandles cx.old.core.now cx.new.core.now }
     ensures same_reference { cx.new.core.ghost_name ≡ cx.old.core.ghost_name }
     ensures same_options { cx.new.options ≡ cx.old.options }
@@ -97,7 +95,7 @@ fn lower_results_by_size<T, G: Guest>(
     requires near { members_flat (tuple_members (component_types cx.old.core.now) ty) ≤ max_results → length dst.old ≡ members_flat (tuple_members (component_types cx.old.core.now) ty) }
     requires far { max_results < members_flat (tuple_members (component_types cx.old.core.now) ty) → at + size false (product of_places (tuple_members (component_types cx.old.core.now) ty)) ≤ length cx.old.core.now.memory }
     ensures lowered { PartsLower cx.old.core.now cx.new.core.now (all_passes (tuple_members (component_types cx.old.core.now) ty) results.now)
-        (λ hs. LowersResults (moment_of G.seen cx.old.core.now) (moment_of G.seen cx.new.core.now) (encoding_by cx.old.core.now cx.old.options)
+        (λ hs. LowersResults (stage_of G.seen G.moves cx.old.core.now) (stage_of G.seen G.moves cx.new.core.now) (encoding_by cx.old.core.now cx.old.options)
         (tuple_members (component_types cx.old.core.now) ty) (HaveTrees (tuple_members (component_types cx.old.core.now) ty) results.now) at dst.new hs (ending_of result)) result }
     ensures cause { IfErr result (BlamesMembers (encoding_by cx.old.core.now cx.old.options) (tuple_members (component_types cx.old.core.now) ty) results.now) }
     ensures small { OnOk result (AreSmall (encoding_by cx.old.core.now cx.old.options) (tuple_members (component_types cx.old.core.now) ty) results.now) }
@@ -105,7 +103,6 @@ fn lower_results_by_size<T, G: Guest>(
     ensures quiet_near { members_flat (tuple_members (component_types cx.old.core.now) ty) ≤ max_results →
         Quiet (have_block (tuple_members (component_types cx.old.core.now) ty)) (cx.new.core.now ≡ record cx.old.core.now { ledger = cx.new.core.now.ledger }) result }
     ensures kept { max_results < members_flat (tuple_members (component_types cx.old.core.now) ty) → dst.new ≡ dst.old }
-    ensures moves { Moves G.seen G.moves (guest_of cx.old.core.now) (guest_of cx.new.core.now) (ending_of result) }
     ensures same_core { SameButHandles cx.old.core.now cx.new.core.now }
     ensures same_reference { cx.new.core.ghost_name ≡ cx.old.core.ghost_name }
     ensures same_options { cx.new.options ≡ cx.old.options }
@@ -129,12 +126,11 @@ fn store_results<T, G: Guest>(
     requires count { length results.now ≡ member_count (tuple_members (component_types cx.old.core.now) ty) }
     requires room { at + size false (product of_places (tuple_members (component_types cx.old.core.now) ty)) ≤ length cx.old.core.now.memory }
     ensures stored { PartsLower cx.old.core.now cx.new.core.now (all_passes (tuple_members (component_types cx.old.core.now) ty) results.now)
-        (λ hs. StoresMembers false (moment_of G.seen cx.old.core.now) (moment_of G.seen cx.new.core.now) (host_texts (encoding_by cx.old.core.now cx.old.options))
+        (λ hs. StoresMembers false (stage_of G.seen G.moves cx.old.core.now) (stage_of G.seen G.moves cx.new.core.now) (host_texts (encoding_by cx.old.core.now cx.old.options))
         (tuple_members (component_types cx.old.core.now) ty) 0 at (HaveTrees (tuple_members (component_types cx.old.core.now) ty) results.now) hs (ending_of result)) result }
     ensures cause { IfErr result (BlamesMembers (encoding_by cx.old.core.now cx.old.options) (tuple_members (component_types cx.old.core.now) ty) results.now) }
     ensures small { OnOk result (AreSmall (encoding_by cx.old.core.now cx.old.options) (tuple_members (component_types cx.old.core.now) ty) results.now) }
     ensures quiet { Quiet (have_block (tuple_members (component_types cx.old.core.now) ty)) (cx.new.core.now.guest ≡ cx.old.core.now.guest) result }
-    ensures moves { Moves G.seen G.moves (guest_of cx.old.core.now) (guest_of cx.new.core.now) (ending_of result) }
     ensures same_core { SameButHandles cx.old.core.now cx.new.core.now }
     ensures same_reference { cx.new.core.ghost_name ≡ cx.old.core.ghost_name }
     ensures same_options { cx.new.options ≡ cx.old.options }

@@ -5,10 +5,9 @@ ghost use Rattle.canon_model.specs.Homes.{host_texts};
 ghost use Rattle.canon_lowering.specs.Attempt.{StoresValue};
 ghost use Rattle.canon_model.specs.Layout.{align, size};
 ghost use Rattle.canon_types.specs.Table.{Knows, shape_of};
-ghost use Rattle.canon_context.specs.Core.{encoding_by, guest_of, moment_of, component_types};
+ghost use Rattle.canon_context.specs.Core.{component_types, encoding_by, stage_of};
 ghost use Rattle.canon_value_parts.specs.Fails.{BlamesValue, IsSmall};
 ghost use Rattle.canon_context.specs.Lowers.{ending_of};
-ghost use Rattle.canon_context.specs.Moves.{Moves};
 ghost use Rattle.canon_context.specs.Quiet.{has_block, has_handle};
 ghost use Rattle.canon_value_parts.specs.Resources.{Crosses, QuietBut, passes};
 ghost use Rattle.canon_context.specs.Asks.{SameButHandles};
@@ -34,14 +33,13 @@ pub fn linear_lower_to_memory<T, G: Guest>(
     requires aligned { offset % align false (shape_of (component_types cx.old.core.now) ty) ≡ 0 }
     requires room { offset + size false (shape_of (component_types cx.old.core.now) ty) ≤ length cx.old.core.now.memory }
     ensures stored { Crosses cx.old.core.now.component.types (has_handle (shape_of (component_types cx.old.core.now) ty)) (passes value.now (shape_of (component_types cx.old.core.now) ty))
-        (λ hs ending. StoresValue false (moment_of G.seen cx.old.core.now) (moment_of G.seen cx.new.core.now) (host_texts (encoding_by cx.old.core.now cx.old.options))
+        (λ hs ending. StoresValue false (stage_of G.seen G.moves cx.old.core.now) (stage_of G.seen G.moves cx.new.core.now) (host_texts (encoding_by cx.old.core.now cx.old.options))
         (shape_of (component_types cx.old.core.now) ty) offset (HasTree (shape_of (component_types cx.old.core.now) ty) value.now) hs ending)
         cx.old.core.now.ledger cx.new.core.now.ledger result }
     ensures cause { IfErr result (BlamesValue (encoding_by cx.old.core.now cx.old.options) (shape_of (component_types cx.old.core.now) ty) value.now) }
     ensures small { OnOk result (IsSmall (encoding_by cx.old.core.now cx.old.options) (shape_of (component_types cx.old.core.now) ty) value.now) }
     ensures quiet { QuietBut (has_handle (shape_of (component_types cx.old.core.now) ty)) (passes value.now (shape_of (component_types cx.old.core.now) ty)) (has_block (shape_of (component_types cx.old.core.now) ty))
         (cx.new.core.now.guest ≡ cx.old.core.now.guest) result }
-    ensures moves { Moves G.seen G.moves (guest_of cx.old.core.now) (guest_of cx.new.core.now) (ending_of result) }
     ensures same_core { SameButHandles cx.old.core.now cx.new.core.now }
     ensures same_reference { cx.new.core.ghost_name ≡ cx.old.core.ghost_name }
     ensures same_options { cx.new.options ≡ cx.old.options }

@@ -1,15 +1,12 @@
 -- From a walk's answer to a public call's, where a shortage of the ledger's memory becomes out of memory.
 use Rattle.std.proofs.Common.{◌≡◌, ◌⊎◌, Bool, Err, List, None, [], ap, false, inl, inr, map, refl, subst, sym, true, ℕ}
-use Rattle.canon_context.proofs.Moves.{GuestLaws}
 use Rattle.canon_context.specs.Lowers.{fault_ending}
-use Rattle.canon_context.specs.Moves.{Moves}
 use Rattle.canon_context.specs.declared.fault.Fault.{Fault}
 use Rattle.canon_context.specs.declared.fault.Fault.TheVariants as fault
 use Rattle.canon_ledger.specs.Ledger.{LedgerState}
 use Rattle.canon_ledger.specs.declared.fault.ResourceFault.TheVariants as resource
 use Rattle.canon_leaves.specs.Parts.{LeavesStop, PassedResource, lower_parts}
 use Rattle.canon_lowering.specs.Lowering.{Ending, refused}
-use Rattle.canon_memory.specs.Guest.{GuestIn}
 use Rattle.canon_model.specs.Text.{Encoding}
 use Rattle.canon_types.specs.Instance.{Instance}
 use Rattle.canon_value_parts.proofs.Passing.{Ended}
@@ -148,6 +145,3 @@ module _ (types : Instance) (handles : Bool) (ps : List PassedResource) (none : 
 
 pub told_blames : (enc : Encoding) (F : Failure → ℕ → Type 0) (from : ℕ) (e told : Fault) → told ≡ told_fault e → Blames enc F from e → Blames enc F from told
 told_blames enc F from e told is h = subst (λ x. Blames enc F from x) (sym is) (told_by (λ x. Blames enc F from x) e (λ want. tt) h)
-
-pub told_moves : {G : Type 0} → (L : GuestLaws G) (g h : GuestIn G) (e told : Fault) → told ≡ told_fault e → Moves L.seen L.moves g h (fault_ending e) → Moves L.seen L.moves g h (fault_ending told)
-told_moves L g h e told is m = subst (λ x. Moves L.seen L.moves g h (fault_ending x)) (sym is) (told_by (λ x. Moves L.seen L.moves g h (fault_ending x)) e (λ want. tt) m)

@@ -4,7 +4,6 @@ use Rattle.std.specs.Int.{div_ceil}
 use Rattle.std.specs.declared.alloc.Global.{Global}
 use Rattle.std.proofs.lemmas.List.{length-map}
 use Rattle.canon_abi.specs.Abi.{HasLayout}
-use Rattle.canon_memory.specs.Guest.{Moment}
 use Rattle.canon_memory.specs.Memory.{written_over}
 use Rattle.canon_memory.specs.Realloc.{block}
 use Rattle.canon_lowering.proofs.AimedAt.{flags_stored}
@@ -22,7 +21,7 @@ use Rattle.canon_types.specs.Keeps.{flags_type, names_of}
 use Rattle.canon_types.specs.Table.{IsDefined, TypeTable, shape_of}
 use Rattle.canon_types.specs.declared.types.InterfaceType.TheVariants as ty
 use Rattle.canon_types.specs.declared.types.TypeFlags.{TypeFlags}
-use Rattle.canon_context.specs.Core.{Parts, encoding_by, guest_of, moment_of, component_types}
+use Rattle.canon_context.specs.Core.{Parts, component_types, encoding_by, stage_of}
 use Rattle.canon_value_parts.specs.Flags.{AreSetInWords, SetsBit, SomeUnknown, flag_names}
 use Rattle.canon_value_parts.proofs.Passing.{flags_none, passes_none, passes_stopped}
 use Rattle.canon_value_parts.specs.Resources.{passes}
@@ -35,9 +34,10 @@ use Rattle.canon_val.specs.declared.val.Val.TheVariants as val
 use Rattle.canon_value_parts.proofs.FlagNames.{Differ, flags_are, marked_all, names_are}
 use Rattle.canon_value_parts.proofs.FlagWriting.{AreStored, stored_begin, stored_more}
 use Rattle.canon_value_parts.proofs.MapsAndFlags.{places_flags, any_order}
-use Rattle.canon_context.proofs.Moves.{GuestLaws, moves_none, moves_written}
+use Rattle.canon_context.proofs.Moves.{GuestLaws}
 use Rattle.canon_value_parts.proofs.Sizes.{flags_small}
 use Rattle.canon_context.proofs.Cores.{written_whole}
+use Rattle.canon_lowering.specs.Stages.{Stage}
 
 -- how many bytes flags take
 pub flags_bytes : (t u : TypeTable) (i : ℕ) (f : TypeFlags) → u ≡ t → IsDefined u (ty.Flags i) (flags_type f) → HasLayout f.abi (shape_of u (ty.Flags i)) → f.abi.size32 ≡ flags_size (length (flag_names t i))
@@ -61,7 +61,7 @@ flags_words_count t i f n is e =
     ap flag_words (e ∙ (sym counted ∙ ap length (sym (names_are t i f is))))
 
 -- bytes were written, and then a fault of the value was found
-left : (a b : Moment) (places : List Block) → Lowering a b places done [] None [] → Lowering a b places refused [] None []
+left : {K : Type 0} (a b : Stage K) (places : List Block) → Lowering a b places done [] None [] → Lowering a b places refused [] None []
 left a b places h = record { goes = h.goes; small = h.small; lawful = λ calm all. h.lawful tt all; tidy = λ calm all. h.tidy tt all; gained = h.gained; cause = refl; accepted = h.accepted }
 
 module _ {T G : Type 0} (L : GuestLaws G) (options : ℕ) (a : Parts T G) (names : List Name) (set : Vec (String Global) Global) (small : length a.memory ≤ 2 ^ 32) (place : ℕ) where
@@ -74,11 +74,10 @@ module _ {T G : Type 0} (L : GuestLaws G) (options : ℕ) (a : Parts T G) (names
         let (least, marked, known) = marked_all names (names_of set.items) (num (narrow m) at (flags_size (length names))) there.marked there.known in
         subst (λ (x : Shape). StoresTo L.seen L.moves options a (record a { memory = m }) x at (val.Flags set) place (Ok next)) (sym is) (record {
           handles = [];
-          storing = flags_stored false (L.seen a.guest) a.memory m (host_texts (encoding_by a options)) at (HasTree (flags names) (val.Flags set)) small names (omega (arith, room, many)) there.writes least
+          storing = flags_stored false (stage_of L.seen L.moves a) a.memory m (host_texts (encoding_by a options)) at (HasTree (flags names) (val.Flags set)) small names (omega (arith, room, many)) there.writes least
               (names_of set.items, _, (set, refl, refl), known, refl, marked, λ h. any_order h);
           handed = passes_none a.component.types a.ledger a.ledger (passes (val.Flags set) (flags names)) refl (flags_none names set);
           counted = (omega (arith, counted, places_flags (names_of set.items) (val.Flags set) (set, refl, refl)), flags_small (encoding_by a options) names (val.Flags set));
-          moved = moves_written L (guest_of a) a.guest a.wide a.memory m done h.writes.same_length (moves_none L (guest_of a) done);
           same = refl;
           quiet = λ none. (refl, tt);
         })
@@ -94,13 +93,12 @@ module _ {T G : Type 0} (L : GuestLaws G) (options : ℕ) (a : Parts T G) (names
             answers = [];
             trap = None;
             fresh = [];
-            lowering = left _ _ _ (lowering_write (L.seen a.guest) a.memory m (block at (flags_size (length names))) small writes);
+            lowering = left _ _ _ (lowering_write (stage_of L.seen L.moves a) a.memory m (block at (flags_size (length names))) small writes);
             requested = λ x has. requested_later _ refused tt;
             shown = tt;
           };
           handed = passes_stopped a.component.types a.ledger a.ledger (passes (val.Flags set) (flags names)) (fault.UnknownFlag place) refl refl;
           counted = (0, omega (arith, few), (refl, (names_of set.items, (set, refl, refl), unknown)));
-          moved = moves_written L (guest_of a) a.guest a.wide a.memory m refused h.writes.same_length (moves_none L (guest_of a) refused);
           same = refl;
           quiet = λ none. (refl, refl);
         })
@@ -113,12 +111,11 @@ module _ {T G : Type 0} (L : GuestLaws G) (options : ℕ) (a : Parts T G) (names
     unfolding flat
     flags_lower to (below, (least, marked, known)) ew ep = subst (λ (x : Shape). LowersTo L.seen L.moves options a a dst dst2 from (Ok to) x (val.Flags set)) (sym is) (record {
       handles = [];
-      lowered = flags_words false (moment_of L.seen a) (host_texts (encoding_by a options)) dst2 from.word (HasTree (flags names) (val.Flags set)) small names below least (names_of set.items, _, (set, refl, refl), known, refl, marked, λ h. any_order h);
+      lowered = flags_words false (stage_of L.seen L.moves a) (host_texts (encoding_by a options)) dst2 from.word (HasTree (flags names) (val.Flags set)) small names below least (names_of set.items, _, (set, refl, refl), known, refl, marked, λ h. any_order h);
       handed = passes_none a.component.types a.ledger a.ledger (passes (val.Flags set) (flags names)) refl (flags_none names set);
       stays = stays;
       passed = ew;
       counted = (omega (arith, ep, is_place, places_flags (names_of set.items) (val.Flags set) (set, refl, refl)), flags_small (encoding_by a options) names (val.Flags set));
-      moved = moves_none L (guest_of a) done;
       same = refl;
       quiet = λ none. (refl, tt);
     })
@@ -126,12 +123,11 @@ module _ {T G : Type 0} (L : GuestLaws G) (options : ℕ) (a : Parts T G) (names
     pub flags_not_lowered : SomeUnknown names (names_of set.items) → place < 2 ^ 64 → LowersTo L.seen L.moves options a a dst dst2 from (Err (fault.UnknownFlag from.place)) s (val.Flags set)
     flags_not_lowered unknown few = subst (λ (x : Shape). LowersTo L.seen L.moves options a a dst dst2 from (Err (fault.UnknownFlag from.place)) x (val.Flags set)) (sym is) (record {
       handles = [];
-      lowered = attempt_refused false (moment_of L.seen a) [] _ small;
+      lowered = attempt_refused false (stage_of L.seen L.moves a) [] _ small;
       handed = passes_stopped a.component.types a.ledger a.ledger (passes (val.Flags set) (flags names)) (fault.UnknownFlag from.place) refl refl;
       stays = stays;
       passed = tt;
       counted = (0, omega (arith, few, is_place), (refl, (names_of set.items, (set, refl, refl), unknown)));
-      moved = moves_none L (guest_of a) refused;
       same = refl;
       quiet = λ none. (refl, refl);
     })

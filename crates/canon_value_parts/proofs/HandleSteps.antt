@@ -3,8 +3,8 @@ use Rattle.std.proofs.Common.{◌≡◌, ◌≤◌, ◌<◌, ◌+◌, ◌%◌, �
 use Rattle.std.proofs.Math.Nat.{mod-eq_of_lt}
 use Rattle.std.proofs.lemmas.List.{get_or-set_other, get_or-set_same, length-set}
 use Rattle.canon_context.proofs.Cores.{written_whole}
-use Rattle.canon_context.proofs.Moves.{GuestLaws, moves_none, moves_written}
-use Rattle.canon_context.specs.Core.{Parts, encoding_by, guest_of, moment_of}
+use Rattle.canon_context.proofs.Moves.{GuestLaws}
+use Rattle.canon_context.specs.Core.{Parts, encoding_by, stage_of}
 use Rattle.canon_context.specs.Lowers.{fault_ending}
 use Rattle.canon_context.specs.declared.fault.Fault.{Fault}
 use Rattle.canon_context.specs.declared.fault.Fault.TheVariants as fault
@@ -18,7 +18,6 @@ use Rattle.canon_lowering.specs.Attempt.{LowersValue, StoresValue}
 use Rattle.canon_lowering.specs.Lowering.{done}
 use Rattle.canon_lowering.specs.Steps.{Writes}
 use Rattle.canon_lowering.specs.Storing.{narrow}
-use Rattle.canon_memory.specs.Guest.{moment}
 use Rattle.canon_memory.specs.Memory.{written_over}
 use Rattle.canon_memory.specs.Realloc.{block}
 use Rattle.canon_model.specs.Homes.{host_texts}
@@ -37,6 +36,7 @@ use Rattle.canon_val.specs.Value.{HasTree, places}
 use Rattle.canon_value_parts.specs.Words.{LowersTo}
 use Rattle.canon_value_parts.specs.declared.spot.Spot.{Spot}
 use Rattle.canon_val.specs.declared.val.Val.{Val, the_lemmas}
+use Rattle.canon_lowering.specs.Stages.{holding}
 use Rattle.canon_val.specs.declared.val.Val.TheVariants as val
 
 -- ---- of the value
@@ -83,9 +83,9 @@ module _ {T G : Type 0} (L : GuestLaws G) (options : ℕ) (a : Parts T G) (l : L
   -- ---- in memory
 
   storing : (m : List ℕ) (at : ℕ) (owns : Bool) → at + 4 ≤ length a.memory → Writes (block at 4) a.memory m
-      → StoresValue false (moment_of L.seen a) (moment (L.seen a.guest) m) (host_texts (encoding_by a options)) (shaped_handle owns r) at (HasTree (shaped_handle owns r) (val.Resource x)) (num (narrow m) at 4 ∷ []) done
-  storing m at true room w = own_stored false (L.seen a.guest) a.memory m (host_texts (encoding_by a options)) at (HasTree (own r) (val.Resource x)) small r room w (x, num (narrow m) at 4, refl, refl)
-  storing m at false room w = borrow_stored false (L.seen a.guest) a.memory m (host_texts (encoding_by a options)) at (HasTree (borrow r) (val.Resource x)) small r room w (x, num (narrow m) at 4, refl, refl)
+      → StoresValue false (stage_of L.seen L.moves a) (holding (stage_of L.seen L.moves a) m) (host_texts (encoding_by a options)) (shaped_handle owns r) at (HasTree (shaped_handle owns r) (val.Resource x)) (num (narrow m) at 4 ∷ []) done
+  storing m at true room w = own_stored false (stage_of L.seen L.moves a) a.memory m (host_texts (encoding_by a options)) at (HasTree (own r) (val.Resource x)) small r room w (x, num (narrow m) at 4, refl, refl)
+  storing m at false room w = borrow_stored false (stage_of L.seen L.moves a) a.memory m (host_texts (encoding_by a options)) at (HasTree (borrow r) (val.Resource x)) small r room w (x, num (narrow m) at 4, refl, refl)
 
   pub handle_stored : (m : List ℕ) (at h place next : ℕ) → at + 4 ≤ length a.memory → h < 2 ^ 32 → Writes (block at 4) a.memory m → num (narrow m) at 4 ≡ h % 256 ^ 4 → next ≡ cap (place + 1)
       → Took a.component.types a.ledger l (passed owned r x ∷ []) (h ∷ [])
@@ -96,7 +96,6 @@ module _ {T G : Type 0} (L : GuestLaws G) (options : ℕ) (a : Parts T G) (l : L
         storing = storing m at owned room w;
         handed = took_as a.component.types a.ledger l owned r x h (num (narrow m) at 4) (there ∙ mod-eq_of_lt few) took;
         counted = (omega (arith, counted, handle_places x), handle_small (encoding_by a options) owned r (val.Resource x));
-        moved = moves_written L (guest_of a) a.guest a.wide a.memory m done w.same_length (moves_none L (guest_of a) done);
         same = refl;
         quiet = λ none. (refl, tt);
       })
@@ -104,9 +103,9 @@ module _ {T G : Type 0} (L : GuestLaws G) (options : ℕ) (a : Parts T G) (l : L
   -- ---- in words
 
   lowering : (ws : List ℕ) (i : ℕ) (owns : Bool) → slice_index ws i < 2 ^ 32
-      → LowersValue false (moment_of L.seen a) (moment_of L.seen a) (host_texts (encoding_by a options)) (shaped_handle owns r) ws i (HasTree (shaped_handle owns r) (val.Resource x)) (low (slice_index ws i) ∷ []) done
-  lowering ws i true few = own_words false (moment_of L.seen a) (host_texts (encoding_by a options)) ws i (HasTree (own r) (val.Resource x)) small r few (x, low (slice_index ws i), refl, refl)
-  lowering ws i false few = borrow_words false (moment_of L.seen a) (host_texts (encoding_by a options)) ws i (HasTree (borrow r) (val.Resource x)) small r few (x, low (slice_index ws i), refl, refl)
+      → LowersValue false (stage_of L.seen L.moves a) (stage_of L.seen L.moves a) (host_texts (encoding_by a options)) (shaped_handle owns r) ws i (HasTree (shaped_handle owns r) (val.Resource x)) (low (slice_index ws i) ∷ []) done
+  lowering ws i true few = own_words false (stage_of L.seen L.moves a) (host_texts (encoding_by a options)) ws i (HasTree (own r) (val.Resource x)) small r few (x, low (slice_index ws i), refl, refl)
+  lowering ws i false few = borrow_words false (stage_of L.seen L.moves a) (host_texts (encoding_by a options)) ws i (HasTree (borrow r) (val.Resource x)) small r few (x, low (slice_index ws i), refl, refl)
 
   pub handle_lowered : (dst : List ℕ) (from to : Spot) (h w : ℕ) → from.word + 1 ≤ length dst → h < 2 ^ 32 → w ≡ h → to.word ≡ from.word + 1 → to.place ≡ cap (from.place + 1)
       → Took a.component.types a.ledger l (passed owned r x ∷ []) (h ∷ []) → LowersTo L.seen L.moves options a taken dst (set dst from.word w) from (Ok to) (shaped_handle owned r) (val.Resource x)
@@ -120,7 +119,6 @@ module _ {T G : Type 0} (L : GuestLaws G) (options : ℕ) (a : Parts T G) (l : L
         stays = record { same_length = length-set dst from.word w; before = λ p lt. get_or-set_other dst from.word p w 0 (omega (arith, lt)) };
         passed = omega (arith, ew, handle_flat owned r);
         counted = (omega (arith, ep, handle_places x), handle_small (encoding_by a options) owned r (val.Resource x));
-        moved = moves_none L (guest_of a) done;
         same = refl;
         quiet = λ none. (refl, tt);
       }
@@ -131,10 +129,9 @@ module _ {T G : Type 0} (L : GuestLaws G) (options : ℕ) (a : Parts T G) (l : L
     pub handle_not_stored : (at place : ℕ) → StoresTo L.seen L.moves options a taken (shaped_handle owned r) at (val.Resource x) place (Err (fault.Resource e))
     handle_not_stored at place = record {
       handles = [];
-      storing = attempt_refused false (moment_of L.seen a) _ _ small;
+      storing = attempt_refused false (stage_of L.seen L.moves a) _ _ small;
       handed = ended_as a.component.types a.ledger l owned r x (fault.Resource e) ended;
       counted = tt;
-      moved = moves_none L (guest_of a) (fault_ending (fault.Resource e));
       same = refl;
       quiet = λ none. (refl, refl);
     }
@@ -142,12 +139,11 @@ module _ {T G : Type 0} (L : GuestLaws G) (options : ℕ) (a : Parts T G) (l : L
     pub handle_not_lowered : (dst : List ℕ) (from : Spot) → LowersTo L.seen L.moves options a taken dst dst from (Err (fault.Resource e)) (shaped_handle owned r) (val.Resource x)
     handle_not_lowered dst from = record {
       handles = [];
-      lowered = attempt_refused false (moment_of L.seen a) [] _ small;
+      lowered = attempt_refused false (stage_of L.seen L.moves a) [] _ small;
       handed = ended_as a.component.types a.ledger l owned r x (fault.Resource e) ended;
       stays = record { same_length = refl; before = λ p lt. refl };
       passed = tt;
       counted = tt;
-      moved = moves_none L (guest_of a) (fault_ending (fault.Resource e));
       same = refl;
       quiet = λ none. (refl, refl);
     }

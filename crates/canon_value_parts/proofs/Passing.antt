@@ -11,7 +11,6 @@ use Rattle.canon_ledger.specs.declared.fault.ResourceFault.{ResourceFault}
 use Rattle.canon_leaves.proofs.Leaves.{leaves_one, leaves_stop_first, leaves_stop_one, leaves_stop_then, leaves_then, stops_at_once}
 use Rattle.canon_leaves.specs.Parts.{LeafMoves, LeavesStop, LeavesTake, Part, PassedResource, lower_parts, refusal_of}
 use Rattle.canon_lowering.specs.Lowering.{Ending, Reallocated, refused}
-use Rattle.canon_memory.specs.Guest.{Moment}
 use Rattle.canon_model.specs.Requests.{Call}
 use Rattle.canon_types.specs.Instance.{Instance}
 use Rattle.canon_model.specs.Shape.{Name, flags}
@@ -20,6 +19,7 @@ use Rattle.canon_context.specs.Faults.{stop_of}
 use Rattle.canon_val.specs.declared.val.Val.{the_lemmas}
 use Rattle.canon_val.specs.declared.val.Val.TheVariants as val
 use Rattle.std.specs.declared.alloc.Global.{Global}
+use Rattle.canon_lowering.specs.Stages.{Stage}
 
 -- ---- cores one after another, whose ledgers may differ
 
@@ -92,7 +92,7 @@ ledger_unless fault.OutOfMemory h = refl
 ledger_unless (fault.Resource e) h = absurd (h e refl)
 
 -- a block that wasn't given
-pub ungiven_elsewhere : (a b : Moment) (c : Call) (e : Fault) (p : ℕ) → Reallocated a b c (fault_ending e) p → ledger_fault e ≡ None
+pub ungiven_elsewhere : {K : Type 0} (a b : Stage K) (c : Call) (e : Fault) (p : ℕ) → Reallocated a b c (fault_ending e) p → ledger_fault e ≡ None
 ungiven_elsewhere a b c e p h = ledger_unless e (λ r is. subst (λ (x : Fault). Reallocated a b c (fault_ending x) p) is h)
 
 -- a fault of a value is none of the ledger's

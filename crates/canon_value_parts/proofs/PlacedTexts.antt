@@ -7,7 +7,7 @@ use Rattle.canon_lowering.specs.Lowering.{Ending, done}
 use Rattle.canon_model.specs.Homes.{host_texts}
 use Rattle.canon_model.specs.Shape.{string}
 use Rattle.canon_model.specs.Text.{Spells, in_utf8}
-use Rattle.canon_context.specs.Core.{Parts, encoding_by, moment_of}
+use Rattle.canon_context.specs.Core.{Parts, encoding_by, stage_of}
 use Rattle.canon_context.specs.Lowers.{fault_ending}
 use Rattle.canon_context.specs.declared.fault.Fault.{Fault}
 use Rattle.canon_string.specs.Texts.{IsTextOf, PutsText}
@@ -27,9 +27,9 @@ use Rattle.canon_value_parts.proofs.Steps.{blames_unless}
 
 module _ {T G : Type 0} (L : GuestLaws G) (options : ℕ) (a b : Parts T G) (s : String Global) where
   -- a text's trees are its value's
-  as_value : (ws : List ℕ) (e : Ending) → LowersValue false (moment_of L.seen a) (moment_of L.seen b) (host_texts (encoding_by a options)) string ws 0 (IsTextOf (string_bytes s)) [] e
-      → LowersValue false (moment_of L.seen a) (moment_of L.seen b) (host_texts (encoding_by a options)) string ws 0 (HasTree string (val.String s)) [] e
-  as_value ws e h = attempt_as false (moment_of L.seen a) (moment_of L.seen b) [] [] (value_words false (host_texts (encoding_by a options)) string ws 0 (IsTextOf (string_bytes s)))
+  as_value : (ws : List ℕ) (e : Ending) → LowersValue false (stage_of L.seen L.moves a) (stage_of L.seen L.moves b) (host_texts (encoding_by a options)) string ws 0 (IsTextOf (string_bytes s)) [] e
+      → LowersValue false (stage_of L.seen L.moves a) (stage_of L.seen L.moves b) (host_texts (encoding_by a options)) string ws 0 (HasTree string (val.String s)) [] e
+  as_value ws e h = attempt_as false (stage_of L.seen L.moves a) (stage_of L.seen L.moves b) [] [] (value_words false (host_texts (encoding_by a options)) string ws 0 (IsTextOf (string_bytes s)))
       (value_words false (host_texts (encoding_by a options)) string ws 0 (HasTree string (val.String s))) e (λ i q. q) (record {
         turn = λ t. t;
         back = λ t. t;
@@ -49,7 +49,6 @@ module _ {T G : Type 0} (L : GuestLaws G) (options : ℕ) (a b : Parts T G) (s :
     handed = passes_none a.component.types a.ledger b.ledger (passes (val.String s) string) (same_ledger a b h.same) (text_none s);
     narrow = h.narrow;
     counted = (omega (arith, counted, places_text s), text_small (encoding_by a options) s h.fits);
-    moved = h.moved;
     same = same_handles a b h.same;
   }
 
@@ -63,6 +62,5 @@ module _ {T G : Type 0} (L : GuestLaws G) (options : ℕ) (a b : Parts T G) (s :
     counted = blames_unless (encoding_by a options) (λ how k. FailsAt how string (val.String s) k) place e (λ is.
         let (still, n, same, long) = h.blames is in
         subst (Blames (encoding_by a options) (λ how k. FailsAt how string (val.String s) k) place) (sym same) (0, (refl, (s, refl, long))));
-    moved = h.moved;
     same = same_handles a b h.same;
   }

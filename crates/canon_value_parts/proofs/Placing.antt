@@ -3,14 +3,13 @@ use Rattle.std.proofs.Common.{◌≡◌, ◌≤◌, ◌<◌, ◌+◌, ◌^◌, �
 use Rattle.canon_lowering.proofs.Attempts.{attempt_refused, attempt_other}
 use Rattle.canon_lowering.specs.Attempt.{LowersValue, StoresMembers, items_call, value_words}
 use Rattle.canon_lowering.specs.Lowering.{Ending, Reallocated}
-use Rattle.canon_memory.specs.Guest.{Moment}
 use Rattle.canon_model.specs.Homes.{host_texts}
 use Rattle.canon_model.specs.Requests.{Call}
 use Rattle.canon_model.specs.Shape.{Members, Shape, list}
 use Rattle.canon_model.specs.Text.{Encoding, utf8}
 use Rattle.canon_model.specs.Tree.{Tree, tree_count, trees_of}
 use Rattle.canon_types.specs.Depth.{element_shape}
-use Rattle.canon_context.specs.Core.{Parts, encoding_by, guest_of, moment_of}
+use Rattle.canon_context.specs.Core.{Parts, encoding_by, stage_of}
 use Rattle.canon_value_parts.specs.Fails.{AreSmall, Blames, Failure, FailsAt, IsSmall, MemberFails, overflow, too_long}
 use Rattle.canon_context.specs.Lowers.{fault_ending, ending_of}
 use Rattle.canon_context.specs.Asks.{AsksFor}
@@ -23,19 +22,19 @@ use Rattle.canon_val.specs.declared.val.Val.{Val}
 use Rattle.canon_value_parts.proofs.Listing.{IsListOf}
 use Rattle.canon_value_parts.proofs.Passing.{IsOwn, handles_then, own_elsewhere, own_ends, passes_as, passes_from, passes_stopped, same_handles, same_ledger, ungiven_elsewhere}
 use Rattle.canon_value_parts.specs.Resources.{LowersHandles, all_passes, passes}
-use Rattle.canon_context.proofs.Moves.{moves_none, GuestLaws, moves_then}
+use Rattle.canon_context.proofs.Moves.{GuestLaws}
 use Rattle.canon_value_parts.proofs.Sizes.{small_by}
 use Rattle.canon_context.proofs.Cores.{not_done, same_encoding}
 use Rattle.canon_value_parts.proofs.StoreSteps.{Named, count_members}
 use Rattle.canon_value_parts.proofs.Steps.{blames_later, blames_unless}
 use Rattle.canon_lowering.proofs.AimedPairs.{list_ungiven, rows_words}
 use Rattle.canon_model.specs.Layout.{size}
-use Rattle.canon_context.specs.Moves.{Moves}
+use Rattle.canon_lowering.specs.Stages.{Stage}
 use Rattle.canon_context.specs.declared.fault.Fault.TheVariants as fault
 
 -- ---- a block that isn't given: no value is to blame
 
-asked_blames : (enc : Encoding) (F : Failure → ℕ → Type 0) (from : ℕ) (a b : Moment) (c : Call) (e : Fault) (p : ℕ) → Reallocated a b c (fault_ending e) p → Blames enc F from e
+asked_blames : {K : Type 0} (enc : Encoding) (F : Failure → ℕ → Type 0) (from : ℕ) (a b : Stage K) (c : Call) (e : Fault) (p : ℕ) → Reallocated a b c (fault_ending e) p → Blames enc F from e
 asked_blames enc F from a b c e p h = blames_unless enc F from e (λ is. absurd (subst (λ (x : Ending). Reallocated a b c x p) is h))
 
 -- ---- a value that is refused
@@ -46,11 +45,10 @@ module _ {T G : Type 0} (L : GuestLaws G) (options : ℕ) where
       → PlacesTo L.seen L.moves options a a s v place (Err e)
   unplaced a s v place e small is b = record {
     handles = [];
-    lowered = subst (λ (end : Ending). LowersValue false (moment_of L.seen a) (moment_of L.seen a) (host_texts (encoding_by a options)) s [] 0 (HasTree s v) [] end) (sym (own_ends e is)) (attempt_refused false (moment_of L.seen a) [] _ small);
+    lowered = subst (λ (end : Ending). LowersValue false (stage_of L.seen L.moves a) (stage_of L.seen L.moves a) (host_texts (encoding_by a options)) s [] 0 (HasTree s v) [] end) (sym (own_ends e is)) (attempt_refused false (stage_of L.seen L.moves a) [] _ small);
     handed = passes_stopped a.component.types a.ledger a.ledger (passes v s) e refl (own_elsewhere e is);
     narrow = tt;
     counted = b;
-    moved = moves_none L (guest_of a) (fault_ending e);
     same = refl;
   }
 
@@ -88,11 +86,10 @@ module _ (whole : Shape) (v : Val) (n : ℕ) (ms : Members) (vs : List Val) (l :
         let h : AsksFor L.seen L.moves a b (items_call false l.part n) (Err e) = subst₂ (λ (j : ℕ) (s : Shape). AsksFor L.seen L.moves a b (items_call false s j) (Err e)) is (ap element_shape l.shape) asked in
         by_parts (λ s. PlacesTo L.seen L.moves options a b s v place (Err e)) (record {
           handles = [];
-          lowered = list_ungiven false (moment_of L.seen a) (moment_of L.seen b) (host_texts (encoding_by a options)) l.kind l.part n 0 [] 0 (HasTree shape v) (fault_ending e) (not_done e) h.small list_count h.does;
-          handed = passes_stopped a.component.types a.ledger b.ledger (passes v shape) e (same_ledger a b h.same) (ungiven_elsewhere (moment_of L.seen a) (moment_of L.seen b) (items_call false l.part n) e 0 h.does);
+          lowered = list_ungiven false (stage_of L.seen L.moves a) (stage_of L.seen L.moves b) (host_texts (encoding_by a options)) l.kind l.part n 0 [] 0 (HasTree shape v) (fault_ending e) (not_done e) h.small list_count h.does;
+          handed = passes_stopped a.component.types a.ledger b.ledger (passes v shape) e (same_ledger a b h.same) (ungiven_elsewhere (stage_of L.seen L.moves a) (stage_of L.seen L.moves b) (items_call false l.part n) e 0 h.does);
           narrow = tt;
-          counted = asked_blames (encoding_by a options) (λ how k. FailsAt how shape v k) place (moment_of L.seen a) (moment_of L.seen b) (items_call false l.part n) e 0 h.does;
-          moved = h.moved;
+          counted = asked_blames (encoding_by a options) (λ how k. FailsAt how shape v k) place (stage_of L.seen L.moves a) (stage_of L.seen L.moves b) (items_call false l.part n) e 0 h.does;
           same = same_handles a b h.same;
         })
 
@@ -102,10 +99,10 @@ module _ (whole : Shape) (v : Val) (n : ℕ) (ms : Members) (vs : List Val) (l :
       g = subst₂ (λ (j : ℕ) (s : Shape). AsksFor L.seen L.moves a b (items_call false s j) (Ok p)) is (ap element_shape l.shape) asked
 
       module _ (r : Result ℕ Fault) (h : PartsStoreTo L.seen L.moves options b c place ms 0 p (no_names vs) vs (cap (place + 1)) r) where
-        row_words : LowersValue false (moment_of L.seen a) (moment_of L.seen c) (host_texts (encoding_by a options)) shape (p ∷ n ∷ []) 0 (HasTree shape v) h.handles (ending_of r)
-        row_words = rows_words false (moment_of L.seen a) (moment_of L.seen b) (moment_of L.seen c) (host_texts (encoding_by a options)) l.kind l.part n p l.all ms l.group l.ungroup (l.row (encoding_by a options))
+        row_words : LowersValue false (stage_of L.seen L.moves a) (stage_of L.seen L.moves c) (host_texts (encoding_by a options)) shape (p ∷ n ∷ []) 0 (HasTree shape v) h.handles (ending_of r)
+        row_words = rows_words false (stage_of L.seen L.moves a) (stage_of L.seen L.moves b) (stage_of L.seen L.moves c) (host_texts (encoding_by a options)) l.kind l.part n p l.all ms l.group l.ungroup (l.row (encoding_by a options))
             (Named ms (no_names vs) vs) (HasTree shape v) (ending_of r) g.small g.does (λ _. omega (arith, is, few)) l.is l.back
-            (subst (λ (x : Encoding). StoresMembers false (moment_of L.seen b) (moment_of L.seen c) (host_texts x) ms 0 p (Named ms (no_names vs) vs) h.handles (ending_of r)) (same_encoding a b options g.same) h.storing)
+            (subst (λ (x : Encoding). StoresMembers false (stage_of L.seen L.moves b) (stage_of L.seen L.moves c) (host_texts x) ms 0 p (Named ms (no_names vs) vs) h.handles (ending_of r)) (same_encoding a b options g.same) h.storing)
 
         row_handed : LowersHandles a.component.types a.ledger c.ledger (passes v shape) h.handles r
         row_handed = passes_as a.component.types a.ledger c.ledger (all_passes ms vs) (passes v shape) h.handles r (ap (passes v) (sym l.shape) ∙ given) (passes_from a b c.ledger (all_passes ms vs) h.handles r g.same h.handed)
@@ -116,9 +113,6 @@ module _ (whole : Shape) (v : Val) (n : ℕ) (ms : Members) (vs : List Val) (l :
             (count_members (encoding_by a options) place ms (no_names vs) vs (cap (place + 1)) r l.named
             (subst (λ (x : Encoding). FieldsCount x place ms (no_names vs) vs (cap (place + 1)) r) (same_encoding a b options g.same) h.counted))
 
-        row_moves : Moves L.seen L.moves (guest_of a) (guest_of c) (ending_of r)
-        row_moves = moves_then L (guest_of a) (guest_of b) (guest_of c) (ending_of r) _ _ g.does.answered.goes.events h.storing.lowering.goes.events g.moved h.moved
-
       pub list_placed : (next : ℕ) → PartsStoreTo L.seen L.moves options b c place ms 0 p (no_names vs) vs (cap (place + 1)) (Ok next)
           → PlacesTo L.seen L.moves options a c whole v place (Ok (record { pointer = p; length = k; next = next }))
       list_placed next h =
@@ -128,7 +122,6 @@ module _ (whole : Shape) (v : Val) (n : ℕ) (ms : Members) (vs : List Val) (l :
             handed = row_handed (Ok next) h;
             narrow = (g.does.narrow, omega (arith, is, few));
             counted = row_counted (Ok next) h;
-            moved = row_moves (Ok next) h;
             same = handles_then a b c (same_handles a b g.same) h.same;
           } in
           subst (λ (j : ℕ). PlacesTo L.seen L.moves options a c whole v place (Ok (record { pointer = p; length = j; next = next }))) (sym is)
@@ -137,10 +130,9 @@ module _ (whole : Shape) (v : Val) (n : ℕ) (ms : Members) (vs : List Val) (l :
       pub list_broken : (e : Fault) → PartsStoreTo L.seen L.moves options b c place ms 0 p (no_names vs) vs (cap (place + 1)) (Err e) → PlacesTo L.seen L.moves options a c whole v place (Err e)
       list_broken e h = by_parts (λ s. PlacesTo L.seen L.moves options a c s v place (Err e)) (record {
         handles = h.handles;
-        lowered = attempt_other false (moment_of L.seen a) (moment_of L.seen c) [] _ (value_words false (host_texts (encoding_by a options)) shape [] 0 (HasTree shape v)) (fault_ending e) (not_done e) (λ t has. (has, refl)) (row_words (Err e) h);
+        lowered = attempt_other false (stage_of L.seen L.moves a) (stage_of L.seen L.moves c) [] _ (value_words false (host_texts (encoding_by a options)) shape [] 0 (HasTree shape v)) (fault_ending e) (not_done e) (λ t has. (has, refl)) (row_words (Err e) h);
         handed = row_handed (Err e) h;
         narrow = tt;
         counted = row_counted (Err e) h;
-        moved = row_moves (Err e) h;
         same = handles_then a b c (same_handles a b g.same) h.same;
       })

@@ -6,7 +6,6 @@ use Rattle.canon_lowering.proofs.AimedCases.{CaseIs, case_room, number_of, tag_w
 use Rattle.canon_lowering.specs.Copies.{case_members, case_tree, payload_trees}
 use Rattle.canon_lowering.specs.Steps.{Writes}
 use Rattle.canon_lowering.specs.Storing.{narrow}
-use Rattle.canon_memory.specs.Guest.{moment}
 use Rattle.canon_memory.specs.Memory.{written_over}
 use Rattle.canon_memory.specs.Realloc.{block}
 use Rattle.canon_model.proofs.Layouts.{tag-le-size}
@@ -18,10 +17,9 @@ use Rattle.canon_model.specs.Text.{Encoding, utf8}
 use Rattle.canon_model.specs.Tree.{Tree, Trees, case_number}
 use Rattle.canon_types.specs.Depth.{deepest, depth}
 use Rattle.canon_types.specs.Table.{TypeTable}
-use Rattle.canon_context.specs.Core.{Parts, encoding_by, guest_of, moment_of}
+use Rattle.canon_context.specs.Core.{Parts, encoding_by, stage_of}
 use Rattle.canon_value_parts.specs.Fails.{FailsAt, MemberFails}
 use Rattle.canon_context.specs.Lowers.{ending_of}
-use Rattle.canon_context.specs.Moves.{Moves}
 use Rattle.canon_value_parts.specs.Resources.{all_passes, passes}
 use Rattle.canon_value_parts.proofs.Passing.{passes_as}
 use Rattle.canon_value_parts.specs.Stores.{PlacesCounted, PartsStoreTo, StoresTo}
@@ -37,6 +35,7 @@ use Rattle.canon_context.proofs.Moves.{GuestLaws}
 use Rattle.canon_value_parts.proofs.Steps.{blames_later}
 use Rattle.canon_context.proofs.Cores.{written_whole}
 use Rattle.canon_value_parts.proofs.StoreSteps.{Named, count_members}
+use Rattle.canon_lowering.specs.Stages.{holding}
 
 -- ---- a value's tree from its payload's trees, and back
 
@@ -100,13 +99,12 @@ module _ {T G : Type 0} (L : GuestLaws G) (options : ℕ) where
       → PartsStoreTo L.seen L.moves options (record a { memory = m }) c place (case_members cs d) 0 (at + payload_offset false cs) names vs (cap (place + 1)) r → StoresTo L.seen L.moves options a c (variant k cs) at v place r
   case_stores a c m k cs at d names vs v place r small room given lt few of named w tag h = record {
     handles = h.handles;
-    storing = variant_stored false (host_texts (encoding_by a options)) k cs at d lt (Named (case_members cs d) names vs) (moment_of L.seen a) (moment (L.seen a.guest) m) (moment_of L.seen c)
-        (tag_written false (host_texts (encoding_by a options)) (L.seen a.guest) a.memory m cs at d small (omega (arith, room, tag-le-size false k cs)) w (tag ∙ mod-eq_of_lt (tag_fits (case_count cs) d lt few)))
+    storing = variant_stored false (host_texts (encoding_by a options)) k cs at d lt (Named (case_members cs d) names vs) (stage_of L.seen L.moves a) (holding (stage_of L.seen L.moves a) m) (stage_of L.seen L.moves c)
+        (tag_written false (host_texts (encoding_by a options)) (stage_of L.seen L.moves a) a.memory m cs at d small (omega (arith, room, tag-le-size false k cs)) w (tag ∙ mod-eq_of_lt (tag_fits (case_count cs) d lt few)))
         (HasTree (variant k cs) v) (ending_of r) (omega (arith, room, w.same_length, h.storing.lowering.goes.no_shorter))
         (case_told false (encoding_by a options) k cs d names vs v lt of named) (case_untold false (encoding_by a options) k cs d names vs v lt of named) h.storing;
     handed = passes_as a.component.types a.ledger c.ledger (all_passes (case_members cs d) vs) (passes v (variant k cs)) h.handles r given h.handed;
     counted = case_counted (encoding_by a options) k cs d vs v place r of (count_members (encoding_by a options) place (case_members cs d) names vs (cap (place + 1)) r named h.counted);
-    moved = subst (λ (n : ℕ). Moves L.seen L.moves (record { guest = a.guest; len = n; wide = a.wide }) (guest_of c) (ending_of r)) w.same_length h.moved;
     same = h.same;
     quiet = λ none. h.quiet (case_quiet cs d none);
   }

@@ -1,7 +1,6 @@
 -- Steps of a walk that stores, over plain variables.
 use Rattle.std.proofs.Common.{◌≡◌, ◌++◌, ◌≤◌, ◌<◌, ◌+◌, ◌%◌, ◌^◌, ◌∙◌, Bool, Err, List, Ok, Result, Vec, [], ◌∷◌, ap, arith, false, inl, inr, length, refl, subst, suc, sym, true, zero, ℕ}
 use Rattle.std.specs.declared.alloc.Global.{Global}
-use Rattle.canon_memory.specs.Guest.{Moment, moment}
 use Rattle.canon_memory.specs.Memory.{written_over}
 use Rattle.canon_memory.specs.Realloc.{block}
 use Rattle.canon_lowering.proofs.AimedAt.{fixed_stored, members_cons, members_stop, product_stored, scalar_stored}
@@ -25,7 +24,7 @@ use Rattle.canon_types.specs.Depth.{deepest, depth}
 use Rattle.canon_types.specs.Table.{shape_of}
 use Rattle.canon_types.specs.declared.types.InterfaceType.{InterfaceType}
 use Rattle.canon_plan.specs.NoHandle.{HaveNoHandle, HasNoHandle}
-use Rattle.canon_context.specs.Core.{Parts, encoding_by, guest_of, moment_of, component_types}
+use Rattle.canon_context.specs.Core.{Parts, component_types, encoding_by, stage_of}
 use Rattle.canon_value_parts.specs.Fails.{Blames, Failure, FailsAt, MemberFails, SomeFails}
 use Rattle.canon_context.specs.Lowers.{ending_of, fault_ending}
 use Rattle.canon_context.specs.Quiet.{has_block, have_block}
@@ -41,7 +40,7 @@ use Rattle.canon_val.specs.declared.val.Val.{Val}
 use Rattle.canon_val.specs.declared.val.Val.TheVariants as val
 use Rattle.canon_value_parts.proofs.Contents.{each_count, fixed_values, list_trees, places_fixed}
 use Rattle.canon_value_parts.proofs.Sizes.{fixed_small, none_small, scalar_small}
-use Rattle.canon_context.proofs.Moves.{moves_none, moves_then, moves_written, GuestLaws}
+use Rattle.canon_context.proofs.Moves.{GuestLaws}
 use Rattle.canon_value_parts.proofs.Steps.{blocks_none, no_first, no_later, blames_first, blames_later}
 use Rattle.canon_plan.proofs.Lookups.{copies_count}
 use Rattle.canon_value_parts.proofs.Scalars.{scalar_places}
@@ -53,6 +52,7 @@ use Rattle.canon_value_parts.proofs.Passing.{IsOwn, handles_encoding, handles_in
 use Rattle.canon_value_parts.specs.Resources.{LowersHandles, all_passes, passes}
 use Rattle.canon_value_parts.proofs.StoreSteps.{Named, count_members, fields_count, heads, least_low, named_join, named_split, product_counts}
 use Rattle.canon_value_parts.proofs.Values.{product_names, product_values}
+use Rattle.canon_lowering.specs.Stages.{Stage, holding}
 
 -- ---- a row of values, as members of one shape
 
@@ -130,7 +130,7 @@ pub row_back : (n : ℕ) (s : Shape) (xs : Vec Val Global) → length xs.items �
 row_back n s xs is t has = (copies_names n s xs.items is, have_copies n s xs.items (trees_of t) is (list_trees s xs t has))
 
 -- a value that was lowered to words and not to its end
-stop_at : {hs : List ℕ} (wide : Bool) (a b : Moment) (enc : Encoding) (s : Shape) (at : ℕ) (Has : Tree → Type 0) (ws : List ℕ) (e : Ending) → NotDone e → LowersValue wide a b (host_texts enc) s ws 0 Has hs e → StoresValue wide a b (host_texts enc) s at Has hs e
+stop_at : {K : Type 0} {hs : List ℕ} (wide : Bool) (a b : Stage K) (enc : Encoding) (s : Shape) (at : ℕ) (Has : Tree → Type 0) (ws : List ℕ) (e : Ending) → NotDone e → LowersValue wide a b (host_texts enc) s ws 0 Has hs e → StoresValue wide a b (host_texts enc) s at Has hs e
 stop_at wide a b enc s at Has ws e not h = record {
   answers = h.answers;
   trap = h.trap;
@@ -147,10 +147,9 @@ module _ {T G : Type 0} (L : GuestLaws G) (options : ℕ) where
       → StoresTo L.seen L.moves options a a s at v from (Err e)
   value_refused a s at v from e small is b = record {
     handles = [];
-    storing = subst (λ (end : Ending). StoresValue false (moment_of L.seen a) (moment_of L.seen a) (host_texts (encoding_by a options)) s at (HasTree s v) [] end) (sym (own_ends e is)) (attempt_refused false (moment_of L.seen a) _ _ small);
+    storing = subst (λ (end : Ending). StoresValue false (stage_of L.seen L.moves a) (stage_of L.seen L.moves a) (host_texts (encoding_by a options)) s at (HasTree s v) [] end) (sym (own_ends e is)) (attempt_refused false (stage_of L.seen L.moves a) _ _ small);
     handed = passes_stopped a.component.types a.ledger a.ledger (passes v s) e refl (own_elsewhere e is);
     counted = b;
-    moved = moves_none L (guest_of a) (fault_ending e);
     same = refl;
     quiet = λ none. (refl, own_ends e is);
   }
@@ -167,11 +166,10 @@ module _ {T G : Type 0} (L : GuestLaws G) (options : ℕ) where
       subst (λ (bytes : List ℕ). StoresTo L.seen L.moves options a (record a { memory = bytes }) (shape_of (component_types a) type) at v place (Ok next)) (sym (written_whole a.memory m writes.same_length))
       (subst (λ (s : Shape). StoresTo L.seen L.moves options a (record a { memory = m }) s at v place (Ok next)) (sym shape) (record {
         handles = [];
-        storing = scalar_stored false (L.seen a.guest) a.memory m (host_texts (encoding_by a options)) at (HasTree (scalar k) v) small k t (omega (arith, room, bytes)) (subst (λ (j : ℕ). Writes (block at j) a.memory m) bytes writes)
+        storing = scalar_stored false (stage_of L.seen L.moves a) a.memory m (host_texts (encoding_by a options)) at (HasTree (scalar k) v) small k t (omega (arith, room, bytes)) (subst (λ (j : ℕ). Writes (block at j) a.memory m) bytes writes)
             (subst (λ (j : ℕ). ScalarIs k j t) (sym there) is2) (subst (λ (j : ℕ). IsLeast k j) (sym there) least2) has;
         handed = passes_none a.component.types a.ledger a.ledger (passes v (scalar k)) refl (ap (passes v) (sym shape) ∙ none);
         counted = (omega (arith, counted, scalar_places k v t has), scalar_small (encoding_by a options) k v);
-        moved = moves_written L (guest_of a) a.guest a.wide a.memory m done writes.same_length (moves_none L (guest_of a) done);
         same = refl;
         quiet = λ none. (refl, tt);
       }))
@@ -184,42 +182,40 @@ module _ {T G : Type 0} (L : GuestLaws G) (options : ℕ) where
     storing = words_stop;
     handed = h.handed;
     counted = h.counted;
-    moved = h.moved;
     same = h.same;
     quiet = λ none. absurd (blocks_none (has_block s) block none);
   }
     where
-      words_stop : StoresValue false (moment_of L.seen a) (moment_of L.seen b) (host_texts (encoding_by a options)) s at (HasTree s v) h.handles (fault_ending e)
-      words_stop = stop_at false (moment_of L.seen a) (moment_of L.seen b) (encoding_by a options) s at (HasTree s v) [] (fault_ending e) (not_done e) h.lowered
+      words_stop : StoresValue false (stage_of L.seen L.moves a) (stage_of L.seen L.moves b) (host_texts (encoding_by a options)) s at (HasTree s v) h.handles (fault_ending e)
+      words_stop = stop_at false (stage_of L.seen L.moves a) (stage_of L.seen L.moves b) (encoding_by a options) s at (HasTree s v) [] (fault_ending e) (not_done e) h.lowered
 
   module _ (a b : Parts T G) (m : List ℕ) (at : ℕ) (v : Val) (place : ℕ) (x : Placed) (room : at + 8 ≤ length b.memory) (small : length b.memory ≤ 2 ^ 32) (lp : x.pointer < 2 ^ 32)
       (ln : x.length < 2 ^ 32) (w : IsPair b.memory m at x.pointer x.length) where
     abbrev told : Parts T G → Shape → Type 0
     told c s = StoresTo L.seen L.moves options a c s at v place (Ok x.next)
 
-    written : Attempt false (moment (L.seen b.guest) b.memory) (moment (L.seen b.guest) m) (pair_place false at ∷ []) (pair_aim false at x.pointer x.length) [] done
-    written = pair_written false (L.seen b.guest) b.memory m at x.pointer x.length small room w.writes w.pointer w.count
+    written : Attempt false (holding (stage_of L.seen L.moves b) b.memory) (holding (stage_of L.seen L.moves b) m) (pair_place false at ∷ []) (pair_aim false at x.pointer x.length) [] done
+    written = pair_written false (stage_of L.seen L.moves b) b.memory m at x.pointer x.length small room w.writes w.pointer w.count
 
-    pub block_told : (s : Shape) → has_block s ≡ true → (h : PlacesTo L.seen L.moves options a b s v place (Ok x)) → StoresValue false (moment_of L.seen a) (moment (L.seen b.guest) m) (host_texts (encoding_by a options)) s at (HasTree s v) h.handles done
+    pub block_told : (s : Shape) → has_block s ≡ true → (h : PlacesTo L.seen L.moves options a b s v place (Ok x)) → StoresValue false (stage_of L.seen L.moves a) (holding (stage_of L.seen L.moves b) m) (host_texts (encoding_by a options)) s at (HasTree s v) h.handles done
         → told (record b { memory = written_over b.memory m }) s
     block_told s block h storing = subst (λ (bytes : List ℕ). told (record b { memory = bytes }) s) (sym (written_whole b.memory m w.writes.same_length)) (record {
       handles = h.handles;
       storing = storing;
       handed = h.handed;
       counted = h.counted;
-      moved = moves_written L (guest_of a) b.guest b.wide b.memory m done w.writes.same_length h.moved;
       same = ap (λ (y : Parts T G). record y { memory = m }) h.same;
       quiet = λ none. absurd (blocks_none (has_block s) block none);
     })
 
     pub text_told : PlacesTo L.seen L.moves options a b string v place (Ok x) → told (record b { memory = written_over b.memory m }) string
-    text_told h = block_told string refl h (string_stored false (host_texts (encoding_by a options)) at x.pointer x.length (HasTree string v) (λ _. lp) (λ _. ln) (moment_of L.seen a) (L.seen b.guest) b.memory m written h.lowered)
+    text_told h = block_told string refl h (string_stored false (host_texts (encoding_by a options)) at x.pointer x.length (HasTree string v) (λ _. lp) (λ _. ln) (stage_of L.seen L.moves a) (stage_of L.seen L.moves b) b.memory m written h.lowered)
 
     pub list_told : (s part : Shape) (k : ListKind) → s ≡ list k part → PlacesTo L.seen L.moves options a b s v place (Ok x) → told (record b { memory = written_over b.memory m }) s
     list_told s part k is h = subst (λ (y : Shape). told (record b { memory = written_over b.memory m }) y) (sym is) (
         let placed = subst (λ (y : Shape). PlacesTo L.seen L.moves options a b y v place (Ok x)) is h in
         block_told (list k part) refl placed
-        (list_stored false (host_texts (encoding_by a options)) at x.pointer x.length (HasTree (list k part) v) (λ _. lp) (λ _. ln) (moment_of L.seen a) (L.seen b.guest) b.memory m written k part placed.lowered))
+        (list_stored false (host_texts (encoding_by a options)) at x.pointer x.length (HasTree (list k part) v) (λ _. lp) (λ _. ln) (stage_of L.seen L.moves a) (stage_of L.seen L.moves b) b.memory m written k part placed.lowered))
 
   -- ---- members, one after another
 
@@ -227,19 +223,18 @@ module _ {T G : Type 0} (L : GuestLaws G) (options : ℕ) where
   unfolding requests leaves
   parts_none a place at o from small few = record {
     handles = [];
-    storing = attempt_none false (moment_of L.seen a) _ (members_at false (host_texts (encoding_by a options)) no_members o at (Named no_members [] [])) no_trees small (refl, (refl, refl)) (λ ts h. refl) refl (λ pointer rest. refl);
+    storing = attempt_none false (stage_of L.seen L.moves a) _ (members_at false (host_texts (encoding_by a options)) no_members o at (Named no_members [] [])) no_trees small (refl, (refl, refl)) (λ ts h. refl) refl (λ pointer rest. refl);
     handed = passes_none a.component.types a.ledger a.ledger [] refl refl;
     counted = (refl, omega (arith, few), none_small (encoding_by a options));
-    moved = moves_none L (guest_of a) done;
     same = refl;
     quiet = λ none. (refl, tt);
   }
 
   -- the trees of members are a first one and others
   first_and : {hs : List ℕ} (wide : Bool) (a b : Parts T G) (enc : Encoding) (name named : Name) (s : Shape) (ms : Members) (o at : ℕ) (names : List Name) (v : Val) (vs : List Val) (e : Ending) → named ≡ name
-      → StoresMembers wide (moment_of L.seen a) (moment_of L.seen b) (host_texts enc) (member name s ms) o at (FirstAnd (HasTree s v) (Named ms names vs)) hs e
-      → StoresMembers wide (moment_of L.seen a) (moment_of L.seen b) (host_texts enc) (member name s ms) o at (Named (member name s ms) (named ∷ names) (v ∷ vs)) hs e
-  first_and wide a b enc name named s ms o at names v vs e en h = attempt_as wide (moment_of L.seen a) (moment_of L.seen b) _ _ (members_at wide (host_texts enc) (member name s ms) o at (FirstAnd (HasTree s v) (Named ms names vs)))
+      → StoresMembers wide (stage_of L.seen L.moves a) (stage_of L.seen L.moves b) (host_texts enc) (member name s ms) o at (FirstAnd (HasTree s v) (Named ms names vs)) hs e
+      → StoresMembers wide (stage_of L.seen L.moves a) (stage_of L.seen L.moves b) (host_texts enc) (member name s ms) o at (Named (member name s ms) (named ∷ names) (v ∷ vs)) hs e
+  first_and wide a b enc name named s ms o at names v vs e en h = attempt_as wide (stage_of L.seen L.moves a) (stage_of L.seen L.moves b) _ _ (members_at wide (host_texts enc) (member name s ms) o at (FirstAnd (HasTree s v) (Named ms names vs)))
       (members_at wide (host_texts enc) (member name s ms) o at (Named (member name s ms) (named ∷ names) (v ∷ vs))) e (λ i q. q)
       (record { turn = λ ts. ts; back = λ ts. ts; is = named_join name named s ms names v vs en; is_back = named_split name named s ms names v vs; asks = λ ts h. refl; rep = λ fresh ts is h. h; home = λ pointer ts xs ys is h. h; handles = λ ts h. refl }) h
 
@@ -248,17 +243,16 @@ module _ {T G : Type 0} (L : GuestLaws G) (options : ℕ) where
       → PartsStoreTo L.seen L.moves options a c place (member name s ms) o at (named ∷ names) (v ∷ vs) from r
   parts_cons a b c place name named s ms o at names v vs from mid r en h k =
       let enc : Encoding = encoding_by a options in
-      let rest : StoresMembers false (moment_of L.seen b) (moment_of L.seen c) (host_texts enc) ms (ends false o s) at (Named ms names vs) k.handles (ending_of r) =
-      subst (λ (x : Encoding). StoresMembers false (moment_of L.seen b) (moment_of L.seen c) (host_texts x) ms (ends false o s) at (Named ms names vs) k.handles (ending_of r)) (handles_encoding a b options h.same) k.storing in
+      let rest : StoresMembers false (stage_of L.seen L.moves b) (stage_of L.seen L.moves c) (host_texts enc) ms (ends false o s) at (Named ms names vs) k.handles (ending_of r) =
+      subst (λ (x : Encoding). StoresMembers false (stage_of L.seen L.moves b) (stage_of L.seen L.moves c) (host_texts x) ms (ends false o s) at (Named ms names vs) k.handles (ending_of r)) (handles_encoding a b options h.same) k.storing in
       record {
         handles = h.handles ++ k.handles;
         storing = first_and false a c enc name named s ms o at names v vs (ending_of r) en
-            (members_cons false (host_texts enc) name s ms o at (HasTree s v) (Named ms names vs) (moment_of L.seen a) (moment_of L.seen b) (moment_of L.seen c) (ending_of r) h.storing rest);
+            (members_cons false (host_texts enc) name s ms o at (HasTree s v) (Named ms names vs) (stage_of L.seen L.moves a) (stage_of L.seen L.moves b) (stage_of L.seen L.moves c) (ending_of r) h.storing rest);
         handed = passes_then a.component.types a.ledger b.ledger c.ledger (passes v s) (all_passes ms vs) h.handles k.handles r h.handed
             (subst (λ (i : Instance). LowersHandles i b.ledger c.ledger (all_passes ms vs) k.handles r) (handles_instance a b h.same) k.handed);
         counted = fields_count enc place name named s ms names v vs from mid r en h.counted.0 h.counted.1
             (subst (λ (x : Encoding). FieldsCount x place ms names vs mid r) (handles_encoding a b options h.same) k.counted);
-        moved = moves_then L (guest_of a) (guest_of b) (guest_of c) (ending_of r) _ _ h.storing.lowering.goes.events rest.lowering.goes.events h.moved k.moved;
         same = handles_then a b c h.same k.same;
         quiet = λ none. let one = h.quiet (no_first (has_block s) (have_block ms) none) in let others = k.quiet (no_later (has_block s) (have_block ms) none) in (others.0 ∙ one.0, others.1);
       }
@@ -269,10 +263,9 @@ module _ {T G : Type 0} (L : GuestLaws G) (options : ℕ) where
   parts_stop a b place name named s ms o at names v vs from e en h = record {
     handles = h.handles;
     storing = first_and false a b (encoding_by a options) name named s ms o at names v vs (fault_ending e) en
-        (members_stop false (host_texts (encoding_by a options)) name s ms o at (HasTree s v) (Named ms names vs) (moment_of L.seen a) (moment_of L.seen b) (fault_ending e) (not_done e) h.storing);
+        (members_stop false (host_texts (encoding_by a options)) name s ms o at (HasTree s v) (Named ms names vs) (stage_of L.seen L.moves a) (stage_of L.seen L.moves b) (fault_ending e) (not_done e) h.storing);
     handed = passes_stop a.component.types a.ledger b.ledger (passes v s) (all_passes ms vs) e h.handed;
     counted = inr (blames_first (encoding_by a options) (λ how k. FailsAt how s v k) (λ how k. MemberFails how (member name s ms) (v ∷ vs) k) from e (λ how j f. inl f) h.counted);
-    moved = h.moved;
     same = h.same;
     quiet = λ none. h.quiet (no_first (has_block s) (have_block ms) none);
   }
@@ -282,10 +275,9 @@ module _ {T G : Type 0} (L : GuestLaws G) (options : ℕ) where
       → PartsStoreTo L.seen L.moves options a a place (member name s ms) o at (named ∷ names) (v ∷ vs) from (Err (fault.FieldName place))
   parts_named a place name named s ms o at names v vs from small other = record {
     handles = [];
-    storing = attempt_refused false (moment_of L.seen a) _ _ small;
+    storing = attempt_refused false (stage_of L.seen L.moves a) _ _ small;
     handed = passes_stopped a.component.types a.ledger a.ledger (all_passes (member name s ms) (v ∷ vs)) (fault.FieldName place) refl refl;
     counted = inl (refl, λ same. other (heads named name names (member_names ms) same));
-    moved = moves_none L (guest_of a) refused;
     same = refl;
     quiet = λ none. (refl, refl);
   }
@@ -297,12 +289,11 @@ module _ {T G : Type 0} (L : GuestLaws G) (options : ℕ) where
       → StoresTo L.seen L.moves options a c s at v place r
   members_store a c place (product k ns) ms at names vs v r room few e p count given h = record {
     handles = h.handles;
-    storing = product_stored false (moment_of L.seen a) (moment_of L.seen c) (host_texts (encoding_by a options)) k ns at (Named ns names vs) (HasTree (product k ns) v) (ending_of r) (omega (arith, room, h.storing.lowering.goes.no_shorter))
+    storing = product_stored false (stage_of L.seen L.moves a) (stage_of L.seen L.moves c) (host_texts (encoding_by a options)) k ns at (Named ns names vs) (HasTree (product k ns) v) (ending_of r) (omega (arith, room, h.storing.lowering.goes.no_shorter))
         (product_is k ns names vs v p) (product_back k ns names vs v p)
-        (subst (λ (xs : Members). StoresMembers false (moment_of L.seen a) (moment_of L.seen c) (host_texts (encoding_by a options)) xs 0 at (Named xs names vs) h.handles (ending_of r)) e h.storing);
+        (subst (λ (xs : Members). StoresMembers false (stage_of L.seen L.moves a) (stage_of L.seen L.moves c) (host_texts (encoding_by a options)) xs 0 at (Named xs names vs) h.handles (ending_of r)) e h.storing);
     handed = passes_as a.component.types a.ledger c.ledger (all_passes ms vs) (passes v (product k ns)) h.handles r given h.handed;
     counted = product_counts (encoding_by a options) place k ns names vs v r few p (count ∙ ap member_count e) (subst (λ (xs : Members). FieldsCount (encoding_by a options) place xs names vs (cap (place + 1)) r) e h.counted);
-    moved = h.moved;
     same = h.same;
     quiet = λ none. h.quiet (ap have_block e ∙ none);
   }
@@ -311,13 +302,12 @@ module _ {T G : Type 0} (L : GuestLaws G) (options : ℕ) where
       let named : names ≡ member_names (copies n s) = en ∙ copies_names n s vs enough in
       record {
         handles = h.handles;
-        storing = fixed_stored false (moment_of L.seen a) (moment_of L.seen c) (host_texts (encoding_by a options)) n s at (Named (copies n s) names vs) (HasTree (fixed n s) v) (omega (arith, room, h.storing.lowering.goes.no_shorter))
+        storing = fixed_stored false (stage_of L.seen L.moves a) (stage_of L.seen L.moves c) (host_texts (encoding_by a options)) n s at (Named (copies n s) names vs) (HasTree (fixed n s) v) (omega (arith, room, h.storing.lowering.goes.no_shorter))
             (fixed_is n s names vs v enough (xs, ev, same)) (fixed_back n s names vs v en enough (xs, ev, same)) (ending_of r)
-            (subst (λ (ys : Members). StoresMembers false (moment_of L.seen a) (moment_of L.seen c) (host_texts (encoding_by a options)) ys 0 at (Named ys names vs) h.handles (ending_of r)) e h.storing);
+            (subst (λ (ys : Members). StoresMembers false (stage_of L.seen L.moves a) (stage_of L.seen L.moves c) (host_texts (encoding_by a options)) ys 0 at (Named ys names vs) h.handles (ending_of r)) e h.storing);
         handed = passes_as a.component.types a.ledger c.ledger (all_passes ms vs) (passes v (fixed n s)) h.handles r given h.handed;
         counted = fixed_counted (encoding_by a options) n s names vs v place r enough (xs, ev, same)
             (count_members (encoding_by a options) place (copies n s) names vs (cap (place + 1)) r named (subst (λ (ys : Members). FieldsCount (encoding_by a options) place ys names vs (cap (place + 1)) r) e h.counted));
-        moved = h.moved;
         same = h.same;
         quiet = λ none. h.quiet (ap have_block e ∙ copies_quiet n s none);
       }

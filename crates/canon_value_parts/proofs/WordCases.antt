@@ -12,14 +12,13 @@ use Rattle.canon_lowering.proofs.WordsKept.{members_homes_moved}
 use Rattle.canon_lowering.specs.Attempt.{LowersMembers, LowersValue, members_words, value_words}
 use Rattle.canon_lowering.specs.Copies.{case_members}
 use Rattle.canon_lowering.specs.Lowering.{Ending, done}
-use Rattle.canon_memory.specs.Guest.{Moment}
 use Rattle.canon_model.specs.Flat.{AreZero, SameWords}
 use Rattle.canon_model.specs.Layout.{cases_flat, flat, members_flat}
 use Rattle.canon_model.specs.Shape.{Cases, Members, Name, Shape, VariantKind, bare, case_count, no_cases, payload, variant}
 use Rattle.canon_model.specs.Text.{Encoding}
 use Rattle.canon_model.specs.Tree.{Trees}
 use Rattle.canon_types.specs.Table.{TypeTable}
-use Rattle.canon_context.specs.Core.{Parts, encoding_by, moment_of}
+use Rattle.canon_context.specs.Core.{Parts, encoding_by, stage_of}
 use Rattle.canon_value_parts.specs.Fails.{FailsAt}
 use Rattle.canon_context.specs.Lowers.{fault_ending}
 use Rattle.canon_value_parts.proofs.Passing.{passes_as}
@@ -40,9 +39,10 @@ use Rattle.canon_context.proofs.Cores.{not_done}
 use Rattle.canon_value_parts.proofs.StoreSteps.{Named, count_members}
 use Rattle.canon_value_parts.proofs.WalkCases.{case_counted, case_told, case_untold}
 use Rattle.canon_value_parts.proofs.WordSteps.{have_fit}
+use Rattle.canon_lowering.specs.Stages.{Stage}
 
 -- the words of a payload stay where those behind it are written
-members_moved : {hs : List ℕ} (wide : Bool) (a b : Moment) (enc : Encoding) (ms : Members) (ws vs : List ℕ) (i j : ℕ) (Have : Trees → Type 0) (e : Ending) → ((ts : Trees) → Have ts → MembersFit ms ts) → SameWords ws i vs j (members_flat ms)
+members_moved : {K : Type 0} {hs : List ℕ} (wide : Bool) (a b : Stage K) (enc : Encoding) (ms : Members) (ws vs : List ℕ) (i j : ℕ) (Have : Trees → Type 0) (e : Ending) → ((ts : Trees) → Have ts → MembersFit ms ts) → SameWords ws i vs j (members_flat ms)
     → LowersMembers wide a b (host_texts enc) ms ws i Have hs e → LowersMembers wide a b (host_texts enc) ms vs j Have hs e
 members_moved wide a b enc ms ws vs i j Have e fits same h = attempt_as wide a b [] [] _ (members_words wide (host_texts enc) ms vs j Have) e (λ k q. q) (record {
   turn = λ ts. ts;
@@ -90,11 +90,11 @@ module _ {T G : Type 0} (L : GuestLaws G) (options : ℕ) where
       let same : SameWords dst2 (from.word + 1) dst3 (from.word + 1) (members_flat ms) =
       λ p q l u is. let at : p ≡ q = omega (arith, is) in ap (slice_index dst2) at ∙ sym (clears.written.stays.before q (omega (arith, u, at, h.passed))) in
       let zeros : AreZero dst3 (from.word + 1 + members_flat ms) (from.word + 1 + cases_flat cs) = λ j l u. clears.zeros j (omega (arith, l, h.passed)) (omega (arith, u, words)) in
-      let moved : LowersMembers false (moment_of L.seen a) (moment_of L.seen c) (host_texts enc) ms dst3 (from.word + 1) (Named ms names vs) h.handles done =
-      members_moved false (moment_of L.seen a) (moment_of L.seen c) enc ms dst2 dst3 (from.word + 1) (from.word + 1) (Named ms names vs) done (λ ts (_, have). have_fit ms vs ts have) same h.lowered in
+      let moved : LowersMembers false (stage_of L.seen L.moves a) (stage_of L.seen L.moves c) (host_texts enc) ms dst3 (from.word + 1) (Named ms names vs) h.handles done =
+      members_moved false (stage_of L.seen L.moves a) (stage_of L.seen L.moves c) enc ms dst2 dst3 (from.word + 1) (from.word + 1) (Named ms names vs) done (λ ts (_, have). have_fit ms vs ts have) same h.lowered in
       record {
         handles = h.handles;
-        lowered = variant_words false (moment_of L.seen a) (moment_of L.seen c) (host_texts enc) k cs dst3 from.word d (Named ms names vs) (HasTree (variant k cs) v) done lt tag3 few zeros
+        lowered = variant_words false (stage_of L.seen L.moves a) (stage_of L.seen L.moves c) (host_texts enc) k cs dst3 from.word d (Named ms names vs) (HasTree (variant k cs) v) done lt tag3 few zeros
             (case_told false enc k cs d names vs v lt of named) (case_untold false enc k cs d names vs v lt of named) moved;
         handed = passes_as a.component.types a.ledger c.ledger (all_passes ms vs) (passes v (variant k cs)) h.handles (Ok past) given h.handed;
         stays = record {
@@ -103,7 +103,6 @@ module _ {T G : Type 0} (L : GuestLaws G) (options : ℕ) where
         };
         passed = refl;
         counted = case_words_counted enc from.place k cs d names vs v (Ok past.place) of named h.counted;
-        moved = h.moved;
         same = h.same;
         quiet = λ none. h.quiet (case_quiet cs d none);
       }
@@ -117,14 +116,14 @@ module _ {T G : Type 0} (L : GuestLaws G) (options : ℕ) where
       let stopped : Result Spot Fault = Err e in
       let enc : Encoding = encoding_by a options in
       let zeros : AreZero (d ∷ []) (1 + members_flat ms) (1 + cases_flat cs) = λ j l u. omega (arith, get_or_past (d ∷ []) j 0 (omega (arith, l))) in
-      let inner : LowersMembers false (moment_of L.seen a) (moment_of L.seen c) (host_texts enc) ms (d ∷ []) 1 (Named ms names vs) h.handles (fault_ending e) =
-      attempt_other false (moment_of L.seen a) (moment_of L.seen c) [] _ (members_words false (host_texts enc) ms (d ∷ []) 1 (Named ms names vs)) (fault_ending e) (not_done e) (λ ts have. (have, refl)) h.lowered in
-      let whole : LowersValue false (moment_of L.seen a) (moment_of L.seen c) (host_texts enc) (variant k cs) (d ∷ []) 0 (HasTree (variant k cs) v) h.handles (fault_ending e) =
-      variant_words false (moment_of L.seen a) (moment_of L.seen c) (host_texts enc) k cs (d ∷ []) 0 d (Named ms names vs) (HasTree (variant k cs) v) (fault_ending e) lt refl few zeros
+      let inner : LowersMembers false (stage_of L.seen L.moves a) (stage_of L.seen L.moves c) (host_texts enc) ms (d ∷ []) 1 (Named ms names vs) h.handles (fault_ending e) =
+      attempt_other false (stage_of L.seen L.moves a) (stage_of L.seen L.moves c) [] _ (members_words false (host_texts enc) ms (d ∷ []) 1 (Named ms names vs)) (fault_ending e) (not_done e) (λ ts have. (have, refl)) h.lowered in
+      let whole : LowersValue false (stage_of L.seen L.moves a) (stage_of L.seen L.moves c) (host_texts enc) (variant k cs) (d ∷ []) 0 (HasTree (variant k cs) v) h.handles (fault_ending e) =
+      variant_words false (stage_of L.seen L.moves a) (stage_of L.seen L.moves c) (host_texts enc) k cs (d ∷ []) 0 d (Named ms names vs) (HasTree (variant k cs) v) (fault_ending e) lt refl few zeros
       (case_told false enc k cs d names vs v lt of named) (case_untold false enc k cs d names vs v lt of named) inner in
       record {
         handles = h.handles;
-        lowered = attempt_other false (moment_of L.seen a) (moment_of L.seen c) [] _ (value_words false (host_texts enc) (variant k cs) dst2 from.word (HasTree (variant k cs) v)) (fault_ending e) (not_done e) (λ t has. (has, refl)) whole;
+        lowered = attempt_other false (stage_of L.seen L.moves a) (stage_of L.seen L.moves c) [] _ (value_words false (host_texts enc) (variant k cs) dst2 from.word (HasTree (variant k cs) v)) (fault_ending e) (not_done e) (λ t has. (has, refl)) whole;
         handed = passes_as a.component.types a.ledger c.ledger (all_passes ms vs) (passes v (variant k cs)) h.handles stopped given h.handed;
         stays = record {
           same_length = h.stays.same_length ∙ (ap length e1 ∙ length-set dst from.word d);
@@ -132,7 +131,6 @@ module _ {T G : Type 0} (L : GuestLaws G) (options : ℕ) where
         };
         passed = tt;
         counted = case_words_counted enc from.place k cs d names vs v (Err e) of named h.counted;
-        moved = h.moved;
         same = h.same;
         quiet = λ none. h.quiet (case_quiet cs d none);
       }

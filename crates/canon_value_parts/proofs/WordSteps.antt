@@ -30,7 +30,7 @@ use Rattle.canon_model.specs.Layout.{flat, members_flat}
 use Rattle.canon_model.specs.Text.{Encoding}
 use Rattle.canon_types.specs.Table.{shape_of}
 use Rattle.canon_types.specs.declared.types.InterfaceType.{InterfaceType}
-use Rattle.canon_context.specs.Core.{Parts, encoding_by, guest_of, moment_of, component_types}
+use Rattle.canon_context.specs.Core.{Parts, component_types, encoding_by, stage_of}
 use Rattle.canon_value_parts.specs.Fails.{Blames, FailsAt, MemberFails}
 use Rattle.canon_context.specs.Lowers.{ending_of, fault_ending}
 use Rattle.canon_context.specs.Quiet.{has_block, have_block}
@@ -40,7 +40,7 @@ use Rattle.canon_value_parts.specs.declared.blocks.Placed.{Placed}
 use Rattle.canon_context.specs.declared.fault.Fault.{Fault}
 use Rattle.canon_context.specs.declared.fault.Fault.TheVariants as fault
 use Rattle.canon_value_parts.specs.declared.spot.Spot.{Spot}
-use Rattle.canon_context.proofs.Moves.{moves_none, moves_then, GuestLaws}
+use Rattle.canon_context.proofs.Moves.{GuestLaws}
 use Rattle.canon_value_parts.proofs.Scalars.{scalar_places}
 use Rattle.canon_value_parts.proofs.Sizes.{none_small, scalar_small}
 use Rattle.canon_plan.proofs.ScalarTypes.{scalar_shape}
@@ -107,12 +107,11 @@ module _ {T G : Type 0} (L : GuestLaws G) (options : ℕ) where
       → LowersTo L.seen L.moves options a a dst dst from (Err e) s v
   value_refused a dst from s v e small is b = record {
     handles = [];
-    lowered = subst (λ (end : Ending). LowersValue false (moment_of L.seen a) (moment_of L.seen a) (host_texts (encoding_by a options)) s dst from.word (HasTree s v) [] end) (sym (own_ends e is)) (attempt_refused false (moment_of L.seen a) [] _ small);
+    lowered = subst (λ (end : Ending). LowersValue false (stage_of L.seen L.moves a) (stage_of L.seen L.moves a) (host_texts (encoding_by a options)) s dst from.word (HasTree s v) [] end) (sym (own_ends e is)) (attempt_refused false (stage_of L.seen L.moves a) [] _ small);
     handed = passes_stopped a.component.types a.ledger a.ledger (passes v s) e refl (own_elsewhere e is);
     stays = stays_none from.word dst;
     passed = tt;
     counted = b;
-    moved = moves_none L (guest_of a) (fault_ending e);
     same = refl;
     quiet = λ none. (refl, own_ends e is);
   }
@@ -126,13 +125,12 @@ module _ {T G : Type 0} (L : GuestLaws G) (options : ℕ) where
       let here : slice_index (set dst from.word w) from.word ≡ w = get_or-set_same dst from.word w 0 (omega (arith, room, ap flat shape)) in
       subst (λ (s : Shape). LowersTo L.seen L.moves options a a dst (set dst from.word w) from (Ok to) s v) (sym shape) (record {
         handles = [];
-        lowered = scalar_words false (moment_of L.seen a) (host_texts (encoding_by a options)) (set dst from.word w) from.word (HasTree (scalar k) v) small k t
+        lowered = scalar_words false (stage_of L.seen L.moves a) (host_texts (encoding_by a options)) (set dst from.word w) from.word (HasTree (scalar k) v) small k t
             (subst (λ (x : ℕ). ScalarIs k (x % 2 ^ flat_bits k) t) (sym here) is) (subst (λ (x : ℕ). IsLeastWord k x) (sym here) least) has;
         handed = passes_none a.component.types a.ledger a.ledger (passes v (scalar k)) refl (ap (passes v) (sym shape) ∙ none);
         stays = record { same_length = length-set dst from.word w; before = λ p l. get_or-set_other dst from.word p w 0 (omega (arith, l)) };
         passed = ew;
         counted = (omega (arith, ep, scalar_places k v t has), scalar_small (encoding_by a options) k v);
-        moved = moves_none L (guest_of a) done;
         same = refl;
         quiet = λ none. (refl, tt);
       })
@@ -143,13 +141,12 @@ module _ {T G : Type 0} (L : GuestLaws G) (options : ℕ) where
       → PlacesTo L.seen L.moves options a c s v from.place (Ok b) → LowersTo L.seen L.moves options a c dst dst2 from (Ok (record { word = from.word + 2; place = b.next })) s v
   placed_lowers a c dst dst2 from s v b block two stays there h = record {
     handles = h.handles;
-    lowered = words_moved false (moment_of L.seen a) (moment_of L.seen c) (host_texts (encoding_by a options)) s (b.pointer ∷ b.length ∷ []) dst2 0 from.word (HasTree s v) done (has_fits s v)
+    lowered = words_moved false (stage_of L.seen L.moves a) (stage_of L.seen L.moves c) (host_texts (encoding_by a options)) s (b.pointer ∷ b.length ∷ []) dst2 0 from.word (HasTree s v) done (has_fits s v)
         (subst (λ (n : ℕ). SameWords (b.pointer ∷ b.length ∷ []) 0 dst2 from.word n) (sym two) there) h.lowered;
     handed = h.handed;
     stays = stays;
     passed = omega (arith, two);
     counted = h.counted;
-    moved = h.moved;
     same = h.same;
     quiet = λ none. absurd (blocks_none (has_block s) block none);
   }
@@ -158,12 +155,11 @@ module _ {T G : Type 0} (L : GuestLaws G) (options : ℕ) where
       → LowersTo L.seen L.moves options a c dst dst from (Err e) s v
   placed_refused a c dst from s v e block h = record {
     handles = h.handles;
-    lowered = attempt_other false (moment_of L.seen a) (moment_of L.seen c) [] _ (value_words false (host_texts (encoding_by a options)) s dst from.word (HasTree s v)) (fault_ending e) (not_done e) (λ t has. (has, refl)) h.lowered;
+    lowered = attempt_other false (stage_of L.seen L.moves a) (stage_of L.seen L.moves c) [] _ (value_words false (host_texts (encoding_by a options)) s dst from.word (HasTree s v)) (fault_ending e) (not_done e) (λ t has. (has, refl)) h.lowered;
     handed = h.handed;
     stays = stays_none from.word dst;
     passed = tt;
     counted = h.counted;
-    moved = h.moved;
     same = h.same;
     quiet = λ none. absurd (blocks_none (has_block s) block none);
   }
@@ -174,21 +170,20 @@ module _ {T G : Type 0} (L : GuestLaws G) (options : ℕ) where
   unfolding flat requests leaves
   parts_none a dst from place small few = record {
     handles = [];
-    lowered = attempt_none false (moment_of L.seen a) [] (members_words false (host_texts (encoding_by a options)) no_members dst from.word (Named no_members [] [])) no_trees small (refl, (refl, refl)) (λ ts h. refl) refl (λ pointer rest. refl);
+    lowered = attempt_none false (stage_of L.seen L.moves a) [] (members_words false (host_texts (encoding_by a options)) no_members dst from.word (Named no_members [] [])) no_trees small (refl, (refl, refl)) (λ ts h. refl) refl (λ pointer rest. refl);
     handed = passes_none a.component.types a.ledger a.ledger [] refl refl;
     stays = stays_none from.word dst;
     passed = omega arith;
     counted = (refl, omega (arith, few), none_small (encoding_by a options));
-    moved = moves_none L (guest_of a) done;
     same = refl;
     quiet = λ none. (refl, tt);
   }
 
   -- the trees of members are a first one and others
   first_and : {hs : List ℕ} (a b : Parts T G) (enc : Encoding) (name named : Name) (s : Shape) (ms : Members) (ws : List ℕ) (i : ℕ) (names : List Name) (v : Val) (vs : List Val) (e : Ending) → named ≡ name
-      → LowersMembers false (moment_of L.seen a) (moment_of L.seen b) (host_texts enc) (member name s ms) ws i (FirstAnd (HasTree s v) (Named ms names vs)) hs e
-      → LowersMembers false (moment_of L.seen a) (moment_of L.seen b) (host_texts enc) (member name s ms) ws i (Named (member name s ms) (named ∷ names) (v ∷ vs)) hs e
-  first_and a b enc name named s ms ws i names v vs e en h = attempt_as false (moment_of L.seen a) (moment_of L.seen b) [] [] (members_words false (host_texts enc) (member name s ms) ws i (FirstAnd (HasTree s v) (Named ms names vs)))
+      → LowersMembers false (stage_of L.seen L.moves a) (stage_of L.seen L.moves b) (host_texts enc) (member name s ms) ws i (FirstAnd (HasTree s v) (Named ms names vs)) hs e
+      → LowersMembers false (stage_of L.seen L.moves a) (stage_of L.seen L.moves b) (host_texts enc) (member name s ms) ws i (Named (member name s ms) (named ∷ names) (v ∷ vs)) hs e
+  first_and a b enc name named s ms ws i names v vs e en h = attempt_as false (stage_of L.seen L.moves a) (stage_of L.seen L.moves b) [] [] (members_words false (host_texts enc) (member name s ms) ws i (FirstAnd (HasTree s v) (Named ms names vs)))
       (members_words false (host_texts enc) (member name s ms) ws i (Named (member name s ms) (named ∷ names) (v ∷ vs))) e (λ j q. q)
       (record { turn = λ ts. ts; back = λ ts. ts; is = named_join name named s ms names v vs en; is_back = named_split name named s ms names v vs; asks = λ ts h. refl; rep = λ fresh ts is h. h; home = λ pointer ts xs ys is h. h; handles = λ ts h. refl }) h
 
@@ -198,13 +193,13 @@ module _ {T G : Type 0} (L : GuestLaws G) (options : ℕ) where
   unfolding flat
   parts_cons a b c dst dst2 dst3 place name named s ms names v vs from mid r en h k =
       let enc : Encoding = encoding_by a options in
-      let rest : LowersMembers false (moment_of L.seen b) (moment_of L.seen c) (host_texts enc) ms dst3 (from.word + flat s) (Named ms names vs) k.handles (ending_of r) =
-      subst (λ (i : ℕ). LowersMembers false (moment_of L.seen b) (moment_of L.seen c) (host_texts enc) ms dst3 i (Named ms names vs) k.handles (ending_of r)) h.passed
-      (subst (λ (x : Encoding). LowersMembers false (moment_of L.seen b) (moment_of L.seen c) (host_texts x) ms dst3 mid.word (Named ms names vs) k.handles (ending_of r)) (handles_encoding a b options h.same) k.lowered) in
+      let rest : LowersMembers false (stage_of L.seen L.moves b) (stage_of L.seen L.moves c) (host_texts enc) ms dst3 (from.word + flat s) (Named ms names vs) k.handles (ending_of r) =
+      subst (λ (i : ℕ). LowersMembers false (stage_of L.seen L.moves b) (stage_of L.seen L.moves c) (host_texts enc) ms dst3 i (Named ms names vs) k.handles (ending_of r)) h.passed
+      (subst (λ (x : Encoding). LowersMembers false (stage_of L.seen L.moves b) (stage_of L.seen L.moves c) (host_texts x) ms dst3 mid.word (Named ms names vs) k.handles (ending_of r)) (handles_encoding a b options h.same) k.lowered) in
       record {
         handles = h.handles ++ k.handles;
         lowered = first_and a c enc name named s ms dst3 from.word names v vs (ending_of r) en
-            (members_words_cons false (host_texts enc) name s ms from.word (HasTree s v) (Named ms names vs) dst3 (moment_of L.seen a) (moment_of L.seen b) (moment_of L.seen c) dst2 (ending_of r) (has_fits s v)
+            (members_words_cons false (host_texts enc) name s ms from.word (HasTree s v) (Named ms names vs) dst3 (stage_of L.seen L.moves a) (stage_of L.seen L.moves b) (stage_of L.seen L.moves c) dst2 (ending_of r) (has_fits s v)
             (first_stay from.word mid.word (flat s) dst2 dst3 h.passed k.stays) h.lowered rest);
         handed = passes_then a.component.types a.ledger b.ledger c.ledger (passes v s) (all_passes ms vs) h.handles k.handles r h.handed
             (subst (λ (i : Instance). LowersHandles i b.ledger c.ledger (all_passes ms vs) k.handles r) (handles_instance a b h.same) k.handed);
@@ -212,7 +207,6 @@ module _ {T G : Type 0} (L : GuestLaws G) (options : ℕ) where
         passed = passed_both from mid (flat s) (members_flat ms) r h.passed k.passed;
         counted = fields_count enc place name named s ms names v vs from.place mid.place (place_after r) en h.counted.0 h.counted.1
             (subst (λ (x : Encoding). FieldsCount x place ms names vs mid.place (place_after r)) (handles_encoding a b options h.same) k.counted);
-        moved = moves_then L (guest_of a) (guest_of b) (guest_of c) (ending_of r) _ _ h.lowered.lowering.goes.events rest.lowering.goes.events h.moved k.moved;
         same = handles_then a b c h.same k.same;
         quiet = λ none. let one = h.quiet (no_first (has_block s) (have_block ms) none) in let others = k.quiet (no_later (has_block s) (have_block ms) none) in (others.0 ∙ ap (λ (x : Parts T G). record x { ledger = c.ledger }) one.0, others.1);
       }
@@ -223,12 +217,11 @@ module _ {T G : Type 0} (L : GuestLaws G) (options : ℕ) where
   parts_stop a b dst dst2 place name named s ms names v vs from e en h = record {
     handles = h.handles;
     lowered = first_and a b (encoding_by a options) name named s ms dst2 from.word names v vs (fault_ending e) en
-        (members_words_stop false (host_texts (encoding_by a options)) name s ms from.word (HasTree s v) (Named ms names vs) dst2 (moment_of L.seen a) (moment_of L.seen b) dst2 (fault_ending e) (not_done e) h.lowered);
+        (members_words_stop false (host_texts (encoding_by a options)) name s ms from.word (HasTree s v) (Named ms names vs) dst2 (stage_of L.seen L.moves a) (stage_of L.seen L.moves b) dst2 (fault_ending e) (not_done e) h.lowered);
     handed = passes_stop a.component.types a.ledger b.ledger (passes v s) (all_passes ms vs) e h.handed;
     stays = h.stays;
     passed = tt;
     counted = inr (blames_first (encoding_by a options) (λ how k. FailsAt how s v k) (λ how k. MemberFails how (member name s ms) (v ∷ vs) k) from.place e (λ how j f. inl f) h.counted);
-    moved = h.moved;
     same = h.same;
     quiet = λ none. h.quiet (no_first (has_block s) (have_block ms) none);
   }
@@ -238,12 +231,11 @@ module _ {T G : Type 0} (L : GuestLaws G) (options : ℕ) where
       → PartsLowerTo L.seen L.moves options a a dst dst from (Err (fault.FieldName place)) place (member name s ms) (named ∷ names) (v ∷ vs)
   parts_named a dst place name named s ms names v vs from small other = record {
     handles = [];
-    lowered = attempt_refused false (moment_of L.seen a) [] _ small;
+    lowered = attempt_refused false (stage_of L.seen L.moves a) [] _ small;
     handed = passes_stopped a.component.types a.ledger a.ledger (all_passes (member name s ms) (v ∷ vs)) (fault.FieldName place) refl refl;
     stays = stays_none from.word dst;
     passed = tt;
     counted = inl (refl, λ same. other (heads named name names (member_names ms) same));
-    moved = moves_none L (guest_of a) refused;
     same = refl;
     quiet = λ none. (refl, refl);
   }
@@ -257,14 +249,13 @@ module _ {T G : Type 0} (L : GuestLaws G) (options : ℕ) where
   members_lower a c dst dst2 from (product k ns) ms names vs v r few e p count given h = record {
     handles = h.handles;
     lowered =
-        product_words false (moment_of L.seen a) (moment_of L.seen c) (host_texts (encoding_by a options)) k ns dst2 from.word (Named ns names vs) (HasTree (product k ns) v) (ending_of r) (product_is k ns names vs v p) (product_back k ns names vs v p)
-        (subst (λ (xs : Members). LowersMembers false (moment_of L.seen a) (moment_of L.seen c) (host_texts (encoding_by a options)) xs dst2 from.word (Named xs names vs) h.handles (ending_of r)) e h.lowered);
+        product_words false (stage_of L.seen L.moves a) (stage_of L.seen L.moves c) (host_texts (encoding_by a options)) k ns dst2 from.word (Named ns names vs) (HasTree (product k ns) v) (ending_of r) (product_is k ns names vs v p) (product_back k ns names vs v p)
+        (subst (λ (xs : Members). LowersMembers false (stage_of L.seen L.moves a) (stage_of L.seen L.moves c) (host_texts (encoding_by a options)) xs dst2 from.word (Named xs names vs) h.handles (ending_of r)) e h.lowered);
     handed = passes_as a.component.types a.ledger c.ledger (all_passes ms vs) (passes v (product k ns)) h.handles r given h.handed;
     stays = h.stays;
     passed = subst (λ (n : ℕ). WordsPassed from n r) (ap members_flat e) h.passed;
     counted = product_counts (encoding_by a options) from.place k ns names vs v (place_after r) few p (count ∙ ap member_count e)
         (subst (λ (xs : Members). FieldsCount (encoding_by a options) from.place xs names vs (cap (from.place + 1)) (place_after r)) e h.counted);
-    moved = h.moved;
     same = h.same;
     quiet = λ none. h.quiet (ap have_block e ∙ none);
   }
@@ -273,16 +264,15 @@ module _ {T G : Type 0} (L : GuestLaws G) (options : ℕ) where
       let named : names ≡ member_names (copies n s) = en ∙ copies_names n s vs enough in
       record {
         handles = h.handles;
-        lowered = fixed_words false (moment_of L.seen a) (moment_of L.seen c) (host_texts (encoding_by a options)) n s dst2 from.word (Named (copies n s) names vs) (HasTree (fixed n s) v) (ending_of r)
+        lowered = fixed_words false (stage_of L.seen L.moves a) (stage_of L.seen L.moves c) (host_texts (encoding_by a options)) n s dst2 from.word (Named (copies n s) names vs) (HasTree (fixed n s) v) (ending_of r)
             (fixed_is n s names vs v enough p) (fixed_back n s names vs v en enough p)
-            (subst (λ (ys : Members). LowersMembers false (moment_of L.seen a) (moment_of L.seen c) (host_texts (encoding_by a options)) ys dst2 from.word (Named ys names vs) h.handles (ending_of r)) e h.lowered);
+            (subst (λ (ys : Members). LowersMembers false (stage_of L.seen L.moves a) (stage_of L.seen L.moves c) (host_texts (encoding_by a options)) ys dst2 from.word (Named ys names vs) h.handles (ending_of r)) e h.lowered);
         handed = passes_as a.component.types a.ledger c.ledger (all_passes ms vs) (passes v (fixed n s)) h.handles r given h.handed;
         stays = h.stays;
         passed = subst (λ (k : ℕ). WordsPassed from k r) (ap members_flat e ∙ copies_flat n s) h.passed;
         counted = fixed_counted (encoding_by a options) n s names vs v from.place (place_after r) enough p
             (count_members (encoding_by a options) from.place (copies n s) names vs (cap (from.place + 1)) (place_after r) named
             (subst (λ (ys : Members). FieldsCount (encoding_by a options) from.place ys names vs (cap (from.place + 1)) (place_after r)) e h.counted));
-        moved = h.moved;
         same = h.same;
         quiet = λ none. h.quiet (ap have_block e ∙ copies_quiet n s none);
       }
@@ -298,7 +288,7 @@ module _ {T G : Type 0} (L : GuestLaws G) (options : ℕ) where
 
 module _ {T G : Type 0} (L : GuestLaws G) (options : ℕ) (a c : Parts T G) (dst dst2 : List ℕ) (ms : Members) (vs : List Val) (r : Result Spot Fault) (named : no_names vs ≡ member_names ms) (from : Spot) (first : from.word ≡ 0)
     (h : PartsLowerTo L.seen L.moves options a c dst dst2 from r 0 ms (no_names vs) vs) where
-  pub near_lowered : members_flat ms ≤ max_params → length dst ≡ members_flat ms → LowersArgs false (moment_of L.seen a) (moment_of L.seen c) (host_texts (encoding_by a options)) ms (HaveTrees ms vs) dst2 h.handles (ending_of r)
+  pub near_lowered : members_flat ms ≤ max_params → length dst ≡ members_flat ms → LowersArgs false (stage_of L.seen L.moves a) (stage_of L.seen L.moves c) (host_texts (encoding_by a options)) ms (HaveTrees ms vs) dst2 h.handles (ending_of r)
   near_lowered near count =
-      args_near false (host_texts (encoding_by a options)) ms (Named ms (no_names vs) vs) (HaveTrees ms vs) (λ ts have. have.1) (λ ts have. (named, have)) (moment_of L.seen a) (moment_of L.seen c) dst2 (ending_of r) near (h.stays.same_length ∙ count)
-      (subst (λ (i : ℕ). LowersMembers false (moment_of L.seen a) (moment_of L.seen c) (host_texts (encoding_by a options)) ms dst2 i (Named ms (no_names vs) vs) h.handles (ending_of r)) first h.lowered)
+      args_near false (host_texts (encoding_by a options)) ms (Named ms (no_names vs) vs) (HaveTrees ms vs) (λ ts have. have.1) (λ ts have. (named, have)) (stage_of L.seen L.moves a) (stage_of L.seen L.moves c) dst2 (ending_of r) near (h.stays.same_length ∙ count)
+      (subst (λ (i : ℕ). LowersMembers false (stage_of L.seen L.moves a) (stage_of L.seen L.moves c) (host_texts (encoding_by a options)) ms dst2 i (Named ms (no_names vs) vs) h.handles (ending_of r)) first h.lowered)

@@ -4,7 +4,6 @@ use Rattle.std.specs.Prelude.{◌≡◌, ◌≤◌, ◌<◌, ◌+◌, ◌⊎◌,
 use Rattle.canon_lowering.specs.Attempt.{AreHeld, LowersArgs, LowersValue, StoresValue, value_place}
 use Rattle.canon_lowering.specs.Lowering.{AllLawful, done}
 use Rattle.canon_lowering.specs.Storing.{narrow}
-use Rattle.canon_memory.specs.Guest.{Moment}
 use Rattle.canon_model.specs.Homes.{host_texts}
 use Rattle.canon_model.specs.Cost.{cost, members_cost}
 use Rattle.canon_model.specs.Flat.{max_params, max_results}
@@ -16,6 +15,7 @@ use Rattle.canon_value_parts.specs.Lifts.{AreResults, IsOfWords}
 use Rattle.canon_value_parts.specs.Loads.{IsLoaded}
 use Rattle.canon_val.specs.Value.{AreLiftedFrom, AreSame, HasTree, HaveTrees, IsLiftedFrom, IsSame}
 use Rattle.canon_val.specs.declared.val.Val.{Val}
+use Rattle.canon_lowering.specs.Stages.{Stage}
 
 -- w is v, but for how its vectors and texts are kept, which resources it has, and that its flags stand in their type's order, each once; it took its
 -- cost from the fuel
@@ -41,12 +41,12 @@ IsOneForm ms = (members_flat ms ≤ max_results) ⊎ (max_params < members_flat 
 -- Where `realloc` kept its law, and the place was held, what `linear_lower_to_memory` left `linear_lift_from_memory` gives back; what `linear_lower_to_flat` left
 -- `linear_lift_from_flat`, and what `lower_args` left `lift_results`, where their forms are one.
 pub record RoundTrip : Type 0 where
-  pub memory : (before after : Moment) (enc : Encoding) (s : Shape) (at : ℕ) (v w : Val) (hs : List ℕ) (fuel left : ℕ)
+  pub memory : {K : Type 0} (before after : Stage K) (enc : Encoding) (s : Shape) (at : ℕ) (v w : Val) (hs : List ℕ) (fuel left : ℕ)
       → (stored : StoresValue false before after (host_texts enc) s at (HasTree s v) hs done) → AllLawful stored.answers → AreHeld before stored.answers (value_place false s at ∷ [])
       → IsLoaded enc (narrow after.bytes) s at fuel left w → ComesBack s v w fuel left
-  pub words : (before after : Moment) (enc : Encoding) (s : Shape) (words : List ℕ) (i : ℕ) (v w : Val) (hs : List ℕ) (fuel left : ℕ)
+  pub words : {K : Type 0} (before after : Stage K) (enc : Encoding) (s : Shape) (words : List ℕ) (i : ℕ) (v w : Val) (hs : List ℕ) (fuel left : ℕ)
       → (lowered : LowersValue false before after (host_texts enc) s words i (HasTree s v) hs done) → AllLawful lowered.answers → AreHeld before lowered.answers []
       → IsOfWords enc (narrow after.bytes) s words i fuel left w → ComesBack s v w fuel left
-  pub values : (before after : Moment) (enc : Encoding) (ms : Members) (words : List ℕ) (vs ws : List Val) (hs : List ℕ) (fuel left : ℕ) → IsOneForm ms
+  pub values : {K : Type 0} (before after : Stage K) (enc : Encoding) (ms : Members) (words : List ℕ) (vs ws : List Val) (hs : List ℕ) (fuel left : ℕ) → IsOneForm ms
       → (lowered : LowersArgs false before after (host_texts enc) ms (HaveTrees ms vs) words hs done) → AllLawful lowered.answers → AreHeld before lowered.answers []
       → AreResults enc (narrow after.bytes) ms words fuel left ws → ComeBack ms vs ws fuel left

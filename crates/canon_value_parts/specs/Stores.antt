@@ -6,10 +6,9 @@ use Rattle.canon_memory.specs.Guest.{GuestIn, Seen}
 use Rattle.canon_memory.specs.declared.event.Event.{Event}
 use Rattle.canon_model.specs.Homes.{host_texts}
 use Rattle.canon_model.specs.Shape.{Members, Name, Shape}
-use Rattle.canon_context.specs.Core.{Parts, encoding_by, guest_of, moment_of}
+use Rattle.canon_context.specs.Core.{Parts, encoding_by, stage_of}
 use Rattle.canon_value_parts.specs.Fails.{AreSmall, Blames, Failure, FailsAt, MemberFails, NoneTooLarge}
 use Rattle.canon_context.specs.Lowers.{ending_of}
-use Rattle.canon_context.specs.Moves.{Moves}
 use Rattle.canon_context.specs.Quiet.{Quiet, has_block, have_block}
 use Rattle.canon_value_parts.specs.Resources.{LowersHandles, all_passes, passes}
 use Rattle.canon_val.specs.Value.{HasTree, HaveTrees, all_places, member_names, places}
@@ -44,29 +43,26 @@ module _ {T G : Type 0} (seen : G → Seen) (moves : GuestIn G → List Event �
   -- a value of the shape s at the address `at`
   pub record StoresTo (s : Shape) (at : ℕ) (v : Val) (from : ℕ) (result : Result ℕ Fault) : Type 0 where
     pub handles : List ℕ
-    pub storing : StoresValue false (moment_of seen before) (moment_of seen after) (host_texts (encoding_by before options)) s at (HasTree s v) handles (ending_of result)
+    pub storing : StoresValue false (stage_of seen moves before) (stage_of seen moves after) (host_texts (encoding_by before options)) s at (HasTree s v) handles (ending_of result)
     pub handed : LowersHandles before.component.types before.ledger after.ledger (passes v s) handles result
     pub counted : PlacesCounted (encoding_by before options) (λ how k. FailsAt how s v k) from (places v) result
-    pub moved : Moves seen moves (guest_of before) (guest_of after) (ending_of result)
     pub same : SameButHandles before after
     pub quiet : Quiet (has_block s) (after.guest ≡ before.guest) result
 
   -- values in a row as members at `at`, where the one before them ends at offset o; the names of a record that has this place are tested
   pub record PartsStoreTo (place : ℕ) (ms : Members) (o at : ℕ) (names : List Name) (vs : List Val) (from : ℕ) (result : Result ℕ Fault) : Type 0 where
     pub handles : List ℕ
-    pub storing : StoresMembers false (moment_of seen before) (moment_of seen after) (host_texts (encoding_by before options)) ms o at (λ ts. (names ≡ member_names ms) × HaveTrees ms vs ts) handles (ending_of result)
+    pub storing : StoresMembers false (stage_of seen moves before) (stage_of seen moves after) (host_texts (encoding_by before options)) ms o at (λ ts. (names ≡ member_names ms) × HaveTrees ms vs ts) handles (ending_of result)
     pub handed : LowersHandles before.component.types before.ledger after.ledger (all_passes ms vs) handles result
     pub counted : FieldsCount (encoding_by before options) place ms names vs from result
-    pub moved : Moves seen moves (guest_of before) (guest_of after) (ending_of result)
     pub same : SameButHandles before after
     pub quiet : Quiet (have_block ms) (after.guest ≡ before.guest) result
 
   -- a text or a list in a block of its own, which a pointer and a length give
   pub record PlacesTo (s : Shape) (v : Val) (from : ℕ) (result : Result Placed Fault) : Type 0 where
     pub handles : List ℕ
-    pub lowered : LowersValue false (moment_of seen before) (moment_of seen after) (host_texts (encoding_by before options)) s (placed_words result) 0 (HasTree s v) handles (ending_of result)
+    pub lowered : LowersValue false (stage_of seen moves before) (stage_of seen moves after) (host_texts (encoding_by before options)) s (placed_words result) 0 (HasTree s v) handles (ending_of result)
     pub handed : LowersHandles before.component.types before.ledger after.ledger (passes v s) handles result
     pub narrow : IfOk result (λ b. (b.pointer < 2 ^ 32) × (b.length < 2 ^ 32))
     pub counted : PlacesCounted (encoding_by before options) (λ how k. FailsAt how s v k) from (places v) (placed_next result)
-    pub moved : Moves seen moves (guest_of before) (guest_of after) (ending_of result)
     pub same : SameButHandles before after

@@ -12,10 +12,9 @@ use Rattle.canon_model.specs.Shape.{Members, Name, Scalar, Shape}
 use Rattle.canon_model.specs.Tree.{Tree}
 use Rattle.canon_types.specs.declared.types.InterfaceType.{InterfaceType}
 use Rattle.canon_plan.specs.NoHandle.{scalar_type}
-use Rattle.canon_context.specs.Core.{Parts, encoding_by, guest_of, moment_of}
+use Rattle.canon_context.specs.Core.{Parts, encoding_by, stage_of}
 use Rattle.canon_value_parts.specs.Fails.{FailsAt, IsOtherScalar}
 use Rattle.canon_context.specs.Lowers.{ending_of}
-use Rattle.canon_context.specs.Moves.{Moves}
 use Rattle.canon_context.specs.Quiet.{Quiet, has_block, have_block}
 use Rattle.canon_context.specs.Asks.{SameButHandles}
 use Rattle.canon_value_parts.specs.Resources.{LowersHandles, all_passes, passes}
@@ -69,23 +68,21 @@ module _ {T G : Type 0} (seen : G → Seen) (moves : GuestIn G → List Event �
   -- a value of the shape s
   pub record LowersTo (s : Shape) (v : Val) : Type 0 where
     pub handles : List ℕ
-    pub lowered : LowersValue false (moment_of seen before) (moment_of seen after) (host_texts (encoding_by before options)) s dst2 from.word (HasTree s v) handles (ending_of result)
+    pub lowered : LowersValue false (stage_of seen moves before) (stage_of seen moves after) (host_texts (encoding_by before options)) s dst2 from.word (HasTree s v) handles (ending_of result)
     pub handed : LowersHandles before.component.types before.ledger after.ledger (passes v s) handles result
     pub stays : WordsStay from.word dst dst2
     pub passed : WordsPassed from (flat s) result
     pub counted : PlacesCounted (encoding_by before options) (λ how k. FailsAt how s v k) from.place (places v) (place_after result)
-    pub moved : Moves seen moves (guest_of before) (guest_of after) (ending_of result)
     pub same : SameButHandles before after
     pub quiet : Quiet (has_block s) (after ≡ record before { ledger = after.ledger }) result
 
   -- values in a row as members; the names of a record that has this place are tested
   pub record PartsLowerTo (place : ℕ) (ms : Members) (names : List Name) (vs : List Val) : Type 0 where
     pub handles : List ℕ
-    pub lowered : LowersMembers false (moment_of seen before) (moment_of seen after) (host_texts (encoding_by before options)) ms dst2 from.word (λ ts. (names ≡ member_names ms) × HaveTrees ms vs ts) handles (ending_of result)
+    pub lowered : LowersMembers false (stage_of seen moves before) (stage_of seen moves after) (host_texts (encoding_by before options)) ms dst2 from.word (λ ts. (names ≡ member_names ms) × HaveTrees ms vs ts) handles (ending_of result)
     pub handed : LowersHandles before.component.types before.ledger after.ledger (all_passes ms vs) handles result
     pub stays : WordsStay from.word dst dst2
     pub passed : WordsPassed from (members_flat ms) result
     pub counted : FieldsCount (encoding_by before options) place ms names vs from.place (place_after result)
-    pub moved : Moves seen moves (guest_of before) (guest_of after) (ending_of result)
     pub same : SameButHandles before after
     pub quiet : Quiet (have_block ms) (after ≡ record before { ledger = after.ledger }) result

@@ -9,12 +9,11 @@ ghost use Rattle.canon_model.specs.Shape.{member_count, string};
 ghost use Rattle.canon_types.specs.Table.{HasTuple, Knows, shape_of, tuple_members};
 ghost use Rattle.canon_plan.specs.Plan.{shape_of_handle, type_of_handle};
 ghost use Rattle.canon_value_parts.specs.Resources.{PartsLower, all_passes};
-ghost use Rattle.canon_context.specs.Core.{encoding_by, guest_of, moment_of, component_types};
+ghost use Rattle.canon_context.specs.Core.{component_types, encoding_by, stage_of};
 ghost use Rattle.canon_plan.specs.Element.{IsKnown, list_shape};
 ghost use Rattle.canon_value_parts.specs.Elements.{element_in, list_value};
 ghost use Rattle.canon_value_parts.specs.Fails.{AreSmall, BlamesMembers};
 ghost use Rattle.canon_context.specs.Lowers.{ending_of};
-ghost use Rattle.canon_context.specs.Moves.{Moves};
 ghost use Rattle.canon_context.specs.Quiet.{Quiet, have_block};
 ghost use Rattle.canon_context.specs.Asks.{SameButHandles};
 ghost use Rattle.canon_val.specs.declared.val.Val.TheVariants as val;
@@ -48,12 +47,11 @@ pub fn lower_args_near<T, G: Guest>(
     requires near { members_flat (tuple_members (component_types cx.old.core.now) ty) ≤ max_params }
     requires words { length dst.old ≡ members_flat (tuple_members (component_types cx.old.core.now) ty) }
     ensures lowered { PartsLower cx.old.core.now cx.new.core.now (all_passes (tuple_members (component_types cx.old.core.now) ty) args.now)
-        (λ hs. LowersArgs false (moment_of G.seen cx.old.core.now) (moment_of G.seen cx.new.core.now) (host_texts (encoding_by cx.old.core.now cx.old.options))
+        (λ hs. LowersArgs false (stage_of G.seen G.moves cx.old.core.now) (stage_of G.seen G.moves cx.new.core.now) (host_texts (encoding_by cx.old.core.now cx.old.options))
         (tuple_members (component_types cx.old.core.now) ty) (HaveTrees (tuple_members (component_types cx.old.core.now) ty) args.now) dst.new hs (ending_of result)) result }
     ensures cause { IfErr result (BlamesMembers (encoding_by cx.old.core.now cx.old.options) (tuple_members (component_types cx.old.core.now) ty) args.now) }
     ensures small { OnOk result (AreSmall (encoding_by cx.old.core.now cx.old.options) (tuple_members (component_types cx.old.core.now) ty) args.now) }
     ensures quiet { Quiet (have_block (tuple_members (component_types cx.old.core.now) ty)) (cx.new.core.now ≡ record cx.old.core.now { ledger = cx.new.core.now.ledger }) result }
-    ensures moves { Moves G.seen G.moves (guest_of cx.old.core.now) (guest_of cx.new.core.now) (ending_of result) }
     ensures same_core { SameButHandles cx.old.core.now cx.new.core.now }
     ensures same_reference { cx.new.core.ghost_name ≡ cx.old.core.ghost_name }
     ensures same_options { cx.new.options ≡ cx.old.options }
@@ -78,12 +76,11 @@ pub fn lower_results_near<T, G: Guest>(
     requires count { length results.now ≡ member_count (tuple_members (component_types cx.old.core.now) ty) }
     requires words { length dst.old ≡ members_flat (tuple_members (component_types cx.old.core.now) ty) }
     ensures lowered { PartsLower cx.old.core.now cx.new.core.now (all_passes (tuple_members (component_types cx.old.core.now) ty) results.now)
-        (λ hs. LowersMembers false (moment_of G.seen cx.old.core.now) (moment_of G.seen cx.new.core.now) (host_texts (encoding_by cx.old.core.now cx.old.options))
+        (λ hs. LowersMembers false (stage_of G.seen G.moves cx.old.core.now) (stage_of G.seen G.moves cx.new.core.now) (host_texts (encoding_by cx.old.core.now cx.old.options))
         (tuple_members (component_types cx.old.core.now) ty) dst.new 0 (HaveTrees (tuple_members (component_types cx.old.core.now) ty) results.now) hs (ending_of result)) result }
     ensures cause { IfErr result (BlamesMembers (encoding_by cx.old.core.now cx.old.options) (tuple_members (component_types cx.old.core.now) ty) results.now) }
     ensures small { OnOk result (AreSmall (encoding_by cx.old.core.now cx.old.options) (tuple_members (component_types cx.old.core.now) ty) results.now) }
     ensures quiet { Quiet (have_block (tuple_members (component_types cx.old.core.now) ty)) (cx.new.core.now ≡ record cx.old.core.now { ledger = cx.new.core.now.ledger }) result }
-    ensures moves { Moves G.seen G.moves (guest_of cx.old.core.now) (guest_of cx.new.core.now) (ending_of result) }
     ensures same_core { SameButHandles cx.old.core.now cx.new.core.now }
     ensures same_reference { cx.new.core.ghost_name ≡ cx.old.core.ghost_name }
     ensures same_options { cx.new.options ≡ cx.old.options }

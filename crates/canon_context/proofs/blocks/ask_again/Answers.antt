@@ -1,5 +1,5 @@
 use Rattle.canon_memory.specs.Realloc.{call}
-use Rattle.canon_context.proofs.Moves.{GuestLaws, moves_asked}
+use Rattle.canon_context.proofs.Moves.{GuestLaws, asked_by}
 use Rattle.canon_context.proofs.blocks.ask_again.Goals as goal
 
 pub returns-clause-asked : goal.returns-clause-asked
@@ -9,8 +9,7 @@ returns-clause-asked g c =
     let asked = c.realloc.new.self.core.now in
     let L : GuestLaws _ = record { seen = g.G.Guest.seen; moves = g.G.Guest.moves; stays = g.met.G.Guest.stays; goes_on = g.met.G.Guest.goes_on } in
     record {
-      does = c.realloc.ensures.does;
-      moved = moves_asked L core asked (call a.old a.old_size a.align a.size) c.realloc.result c.realloc.ensures.does c.realloc.ensures.moves;
+      does = asked_by L core asked (call a.old a.old_size a.align a.size) c.realloc.result c.realloc.ensures.does c.realloc.ensures.moves;
       same = c.realloc.ensures.same;
       small = c.realloc.ensures.small;
     }

@@ -15,7 +15,7 @@ returns-clause-lowers g c =
     let types = c.types.ensures ∙ ap (λ (x : Component). x.types.types) c.component.ensures.component in
     let near = subst (λ (t : TypeTable). members_flat (tuple_members t f) ≤ max_results → c.first_words-count.result ≡ members_flat (tuple_members t f)) types c.first_words-count.ensures.near in
     lowered_given g.G.Guest.seen g.G.Guest.moves c.args.asked.now c.args.core.now c.lower_results.new.cx.core.now _ c.args.at c.args.results.now c.lower_results.new.dst _ c.lower_results.result
-    (search rules) (search rules) (search rules) (search rules) (search rules) (search rules) (search rules)
+    (search rules) (search rules) (search rules) (search rules) (search rules) (search rules)
     (λ few. c.lower_results.auto.dst ∙ (length-take-le c.first_words-count.result c.args.storage.now (omega (arith, near few, c.requires.room.room few)) ∙ near few)) (search rules)
 
 pub returns-clause-rest : goal.returns-clause-rest

@@ -1,9 +1,8 @@
 use Rattle.std.proofs.Common.{refl}
-use Rattle.canon_context.proofs.Moves.{GuestLaws}
-use Rattle.canon_context.specs.Core.{encoding_by, guest_of, moment_of, component_types}
+use Rattle.canon_context.specs.Core.{component_types, encoding_by, stage_of}
 use Rattle.canon_context.specs.Quiet.{have_block, have_handle}
 use Rattle.canon_types.specs.Table.{tuple_members}
-use Rattle.canon_value_parts.proofs.Crossing.{crossed, quiet_but, told_blames, told_moves}
+use Rattle.canon_value_parts.proofs.Crossing.{crossed, quiet_but, told_blames}
 use Rattle.canon_value_parts.proofs.PassesOf.{no_row_passes}
 use Rattle.canon_value_parts.specs.Args.{LowersResults}
 use Rattle.canon_value_parts.specs.Fails.{MemberFails}
@@ -22,7 +21,7 @@ returns-in-Err-clause-lowered g c =
     let ms = tuple_members (component_types core) a.ty in
     let h = c.in-Err.ensures.lowered in
     crossed core.component.types (have_handle ms) (all_passes ms a.results.now) (no_row_passes ms a.results.now) core.ledger by.new.cx.core.now.ledger c.in-Err.fault h.passed
-    (λ hs ending. LowersResults (moment_of g.G.Guest.seen core) (moment_of g.G.Guest.seen by.new.cx.core.now) (encoding_by core a.cx.now.options) ms (HaveTrees ms a.results.now) a.at by.new.dst hs ending)
+    (λ hs ending. LowersResults (stage_of g.G.Guest.seen g.G.Guest.moves core) (stage_of g.G.Guest.seen g.G.Guest.moves by.new.cx.core.now) (encoding_by core a.cx.now.options) ms (HaveTrees ms a.results.now) a.at by.new.dst hs ending)
     h.handles c.told.result c.told.ensures h.lowered
 
 pub returns-in-Err-clause-cause : goal.returns-in-Err-clause-cause
@@ -30,11 +29,6 @@ returns-in-Err-clause-cause g c =
     let a = c.args in
     let core = a.cx.now.core.now in
     told_blames (encoding_by core a.cx.now.options) (λ how k. MemberFails how (tuple_members (component_types core) a.ty) a.results.now k) 0 c.in-Err.fault c.told.result c.told.ensures c.in-Err.ensures.cause
-
-pub returns-in-Err-clause-moves : goal.returns-in-Err-clause-moves
-returns-in-Err-clause-moves g c =
-    let L : GuestLaws _ = record { seen = g.G.Guest.seen; moves = g.G.Guest.moves; stays = g.met.G.Guest.stays; goes_on = g.met.G.Guest.goes_on } in
-    told_moves L (guest_of c.args.cx.now.core.now) (guest_of c.lower_results_by_size.new.cx.core.now) c.in-Err.fault c.told.result c.told.ensures c.in-Err.ensures.moves
 
 pub returns-in-Ok-clause-quiet : goal.returns-in-Ok-clause-quiet
 returns-in-Ok-clause-quiet g c = λ none. c.in-Ok.ensures.quiet none

@@ -3,7 +3,7 @@ use Rattle.canon_model.proofs.Layouts.{members_end-le-size}
 use Rattle.canon_model.specs.Layout.{size}
 use Rattle.canon_model.specs.Shape.{of_places}
 use Rattle.canon_types.specs.Table.{tuple_members}
-use Rattle.canon_context.specs.Core.{encoding_by, moment_of, component_types}
+use Rattle.canon_context.specs.Core.{component_types, encoding_by, stage_of}
 use Rattle.canon_val.specs.Value.{HaveTrees, no_names}
 use Rattle.canon_value_parts.proofs.Givens.{stored_as}
 use Rattle.canon_value_parts.proofs.Lookups.{tuple_names}
@@ -24,7 +24,7 @@ returns-in-Ok-clause-stored g c =
     record {
       handles = low.handles;
       lowered = stored_as (encoding_by core a.cx.now.options) ms (Named ms (no_names vs) vs) (HaveTrees ms vs) (λ ts have. have.1) (λ ts have. (tuple_names (component_types core) a.ty vs c.requires.count, have))
-          (moment_of g.G.Guest.seen core) (moment_of g.G.Guest.seen c.store_parts.new.cx.core.now) a.at _ low.storing;
+          (stage_of g.G.Guest.seen g.G.Guest.moves core) (stage_of g.G.Guest.seen g.G.Guest.moves c.store_parts.new.cx.core.now) a.at _ low.storing;
       passed = low.handed;
     }
 
@@ -38,7 +38,7 @@ returns-in-Err-clause-stored g c =
     record {
       handles = low.handles;
       lowered = stored_as (encoding_by core a.cx.now.options) ms (Named ms (no_names vs) vs) (HaveTrees ms vs) (λ ts have. have.1) (λ ts have. (tuple_names (component_types core) a.ty vs c.requires.count, have))
-          (moment_of g.G.Guest.seen core) (moment_of g.G.Guest.seen c.store_parts.new.cx.core.now) a.at _ low.storing;
+          (stage_of g.G.Guest.seen g.G.Guest.moves core) (stage_of g.G.Guest.seen g.G.Guest.moves c.store_parts.new.cx.core.now) a.at _ low.storing;
       passed = low.handed;
     }
 

@@ -1,11 +1,10 @@
 use Rattle.std.proofs.Common.{false, refl}
 use Rattle.canon_model.specs.Homes.{host_texts}
-use Rattle.canon_context.proofs.Moves.{GuestLaws}
-use Rattle.canon_context.specs.Core.{encoding_by, guest_of, moment_of, component_types}
+use Rattle.canon_context.specs.Core.{component_types, encoding_by, stage_of}
 use Rattle.canon_context.specs.Quiet.{has_block, has_handle}
 use Rattle.canon_lowering.specs.Attempt.{StoresValue}
 use Rattle.canon_types.specs.Table.{shape_of}
-use Rattle.canon_value_parts.proofs.Crossing.{crossed, quiet_but, told_blames, told_moves}
+use Rattle.canon_value_parts.proofs.Crossing.{crossed, quiet_but, told_blames}
 use Rattle.canon_value_parts.proofs.PassesOf.{no_passes}
 use Rattle.canon_value_parts.specs.Fails.{FailsAt}
 use Rattle.canon_value_parts.specs.Resources.{passes}
@@ -23,7 +22,7 @@ returns-in-Err-clause-stored g c =
     let s = shape_of (component_types core) a.ty in
     let h = c.in-Err.ensures.stores in
     crossed core.component.types (has_handle s) (passes a.value.now s) (no_passes s a.value.now) core.ledger now.ledger c.in-Err.fault h.handed
-    (λ hs ending. StoresValue false (moment_of g.G.Guest.seen core) (moment_of g.G.Guest.seen now) (host_texts (encoding_by core a.cx.now.options)) s a.offset (HasTree s a.value.now) hs ending)
+    (λ hs ending. StoresValue false (stage_of g.G.Guest.seen g.G.Guest.moves core) (stage_of g.G.Guest.seen g.G.Guest.moves now) (host_texts (encoding_by core a.cx.now.options)) s a.offset (HasTree s a.value.now) hs ending)
     h.handles c.told.result c.told.ensures h.storing
 
 pub returns-in-Err-clause-cause : goal.returns-in-Err-clause-cause
@@ -40,8 +39,3 @@ returns-in-Err-clause-quiet g c =
     let s = shape_of (component_types core) a.ty in
     let h = c.in-Err.ensures.stores in
     quiet_but core.component.types (has_handle s) (passes a.value.now s) (no_passes s a.value.now) core.ledger now.ledger c.in-Err.fault h.handed (has_block s) _ c.told.result c.told.ensures h.quiet
-
-pub returns-in-Err-clause-moves : goal.returns-in-Err-clause-moves
-returns-in-Err-clause-moves g c =
-    let L : GuestLaws _ = record { seen = g.G.Guest.seen; moves = g.G.Guest.moves; stays = g.met.G.Guest.stays; goes_on = g.met.G.Guest.goes_on } in
-    told_moves L (guest_of c.args.cx.now.core.now) (guest_of c.store_value.new.cx.core.now) c.in-Err.fault c.told.result c.told.ensures c.in-Err.ensures.stores.moved

@@ -1,6 +1,6 @@
 use Rattle.std.proofs.Common.{Err, Ok}
 use Rattle.canon_types.specs.Table.{tuple_members}
-use Rattle.canon_context.specs.Core.{encoding_by, moment_of, component_types}
+use Rattle.canon_context.specs.Core.{component_types, encoding_by, stage_of}
 use Rattle.canon_val.specs.Value.{HaveTrees, no_names}
 use Rattle.canon_value_parts.proofs.Givens.{words_as}
 use Rattle.canon_value_parts.proofs.Lookups.{tuple_names}
@@ -17,7 +17,7 @@ returns-in-Ok-clause-lowered g c =
     record {
       handles = low.handles;
       lowered = words_as (encoding_by core a.cx.now.options) ms (Named ms (no_names vs) vs) (HaveTrees ms vs) (λ ts have. have.1) (λ ts have. (tuple_names (component_types core) a.ty vs c.requires.count, have))
-          (moment_of g.G.Guest.seen core) (moment_of g.G.Guest.seen c.lower_parts.new.cx.core.now) c.lower_parts.new.dst _ low.lowered;
+          (stage_of g.G.Guest.seen g.G.Guest.moves core) (stage_of g.G.Guest.seen g.G.Guest.moves c.lower_parts.new.cx.core.now) c.lower_parts.new.dst _ low.lowered;
       passed = low.handed;
     }
 
@@ -31,7 +31,7 @@ returns-in-Err-clause-lowered g c =
     record {
       handles = low.handles;
       lowered = words_as (encoding_by core a.cx.now.options) ms (Named ms (no_names vs) vs) (HaveTrees ms vs) (λ ts have. have.1) (λ ts have. (tuple_names (component_types core) a.ty vs c.requires.count, have))
-          (moment_of g.G.Guest.seen core) (moment_of g.G.Guest.seen c.lower_parts.new.cx.core.now) c.lower_parts.new.dst _ low.lowered;
+          (stage_of g.G.Guest.seen g.G.Guest.moves core) (stage_of g.G.Guest.seen g.G.Guest.moves c.lower_parts.new.cx.core.now) c.lower_parts.new.dst _ low.lowered;
       passed = low.handed;
     }
 
