@@ -20,8 +20,10 @@ abbrev pub IsHost : Import → Type 0
 IsHost (import.Host type options) = ⊤
 IsHost _ = ⊥
 
--- No function reaches a handle; the imports are functions of the host, whose results reach no text, list or map.
+-- There is no resource type, so that no type reaches a handle, whether a function has it or not; the imports are functions of the host, whose results
+-- reach no text, list or map.
 pub record IsRecordable (c : Component) : Type 0 where
+  pub no_resources : c.types.types.resources ≡ []
   pub exports : (n : ℕ) → n < length c.exports.items → HaveNoHandle ((exports_of c).params n) × HaveNoHandle ((exports_of c).results n)
   pub hosts : All IsHost c.imports.items
   pub imports : (n : ℕ) → n < length c.imports.items → HaveNoHandle ((imports_of c).params n) × HaveNoHandle ((imports_of c).results n)

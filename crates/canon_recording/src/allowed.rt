@@ -1,6 +1,6 @@
 //! Which components may be recorded.
 
-ghost use Rattle.std.specs.Prelude.{ℕ, ◌<◌, ◌≡◌, ◌↔◌, IsTrue, false, length};
+ghost use Rattle.std.specs.Prelude.{ℕ, ◌<◌, ◌≡◌, ◌↔◌, [], IsTrue, false, length};
 ghost use Rattle.canon_context.specs.Component.{IsComponent};
 ghost use Rattle.canon_context.specs.Quiet.{have_block};
 ghost use Rattle.canon_types.specs.Table.{HasTuple, IsOver, param_members, result_members, tuple_members};
@@ -12,15 +12,22 @@ ghost use Rattle.canon_recording.specs.Recordings.{exports_of};
 use crate::blocks::has_block;
 use canon_context::{Component, Import};
 use canon_plan::has_no_handle;
-use canon_types::{InterfaceType, TypeFunc, TypeTupleIndex};
+use canon_types::{InterfaceType, TypeFunc, TypeResourceTableIndex, TypeTupleIndex};
 
-/// Whether calls of a component may be recorded: no function of it reaches a handle, and its imports are functions of the host whose
-/// results reach no text, list or map.
+/// Whether calls of a component may be recorded: it has no resource types, no function of it reaches a handle, and its imports are
+/// functions of the host whose results reach no text, list or map.
 pub fn recordable(c: &Component) -> bool
     requires sound { IsComponent c.now }
     ensures { IsTrue result ↔ IsRecordable c.now }
 {
-    exports_are_plain(c) && imports_are_flat(c)
+    has_no_resources(c) && exports_are_plain(c) && imports_are_flat(c)
+}
+
+fn has_no_resources(c: &Component) -> bool
+    ensures { IsTrue result ↔ (c.now.types.types.resources ≡ []) }
+{
+    let first = InterfaceType::Own(TypeResourceTableIndex::from_u32(0));
+    !c.types.types().contains(&first)
 }
 
 fn exports_are_plain(c: &Component) -> bool

@@ -1,2 +1,5 @@
+pub mod Asks
 pub mod Departing
+pub mod Making
 pub mod Places
+pub mod Rows

@@ -53,6 +53,13 @@ abbrev pub all_made : List (List Event) → ℕ → List Again → List MadeCall
 all_made recorded k [] = []
 all_made recorded k (a ∷ as) = made_again recorded k a ∷ all_made recorded (k + 1) as
 
+-- what stands in both: the export, the parameters and the results
+abbrev pub told_again : Again → ℕ × (List Val × List Val)
+told_again a = (a.export, (a.params.items, a.results.items))
+
+abbrev pub told_call : RecordedCall → ℕ × (List Val × List Val)
+told_call call = (call.export, (call.params, call.results))
+
 abbrev pub events_of_call : RecordedCall → List Event
 events_of_call call = call.events
 

@@ -2,7 +2,7 @@
 
 ghost use Rattle.std.specs.Prelude.{◌≡◌, ◌++◌, ◌∷◌, [], IfErr, IfOk, OnOk, map};
 ghost use Rattle.canon_recording.specs.Recordings.{calls_in, served_asks};
-ghost use Rattle.canon_replay.specs.Calls.{asks_of_calls, call_made, events_of_call, made_again};
+ghost use Rattle.canon_replay.specs.Calls.{asks_of_calls, events_of_call, told_again, told_call};
 
 use canon_memory::Events;
 use canon_recording::{Recorded, Recording, ReplayError, Served};
@@ -27,7 +27,7 @@ pub(crate) struct Parts {
 
 /// The parts of a recording.
 pub(crate) fn parts_of(alloc: Global, r: Recording) -> Result<Parts, ReplayError>
-    ensures parts { IfOk result (λ p. (p.events.items ≡ map events_of_call (calls_in r)) × (served_asks p.asks.items ≡ asks_of_calls (calls_in r)) × (map made_again p.calls.items ≡ map call_made (calls_in r))) }
+    ensures parts { IfOk result (λ p. (p.events.items ≡ map events_of_call (calls_in r)) × (served_asks p.asks.items ≡ asks_of_calls (calls_in r)) × (map told_again p.calls.items ≡ map told_call (calls_in r))) }
     ensures short { IfErr result (λ e. e ≡ ReplayError.OutOfMemory) }
 {
     let mut parts = Parts {

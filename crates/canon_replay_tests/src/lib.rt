@@ -1,0 +1,5 @@
+//! Tests of recordings as bytes, and of recorded calls that are made again.
+#![tactic(auto)]
+
+#[cfg(test)]
+mod tests;
