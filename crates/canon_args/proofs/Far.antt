@@ -5,7 +5,7 @@ use Rattle.std.proofs.lemmas.Bool.{cond-false, lt-leb}
 use Rattle.canon_context.proofs.Cores.{not_done, same_encoding}
 use Rattle.canon_context.proofs.Moves.{GuestLaws}
 use Rattle.canon_context.specs.Asks.{AsksFor, SameBut}
-use Rattle.canon_context.specs.Core.{Parts, encoding_by, stage_of}
+use Rattle.canon_context.specs.Core.{Parts, encoding_by, moment_of, stage_of}
 use Rattle.canon_context.specs.Lowers.{fault_ending}
 use Rattle.canon_context.specs.Quiet.{have_block}
 use Rattle.canon_context.specs.declared.fault.Fault.{Fault}
@@ -111,8 +111,8 @@ module _ {D G : Type 0} (L : GuestLaws G) (options : ℕ) (a : Parts D G) (ms : 
     none_asked none = none_answered (L.seen b.guest).marks stored.answers (ap (λ (x : G). (L.seen x).marks) (sym (h.quiet none).0) ∙ stored.lowering.goes.marks)
 
     untrapped : (q : Result (Unit {0}) Fault) → EndsBy gives q h.ending → IfErr q (λ e. h.ending ≡ refused) → stored.trap ≡ None
-    untrapped (Ok u) ends quiet = subst (λ end. CauseOf (stage_of L.seen L.moves b) (stage_of L.seen L.moves c) stored.answers stored.trap end) (ends_done gives u h.ending ends) stored.lowering.cause
-    untrapped (Err e) ends quiet = subst (λ end. CauseOf (stage_of L.seen L.moves b) (stage_of L.seen L.moves c) stored.answers stored.trap end) quiet stored.lowering.cause
+    untrapped (Ok u) ends quiet = subst (λ end. CauseOf (moment_of L.seen b) (moment_of L.seen c) stored.answers stored.trap end) (ends_done gives u h.ending ends) stored.lowering.cause
+    untrapped (Err e) ends quiet = subst (λ end. CauseOf (moment_of L.seen b) (moment_of L.seen c) stored.answers stored.trap end) quiet stored.lowering.cause
 
     alone : have_block ms ≡ false → AtMostOne low.answers low.trap
     unfolding low

@@ -1,9 +1,9 @@
 -- What a guest did, one thing after another.
-use Rattle.std.proofs.Common.{◌++◌, ◌∷◌, Err, List, Ok, Result, [], subst, ℕ}
+use Rattle.std.proofs.Common.{◌≡◌, ◌≤◌, ◌<◌, ◌+◌, ◌%◌, ◌^◌, ◌++◌, ◌∷◌, Err, List, Ok, Result, [], length, subst, ℕ}
 use Rattle.std.proofs.lemmas.List.{append-nil}
-use Rattle.canon_lowering.specs.Lowering.{Reallocated}
+use Rattle.canon_lowering.specs.Lowering.{Granted, Misanswered, Reallocated}
 use Rattle.canon_lowering.specs.Stages.{GoesBy, bare}
-use Rattle.canon_memory.specs.Guest.{GuestIn, OnAnswer, Seen}
+use Rattle.canon_memory.specs.Guest.{GuestIn, Moment, OnAnswer, Reallocates, Seen}
 use Rattle.canon_memory.specs.Journal.{realloc_events}
 use Rattle.canon_memory.specs.declared.event.Event.{Event}
 use Rattle.canon_model.specs.Requests.{Call}
@@ -52,3 +52,10 @@ module _ {T G : Type 0} (L : GuestLaws G) (a b : Parts T G) where
   asked_by c (Err (fault.InvalidChar at)) does move = absurd does
   asked_by c (Err (fault.BadDiscriminant at n)) does move = absurd does
   asked_by c (Err fault.HostcallFuelExhausted) does move = absurd does
+
+-- an answer of `realloc` that was tested, and bad in this way, or good
+pub misanswered_bare : (a b : Moment) (c : Call) (p : ℕ) (Bad : Type 0) → Reallocates a b c (Ok p) → Bad → Misanswered (bare a) (bare b) c p Bad
+misanswered_bare a b c p Bad (mark, h) bad = record { mark = mark; answered = h; moves = λ more k on. tt; bad = bad }
+
+pub granted_bare : (a b : Moment) (c : Call) (p : ℕ) → Reallocates a b c (Ok p) → p % c.align ≡ 0 → p + c.new_size ≤ length b.bytes → p < 2 ^ 32 → Granted (bare a) (bare b) c p
+granted_bare a b c p (mark, h) aligned inside narrow = record { mark = mark; answered = h; moves = λ more k on. tt; aligned = aligned; inside = inside; narrow = narrow }

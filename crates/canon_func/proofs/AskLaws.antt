@@ -71,7 +71,7 @@ pub record LowersAs {T G : Type 0} (its : AskForm T) (seen : G → Seen) (moves 
   pub done : OnOk r (trap ≡ None)
   pub late : TrapsLate (length a.memory) trap
   pub rises : IfErr r (λ f. RisesAt (asked_error index f) (moment_of seen a) (moment_of seen b))
-  pub moved : (l es : List Event) → (seen a.guest).journal ≡ Some l → (seen b.guest).journal ≡ Some (l ++ es) → OnAnswered {T = Unit {0}} (asked_answer index r) (moves (guest_of a) es (guest_of b))
+  pub moved : OnAnswered {T = Unit {0}} (asked_answer index r) (moves (guest_of a) (events_of answers trap) (guest_of b))
 
 -- The steps of a form, of an ask on the way from one core to another, say what is said of it; `Logged` is the log after an ask that was served.
 pub record FollowsSteps {T G P S : Type 0} (its : AskForm T) (answers_so : Answering T) (how : Steps T G its.Params P its.Results S) (Logged : Values P its.Results → Option (List LoggedEntry)) (seen : G → Seen) (moves : GuestIn G → List Event → GuestIn G → Type 0)

@@ -39,11 +39,11 @@ use Rattle.canon_func.specs.declared.error.Error.{Error}
 use Rattle.canon_func.specs.declared.error.Error.TheVariants as error
 use Rattle.canon_func.proofs.FormLaws.{form_sound}
 use Rattle.canon_func.proofs.HostStopped.{host_tells}
-use Rattle.canon_func.proofs.Turns.{asked_none, counts_first, done_is, goes_advance, marks_then, ran_exhausted, ran_refused, ran_returned, told_after}
+use Rattle.canon_func.proofs.Turns.{asked_none, counts_first, done_is, goes_advance, marks_then, ran_exhausted, ran_refused, ran_returned}
 
 module _ {T : Type 0} (gives : Giving T) (callee : Callee) (limits : Limits) (Lives : List Leg → List Event → Type 0) (words : List ℕ) (before : Moment) (host : HostSide T) where
   -- it wasn't started, or trapped at once
-  start_failed : (now : Moment) (e : Error) (events : List Event) → Advances before now → (IsSome before.guest.journal → Lives [] events) → Started callee.func words before now (Err e) events → MayRun gives callee limits Lives words before now host host (Err e) [] events
+  start_failed : (now : Moment) (e : Error) (events : List Event) → Advances before now → Lives [] events → Started callee.func words before now (Err e) events → MayRun gives callee limits Lives words before now host host (Err e) [] events
   start_failed now (error.Fault fault.OutOfMemory) events on moves h = inl (refl, h, refl, refl)
   start_failed now (error.Fault fault.GuestTrap) events on moves (rose, are) = inr (record {
     turns = [];
@@ -60,7 +60,7 @@ module _ {T : Type 0} (gives : Giving T) (callee : Callee) (limits : Limits) (Li
     longer = on.no_shorter;
     is = are;
     stopped = (rose, refl, (refl, refl, refl));
-    lived = λ told. subst (λ es. Lives [] es) are (moves told);
+    lived = subst (λ es. Lives [] es) are moves;
   })
   start_failed now e events on moves h = absurd h
 
@@ -70,8 +70,8 @@ module _ {T : Type 0} (gives : Giving T) (callee : Callee) (limits : Limits) (Li
     answers = [];
     events = h.events;
     goes = h.goes;
-    moves = λ told. f h.events h.moves;
-    so = subst (λ l. MayRun gives callee limits Lives words before now host l (Err e) [] h.events) (sym same) (start_failed now e h.events (goes_advance before now _ _ h.goes) (λ told. f h.events h.moves) h.so);
+    moves = f h.events h.moves;
+    so = subst (λ l. MayRun gives callee limits Lives words before now host l (Err e) [] h.events) (sym same) (start_failed now e h.events (goes_advance before now _ _ h.goes) (f h.events h.moves) h.so);
   }
 
   module _ (now : Moment) (served : HostSide T) (count : ℕ) where
@@ -96,17 +96,17 @@ module _ {T : Type 0} (gives : Giving T) (callee : Callee) (limits : Limits) (Li
     }
 
   -- it wasn't served, or didn't go on
-  pub has_stopped : (now after : Moment) (served left : HostSide T) (P : List Leg → List Event → Type 0) (N : List Event → Type 0) (told : IsSome before.guest.journal → IsSome now.guest.journal)
+  pub has_stopped : (now after : Moment) (served left : HostSide T) (P : List Leg → List Event → Type 0) (N : List Event → Type 0)
       (goes_on : (xs ys : List Event) → P [] xs → N ys → Lives [] (xs ++ ys)) (asks : (legs : List Leg) (xs ys : List Event) → P legs xs → N ys → Lives (legs ++ record { events = xs; live = now.guest.live } ∷ []) ys)
       (count index : ℕ) (asked : List ℕ) (e : Error)
       → Stepping gives callee limits P words before now host served count (step.Import index asked) → count < limits.turns → Serving now after N (Serves gives callee limits.fuel index asked now after served left (Err e))
       → Serving before after (Lives []) (MayRun gives callee limits Lives words before after host left (Err e))
-  has_stopped now after served left P N told goes_on asks count index asked e h lt second = record {
+  has_stopped now after served left P N goes_on asks count index asked e h lt second = record {
     answers = answers_in h.turns ++ second.answers;
     events = so_far callee words before h.turns (event.Ask index asked now.bytes ∷ []) ++ second.events;
     goes = subst (λ ms. Goes before after ms (so_far callee words before h.turns (event.Ask index asked now.bytes ∷ []) ++ second.events)) (sym (marks_then (answers_in h.turns) second.answers))
         (goes_then before now after _ _ _ second.events h.goes second.goes);
-    moves = λ there. goes_on _ second.events (h.moves there) (second.moves (told there));
+    moves = goes_on _ second.events h.moves second.moves;
     so = inr (ran_refused gives callee limits Lives words before host now after served left P N goes_on asks count index asked e second.answers second.events h lt second.goes second.moves second.so);
   }
 
@@ -114,7 +114,7 @@ module _ {T : Type 0} (gives : Giving T) (callee : Callee) (limits : Limits) (Li
 
 -- nothing was done
 pub nothing : (s : Seen) (bytes : List ℕ) (M : List Event → Type 0) (IsSo : List Answer → List Event → Type 0) → M [] → IsSo [] [] → Serving (moment s bytes) (moment s bytes) M IsSo
-nothing s bytes M IsSo stays so = record { answers = []; events = []; goes = goes_none s bytes bytes (omega arith); moves = λ told. stays; so = so }
+nothing s bytes M IsSo stays so = record { answers = []; events = []; goes = goes_none s bytes bytes (omega arith); moves = stays; so = so }
 
 -- nothing was asked for
 pub none_asked : (bytes : List ℕ) → NothingAsked bytes bytes [] None
@@ -143,7 +143,7 @@ builtin_resumed gives callee fuel index words a b l n called is answer result M 
   answers = [];
   events = second.events;
   goes = second.goes;
-  moves = λ told. second.moves;
+  moves = second.moves;
   so = resumed_so gives callee fuel index words a a b l n [] (omega arith) (answer ∷ []) result [] second.events
       (inl (record { called = called; is = is; answer = answer; taken = taken; resumed = refl; same = refl; no_request = refl; kept = kept })) refl (goes_none a.guest a.bytes a.bytes (omega arith)) second.goes
       (inl (record { called = called; is = is; left = inr (sym (ap (λ (d : Done ℕ). d.after) taken)); kept = kept }, refl, refl)) second.so;
@@ -171,7 +171,7 @@ module _ {T : Type 0} (gives : Giving T) (callee : Callee) (fuel : ℕ) (asked :
     answers = h.answers;
     events = h.events;
     goes = h.goes;
-    moves = λ told. f h.events (h.moves told);
+    moves = f h.events h.moves;
     so = stops_so a b l n e h.answers h.events h.so.0 h.so.1 h.so.2 h.so.3 h.so.4;
   }
 
@@ -186,7 +186,7 @@ module _ {T : Type 0} (gives : Giving T) (callee : Callee) (fuel : ℕ) (asked :
         answers = first.answers;
         events = first.events ++ second.events;
         goes = subst (λ ms. Goes a b ms (first.events ++ second.events)) (append-nil (marks_of first.answers)) (goes_then a m b (marks_of first.answers) [] first.events second.events first.goes second.goes);
-        moves = λ told. f first.events second.events (first.moves told) second.moves;
+        moves = f first.events second.events first.moves second.moves;
         so = resumed_so gives callee fuel index words a m b l n first.answers first.goes.no_shorter (take count storage) result first.events second.events (inr served) first.so.1 first.goes second.goes
             (inr (inr (take count storage, m.bytes, refl, second.goes.no_shorter, served))) second.so;
       }
@@ -266,7 +266,3 @@ pub row_counted : {T G : Type 0} (a m : Parts T G) (asked : Asked) (export : Exp
     → count ≡ row_words (tuple_members types asked.func.results) → count ≡ row_words (asked_results (export_callee a.component export) asked)
 row_counted a m asked export types component count same is types_are counted =
     counted ∙ ap (λ t. row_words (tuple_members t asked.func.results)) (types_are ∙ (ap (λ (k : Component). k.types.types) is ∙ ap (λ (k : Parts _ _). k.component.types.types) same))
-
--- a journal that was exposed is exposed once the parameters were lowered
-pub told_after_lowering : (a b : Moment) (events : List Event) → AddsEvents a.guest.journal b.guest.journal events → IsSome a.guest.journal → IsSome b.guest.journal
-told_after_lowering a b events added told = told_after a.guest.journal b.guest.journal events added told

@@ -61,7 +61,7 @@ pub record IsReady (args : Arguments) (callee : Callee) (entry mid : Moment) (wo
   pub requested : (ts : Trees) → args.are ts → MetAll (params_requests false (host_asks callee.encoding) callee.params ts) answers
 
 module _ (args : Arguments) (callee : Callee) (entry mid : Moment) (words : List ℕ) where
-  pub ready : {handles : List ℕ} (low : LowersArgs false entry mid (host_texts callee.encoding) callee.params args.are words handles done) → length words ≡ words_within max_params callee.params
+  pub ready : {handles : List ℕ} (low : LowersArgs false (bare entry) (bare mid) (host_texts callee.encoding) callee.params args.are words handles done) → length words ≡ words_within max_params callee.params
       → AsksByTypes callee.params done low.answers low.trap → args.small → IsReady args callee entry mid words low.answers handles
   ready low count quiet small = record {
     start = record {
@@ -174,7 +174,7 @@ module _ {T R : Type 0} (args : Arguments) (its : ReturnedValues R) (gives : Giv
   all_marks : (more : List Answer) → mid.guest.marks ≡ entry.guest.marks ++ marks_of answers → after.guest.marks ≡ mid.guest.marks ++ marks_of more → after.guest.marks ≡ entry.guest.marks ++ marks_of (answers ++ more)
   all_marks more first second = second ∙ (ap (λ ms. ms ++ marks_of more) first ∙ (append_assoc entry.guest.marks (marks_of answers) (marks_of more) ∙ ap (λ ms. entry.guest.marks ++ ms) (sym (marks_then answers more))))
 
-  pub joined : (more : List Answer) (answer : Result R Error) → (IsSome entry.guest.journal → IsSome mid.guest.journal × ((xs : List Event) → P [] xs → Q [] (first ++ xs))
+  pub joined : (more : List Answer) (answer : Result R Error) → (((xs : List Event) → P [] xs → Q [] (first ++ xs))
       × ((leg : Leg) (legs : List Leg) (xs : List Event) → P (leg ∷ legs) xs → Q (record { events = first ++ leg.events; live = leg.live } ∷ legs) xs))
       → IsReady args callee entry mid words answers given → LeavesTake (enter l0.ledger) args.parts given l1.ledger → Advances entry mid → Advances mid after
       → after.guest.marks ≡ mid.guest.marks ++ marks_of more → IsRest its gives callee limits P Leaves words mid after l1 l2 answer more later
@@ -195,7 +195,7 @@ module _ {T R : Type 0} (args : Arguments) (its : ReturnedValues R) (gives : Giv
     late_trap = rest.late_trap;
     tail = rest.tail;
     starts = rest.starts;
-    lived = λ told. let (there, ends, goes) = earlier told in asks_after P Q first ends goes rest.turns rest.late_guest.live rest.tail later (rest.lived there);
+    lived = let (ends, goes) = earlier in asks_after P Q first ends goes rest.turns rest.late_guest.live rest.tail later rest.lived;
     asks = λ none. at_most (asks_in (first ++ later)) (asks_in later) limits.turns asks_later (rest.asks (λ is. not_ok results error.TurnsExhausted is));
     accepted = good_later (length mid.bytes) (length after.bytes) answers on.no_shorter low.start.good;
     marks = all_marks more low.marks marks ∙ ap (λ xs. entry.guest.marks ++ marks_of (answers ++ xs)) rest.answers_are;
@@ -228,7 +228,7 @@ module _ {T R : Type 0} (args : Arguments) (its : ReturnedValues R) (gives : Giv
     late_trap = rest.late_trap;
     tail = rest.tail;
     starts = rest.starts;
-    lived = λ told. let (there, ends, goes) = earlier told in asks_after P Q first ends goes rest.turns rest.late_guest.live rest.tail later (rest.lived there);
+    lived = let (ends, goes) = earlier in asks_after P Q first ends goes rest.turns rest.late_guest.live rest.tail later rest.lived;
     asks = λ none. at_most (asks_in (first ++ later)) (asks_in later) limits.turns asks_later (rest.asks (λ is. none (ap Err (err_same {T = R} e error.TurnsExhausted is))));
     accepted = accepted_after its callee limits mid after later rest.tail answers e rest.cause (good_later (length mid.bytes) (length after.bytes) answers on.no_shorter low.start.good);
     marks = all_marks more low.marks marks ∙ ap (λ xs. entry.guest.marks ++ marks_of (answers ++ xs)) rest.answers_are;

@@ -73,7 +73,7 @@ module _ {T R : Type 0} (its : ReturnedValues R) (gives : Giving T) (callee : Ca
       let none : answers ≡ answers_in ran.turns ++ [] = ran.answers_are ∙ ap (λ ys. answers_in ran.turns ++ ys) ran.stopped.1.0 in
       subst (λ es. IsRest its gives callee limits Lives Leaves words a c l l2 answer answers es) (sym events)
       (rest_of_tail its gives callee limits Lives Leaves words a c l ran.served l2 ran.turns ran.len ran.asked answer a.guest (counts_first a c on) answers [] None tail none
-      (λ told. returned_more P Lives later f (event.Start callee.func words a.bytes ∷ []) ran.turns ran.late_guest.live returned b.bytes (subst (λ es. AsksFrom P (event.Start callee.func words a.bytes ∷ []) ran.turns ran.late_guest.live es) ran.stopped.0 (ran.lived told)))
+      (returned_more P Lives later f (event.Start callee.func words a.bytes ∷ []) ran.turns ran.late_guest.live returned b.bytes (subst (λ es. AsksFrom P (event.Start callee.func words a.bytes ∷ []) ran.turns ran.late_guest.live es) ran.stopped.0 ran.lived))
       (subst (λ (k : HostSide T). IsTail its gives callee limits Leaves a c (length ran.turns) ran.len k l2 answer a.guest [] None tail) ran.stopped.1.2 h))
 
   -- the guest returned, and the scope ended
@@ -87,7 +87,7 @@ module _ {T R : Type 0} (its : ReturnedValues R) (gives : Giving T) (callee : Ca
         answers = first.answers;
         events = first.events ++ second.events;
         goes = subst (λ ms. Goes a c ms (first.events ++ second.events)) (append-nil (marks_of first.answers)) (goes_then a b c (marks_of first.answers) [] first.events second.events first.goes second.goes);
-        moves = λ told. f [] first.events second.events (first.moves told) second.moves;
+        moves = f [] first.events second.events first.moves second.moves;
         so = rest_of_ran P a b c l out.ran l2 returned answer first.answers first.events second.events out.run
             (goes_advance a c _ _ (goes_then a b c (marks_of first.answers) [] first.events second.events first.goes second.goes)) (λ legs es h. f legs es second.events h second.moves)
             (returned_rest its gives callee limits Leaves law a b c (length out.run.turns) out.run.len out.ran l2 whole returned out.run.few out.run.longer (goes_advance a b _ _ first.goes) (goes_advance b c _ _ second.goes)
@@ -96,19 +96,19 @@ module _ {T R : Type 0} (its : ReturnedValues R) (gives : Giving T) (callee : Ca
 
   -- the guest stopped
   module _ (lawful_forms : (n : ℕ) → IsLawful (gives.form n)) (P : List Leg → List Event → Type 0) (f : (legs : List Leg) (es : List Event) → P legs es → Lives legs es) where
-    rest_stopped : (a b : Moment) (l l2 : HostSide T) (e : Error) (answers : List Answer) (xs : List Event) → Advances a b → (IsSome a.guest.journal → P [] xs) → MayRun gives callee limits P words a b l l2 (Err e) answers xs
+    rest_stopped : (a b : Moment) (l l2 : HostSide T) (e : Error) (answers : List Answer) (xs : List Event) → Advances a b → P [] xs → MayRun gives callee limits P words a b l l2 (Err e) answers xs
         → IsRest its gives callee limits Lives Leaves words a b l l2 (Err e) answers xs
     rest_stopped a b l l2 e answers xs on moves (inl (is, none, quiet, same)) =
         subst (λ k. IsRest its gives callee limits Lives Leaves words a b l k (Err e) answers xs) (sym same) (subst (λ es. IsRest its gives callee limits Lives Leaves words a b l l (Err e) answers es) (sym none)
         (subst (λ ys. IsRest its gives callee limits Lives Leaves words a b l l (Err e) ys []) (sym quiet)
-        (subst (λ r. IsRest its gives callee limits Lives Leaves words a b l l (Err r) [] []) (sym (err_same {T = List ℕ} e (error.Fault fault.OutOfMemory) is)) (rest_of_none its gives callee limits Lives Leaves words a b l on (λ told. f [] [] (subst (λ es. P [] es) none (moves told)))))))
+        (subst (λ r. IsRest its gives callee limits Lives Leaves words a b l l (Err r) [] []) (sym (err_same {T = List ℕ} e (error.Fault fault.OutOfMemory) is)) (rest_of_none its gives callee limits Lives Leaves words a b l on (f [] [] (subst (λ es. P [] es) none moves))))))
     rest_stopped a b l l2 e answers xs on moves (inr ran) = subst (λ es. IsRest its gives callee limits Lives Leaves words a b l l2 (Err e) answers es) (sym ran.is)
         (rest_of_tail its gives callee limits Lives Leaves words a b l ran.served l2 ran.turns ran.len ran.asked (Err e) ran.late_guest ran.late_counts answers ran.late ran.late_trap ran.tail ran.answers_are
-        (λ told. from_so P Lives f (event.Start callee.func words a.bytes ∷ []) ran.turns ran.late_guest.live ran.tail (ran.lived told))
+        (from_so P Lives f (event.Start callee.func words a.bytes ∷ []) ran.turns ran.late_guest.live ran.tail ran.lived)
         (stopped_rest its gives lawful_forms callee limits Leaves a b (length ran.turns) ran.len ran.served l2 e ran.late_guest ran.late ran.late_trap ran.tail ran.longer ran.few ran.stopped))
 
     -- the guest stopped, or it returned and the scope didn't end
-    rest_refused : (a b : Moment) (l l2 : HostSide T) (e : Error) (answers : List Answer) (xs : List Event) → Advances a b → (IsSome a.guest.journal → P [] xs) → RunsToEnd gives callee limits P words a b l l2 (Err e) answers xs
+    rest_refused : (a b : Moment) (l l2 : HostSide T) (e : Error) (answers : List Answer) (xs : List Event) → Advances a b → P [] xs → RunsToEnd gives callee limits P words a b l l2 (Err e) answers xs
         → IsRest its gives callee limits Lives Leaves words a b l l2 (Err e) answers xs
     rest_refused a b l l2 e answers xs on moves (inl ran) = rest_stopped a b l l2 e answers xs on moves ran
     rest_refused a b l l2 e answers xs on moves (inr (returned, out)) =
@@ -122,7 +122,7 @@ module _ {T R : Type 0} (its : ReturnedValues R) (gives : Giving T) (callee : Ca
       answers = first.answers;
       events = first.events;
       goes = first.goes;
-      moves = λ told. f [] first.events (first.moves told);
+      moves = f [] first.events first.moves;
       so = rest_refused a b l l2 e first.answers first.events (goes_advance a b _ _ first.goes) first.moves first.so;
     }
 
@@ -147,7 +147,7 @@ module _ {T : Type 0} (gives : Giving T) (callee : Callee) (limits : Limits) (Li
     longer = h.longer;
     is = h.is;
     stopped = h.stopped;
-    lived = λ told. from_so Lives Q f (event.Start callee.func words a.bytes ∷ []) h.turns h.late_guest.live h.tail (h.lived told);
+    lived = from_so Lives Q f (event.Start callee.func words a.bytes ∷ []) h.turns h.late_guest.live h.tail h.lived;
   }
 
   -- the guest returned, and the scope ended so, which changes nothing but the ledger
@@ -162,7 +162,7 @@ module _ {T : Type 0} (gives : Giving T) (callee : Callee) (limits : Limits) (Li
 
   pub run_unended : (Q : List Leg → List Event → Type 0) → ((legs : List Leg) (es : List Event) → Lives legs es → Q legs es) → (e : Error) → Ended callee returned m.ledger n.ledger (Err e)
       → Serving a b (Lives []) (MayRun gives callee limits Lives words a b l m (Ok returned)) → Serving a b (Q []) (RunsToEnd gives callee limits Q words a b l n (Err e))
-  run_unended Q f e ends first = record { answers = first.answers; events = first.events; goes = first.goes; moves = λ told. f [] first.events (first.moves told); so = inr (returned, out_of Q f (Err e) first.answers first.events ends first.so) }
+  run_unended Q f e ends first = record { answers = first.answers; events = first.events; goes = first.goes; moves = f [] first.events first.moves; so = inr (returned, out_of Q f (Err e) first.answers first.events ends first.so) }
 
 -- ---- after the scope ended
 
@@ -243,7 +243,7 @@ lowered_is_late args callee a b l l2 es (error.HostRefused n) h = absurd h
 
 module _ {T R : Type 0} (args : Arguments) (its : ReturnedValues R) (gives : Giving T) (callee : Callee) (limits : Limits) (Lives : List Leg → List Event → Type 0) (Leaves : List ℕ → List ℕ → Type 0) where
   -- memory ran out for the scope
-  pub scope_short : (s : Seen) (bytes : List ℕ) (l0 l2 : HostSide T) → l2 ≡ l0 → (IsSome s.journal → Lives [] [])
+  pub scope_short : (s : Seen) (bytes : List ℕ) (l0 l2 : HostSide T) → l2 ≡ l0 → Lives [] []
       → Adding (moment s bytes) (moment s bytes) (Lives []) (IsCallOf args its Lives Leaves gives callee limits (moment s bytes) (moment s bytes) l0 l2 (Err (error.Fault fault.OutOfMemory)))
   scope_short s bytes l0 l2 same stays = record {
     events = [];
@@ -252,13 +252,13 @@ module _ {T R : Type 0} (args : Arguments) (its : ReturnedValues R) (gives : Giv
     so = short_call args its gives callee limits Lives Leaves (moment s bytes) (moment s bytes) l0 l2 stays refl (inl (refl, refl, same));
   }
 
-  core_refused : BlamesRightly args → (a b : Moment) (l0 l2 : HostSide T) → l2 ≡ record l0 { ledger = l2.ledger } → (e : Error) (es : List Event) → (IsSome a.guest.journal → Lives [] es) → LoweredArgs args callee a b (enter l0.ledger) l2.ledger (Err e) es
+  core_refused : BlamesRightly args → (a b : Moment) (l0 l2 : HostSide T) → l2 ≡ record l0 { ledger = l2.ledger } → (e : Error) (es : List Event) → Lives [] es → LoweredArgs args callee a b (enter l0.ledger) l2.ledger (Err e) es
       → IsCallOf args its Lives Leaves gives callee limits a b l0 l2 (Err e) es
   core_refused law a b l0 l2 left (error.Fault f) es moves (inl (short, same, kept, none)) = subst (λ fs. IsCallOf args its Lives Leaves gives callee limits a b l0 l2 (Err (error.Fault f)) fs) (sym none)
       (subst (λ g. IsCallOf args its Lives Leaves gives callee limits a b l0 l2 (Err (error.Fault g)) []) (sym short)
-      (short_call args its gives callee limits Lives Leaves a b l0 l2 (λ told. subst (λ fs. Lives [] fs) none (moves told)) same (inr (inl (tt, stops_at_once (enter l0.ledger) l2.ledger args.parts kept, left)))))
+      (short_call args its gives callee limits Lives Leaves a b l0 l2 (subst (λ fs. Lives [] fs) none moves) same (inr (inl (tt, stops_at_once (enter l0.ledger) l2.ledger args.parts kept, left)))))
   core_refused law a b l0 l2 left (error.Fault f) es moves (inr (words, handles, ending, low, ends, blames, told, is, quiet, stops)) = subst (λ fs. IsCallOf args its Lives Leaves gives callee limits a b l0 l2 (Err (error.Fault f)) fs) (sym is)
-      (refused_call args its gives callee limits Lives Leaves law a b l0 l2 left f ending words handles low (λ told. subst (λ fs. Lives [] fs) is (moves told)) ends blames told quiet stops)
+      (refused_call args its gives callee limits Lives Leaves law a b l0 l2 left f ending words handles low (subst (λ fs. Lives [] fs) is moves) ends blames told quiet stops)
   core_refused law a b l0 l2 left error.WrongCount es moves h = absurd h
   core_refused law a b l0 l2 left error.AsyncLifted es moves h = absurd h
   core_refused law a b l0 l2 left error.CannotEnterComponent es moves h = absurd h
@@ -274,21 +274,21 @@ module _ {T R : Type 0} (args : Arguments) (its : ReturnedValues R) (gives : Giv
 
   -- the parameters were lowered
   pub call_started : (P : List Leg → List Event → Type 0) (a b c : Moment) (l l1 l2 : HostSide T) → l1 ≡ record l { ledger = l1.ledger } → (words : Vec ℕ Global) (answer : Result R Error) (M : List Event → Type 0)
-      → (IsSome a.guest.journal → IsSome b.guest.journal) → ((xs ys : List Event) → M xs → P [] ys → Lives [] (xs ++ ys))
+      → ((xs ys : List Event) → M xs → P [] ys → Lives [] (xs ++ ys))
       → ((xs : List Event) → M xs → (leg : Leg) (legs : List Leg) (ys : List Event) → P (leg ∷ legs) ys → Lives (record { events = xs ++ leg.events; live = leg.live } ∷ legs) ys)
       → Adding a b M (LoweredArgs args callee a b l.ledger l1.ledger (Ok words)) → Serving b c (P []) (IsRest its gives callee limits P Leaves words.items b c l1 l2 answer) → Adding a c (Lives []) (InScope l a c l2 answer)
-  call_started P a b c l l1 l2 same words answer M told f g first second =
-      let low : LowersArgs false a b (host_texts callee.encoding) callee.params args.are words.items first.so.0 done = first.so.1 in
+  call_started P a b c l l1 l2 same words answer M f g first second =
+      let low : LowersArgs false (bare a) (bare b) (host_texts callee.encoding) callee.params args.are words.items first.so.0 done = first.so.1 in
       let xs : List Event = events_of low.answers low.trap in
       let ys : List Event = second.events in
       record {
         events = xs ++ ys;
         added = (goes_then a b c (marks_of low.answers) (marks_of second.answers) xs ys low.lowering.goes second.goes).events;
-        moves = λ there. f xs ys (subst M first.so.2 (first.moves there)) (second.moves (told there));
+        moves = f xs ys (subst M first.so.2 first.moves) second.moves;
         so = λ before entered. subst (λ o. IsCallOf args its Lives Leaves gives callee limits a c (record l { ledger = before }) l2 answer (events_of low.answers o ++ ys)) (sym low.lowering.cause)
             (joined args its gives callee limits P Lives Leaves a b c (record l { ledger = before }) l1 l2 same words.items low.answers first.so.0 ys second.answers answer
-            (λ there. let moved : M (events_of low.answers None) = subst (λ o. M (events_of low.answers o)) low.lowering.cause (subst M first.so.2 (first.moves there)) in
-            (told there, λ es h. f (events_of low.answers None) es moved h, g (events_of low.answers None) moved)) (ready args callee a b words.items low first.so.3 first.so.4 first.so.5)
+            (let moved : M (events_of low.answers None) = subst (λ o. M (events_of low.answers o)) low.lowering.cause (subst M first.so.2 first.moves) in
+            (λ es h. f (events_of low.answers None) es moved h, g (events_of low.answers None) moved)) (ready args callee a b words.items low first.so.3 first.so.4 first.so.5)
             (subst (λ k. LeavesTake k args.parts first.so.0 l1.ledger) (sym entered) first.so.6)
             (goes_advance a b _ _ low.lowering.goes) (goes_advance b c _ _ second.goes) second.goes.marks second.so);
       }

@@ -53,41 +53,46 @@ pointer_counts a n k e = (
 -- ---- results that were lowered
 
 -- what was lowered, from one moment to another
-pub record AskLowered (callee : Callee) (asked : Asked) (at : ℕ) (a b : Moment) (results : List Val) (words : List ℕ) (l n : LedgerState) (r : Result (Unit {0}) Fault) : Type 0 where
+pub record AskLowered {K : Type 0} (callee : Callee) (asked : Asked) (at : ℕ) (a b : Stage K) (results : List Val) (words : List ℕ) (l n : LedgerState) (r : Result (Unit {0}) Fault) : Type 0 where
   pub answers : List Answer
   pub trap : Option Trap
   pub ending : Ending
   pub ends : EndsAs (have_handle (asked_results callee asked)) (all_passes (asked_results callee asked) results) r ending
-  pub lowers : AskLowers callee asked at a b results words answers trap l n r
-  pub goes : Goes a b (marks_of answers) (events_of answers trap)
-  pub cause : CauseOf a b answers trap ending
+  pub lowers : AskLowers callee asked at (moment_at a) (moment_at b) results words answers trap l n r
+  pub goes : Goes (moment_at a) (moment_at b) (marks_of answers) (events_of answers trap)
+  pub moves : UnlessShort ending (GoesBy a b (events_of answers trap))
+  pub cause : CauseOf (moment_at a) (moment_at b) answers trap ending
 
 -- the same without its handles
-pub record IntoBy (callee : Callee) (asked : Asked) (at : ℕ) (a b : Moment) (results : List Val) (words : List ℕ) (hs : List ℕ) (ending : Ending) : Type 0 where
+pub record IntoBy {K : Type 0} (callee : Callee) (asked : Asked) (at : ℕ) (a b : Stage K) (results : List Val) (words : List ℕ) (hs : List ℕ) (ending : Ending) : Type 0 where
   pub answers : List Answer
   pub trap : Option Trap
-  pub into : LowersInto a b callee asked at results words answers trap hs ending
-  pub goes : Goes a b (marks_of answers) (events_of answers trap)
-  pub cause : CauseOf a b answers trap ending
+  pub into : LowersInto (moment_at a) (moment_at b) callee asked at results words answers trap hs ending
+  pub goes : Goes (moment_at a) (moment_at b) (marks_of answers) (events_of answers trap)
+  pub moves : UnlessShort ending (GoesBy a b (events_of answers trap))
+  pub cause : CauseOf (moment_at a) (moment_at b) answers trap ending
 
 pub not_far : (n : ℕ) → n ≤ max_results → max_results < n → ⊥
 not_far n a b = omega (arith, a, b)
 
-module _ (callee : Callee) (asked : Asked) (at : ℕ) (a b : Moment) (results : List Val) (words : List ℕ) where
+module _ {K : Type 0} (callee : Callee) (asked : Asked) (at : ℕ) (a b : Stage K) (results : List Val) (words : List ℕ) where
   pub into_by : (hs : List ℕ) (ending : Ending) → LowersResults a b (asked_origin callee asked a.bytes).encoding (asked_results callee asked) (HaveTrees (asked_results callee asked) results) at words hs ending → IntoBy callee asked at a b results words hs ending
+  unfolding attempt_bare
   into_by hs ending h = ⊎_elim
       (λ far. let low = h.far far in record {
         answers = low.answers;
         trap = low.trap;
-        into = record { near = λ near. absurd (not_far (members_flat (asked_results callee asked)) near far); far = λ again. (low, refl, refl) };
+        into = record { near = λ near. absurd (not_far (members_flat (asked_results callee asked)) near far); far = λ again. (attempt_bare false a b _ _ ending low, refl, refl) };
         goes = low.lowering.goes;
+        moves = low.lowering.moves;
         cause = low.lowering.cause;
       })
       (λ near. let low = h.near near in record {
         answers = low.answers;
         trap = low.trap;
-        into = record { near = λ again. (low, refl, refl); far = λ far. absurd (not_far (members_flat (asked_results callee asked)) near far) };
+        into = record { near = λ again. (attempt_bare false a b _ _ ending low, refl, refl); far = λ far. absurd (not_far (members_flat (asked_results callee asked)) near far) };
         goes = low.lowering.goes;
+        moves = low.lowering.moves;
         cause = low.lowering.cause;
       })
       (cases_lt max_results (members_flat (asked_results callee asked)))
@@ -129,12 +134,19 @@ no_rise index (fault.Resource resource.OutOfMemory) a b other = tt
 no_rise index (fault.Resource r) a b other = tt
 no_rise index f a b other = tt
 
-pub asked_moves : {G : Type 0} (V : Type 0) (seen : G → Seen) (moves : GuestIn G → List Event → GuestIn G → Type 0) (g h : GuestIn G) (index : ℕ) (f : Fault) → Moves seen moves g h (fault_ending f)
-    → (l es : List Event) → (seen g.guest).journal ≡ Some l → (seen h.guest).journal ≡ Some (l ++ es) → OnAnswered {T = V} (Err (asked_error index f)) (moves g es h)
-asked_moves V seen moves g h index fault.OutOfMemory m l es p q = tt
-asked_moves V seen moves g h index (fault.Resource resource.OutOfMemory) m l es p q = tt
-asked_moves V seen moves g h index (fault.Resource r) m l es p q = m l es p q
-asked_moves V seen moves g h index f m l es p q = m l es p q
+-- what a refused lowering says of the guest's moves
+pub asked_moves : (V : Type 0) (index : ℕ) (f : Fault) (P : Type 0) → UnlessShort (fault_ending f) P → OnAnswered {T = V} (Err (asked_error index f)) P
+asked_moves V index fault.OutOfMemory P m = tt
+asked_moves V index (fault.Resource resource.OutOfMemory) P m = tt
+asked_moves V index (fault.Resource r) P m = m
+asked_moves V index f P m = m
+
+-- the same by how it ended
+pub asked_moves_by : (V : Type 0) (index : ℕ) (some : Bool) (ps : List PassedResource) (f : Fault) (ending : Ending) (P : Type 0) → EndsAs {T = Unit {0}} some ps (Err f) ending → UnlessShort ending P → OnAnswered {T = V} (Err (asked_error index f)) P
+asked_moves_by V index some ps fault.OutOfMemory ending P ends m = tt
+asked_moves_by V index some ps (fault.Resource resource.OutOfMemory) ending P ends m = tt
+asked_moves_by V index some ps (fault.Resource r) ending P ends m = subst (λ end. UnlessShort end P) ends m
+asked_moves_by V index some ps f ending P ends m = asked_moves V index f P (subst (λ end. UnlessShort end P) ends m)
 
 -- ---- the count of refusals
 
@@ -174,27 +186,27 @@ no_lawful_end a b answers trap at lawful cause = last_lawful answers at _ (λ x 
 
 -- ---- what is asked of steps
 
-module _ {T G : Type 0} (seen : G → Seen) (moves : GuestIn G → List Event → GuestIn G → Type 0) (index : ℕ) (a b : Parts T G) (callee : Callee) (asked : Asked) (at : ℕ) (results : List Val) (words storage2 : List ℕ) (are : words ≡ take (members_flat (asked_results callee asked)) storage2)
+module _ {T G : Type 0} (L : GuestLaws G) (index : ℕ) (a b : Parts T G) (callee : Callee) (asked : Asked) (at : ℕ) (results : List Val) (words storage2 : List ℕ) (are : words ≡ take (members_flat (asked_results callee asked)) storage2)
     (l : LedgerState) where
-  pub lowered_as : (r : Result (Unit {0}) Fault) → AskLowered callee asked at (moment_of seen a) (moment_of seen b) results words l b.ledger r → Moves seen moves (guest_of a) (guest_of b) (ending_of r)
-      → LowersAs ask_values seen moves index a b callee asked storage2 at results l r
-  lowered_as (Ok x) by moved = record {
+  pub lowered_as : (r : Result (Unit {0}) Fault) → AskLowered callee asked at (stage_of L.seen L.moves a) (stage_of L.seen L.moves b) results words l b.ledger r
+      → LowersAs ask_values L.seen L.moves index a b callee asked storage2 at results l r
+  lowered_as (Ok x) by = record {
     answers = by.answers;
     trap = by.trap;
-    lowers = subst (λ ws. AskLowers callee asked at (moment_of seen a) (moment_of seen b) results ws by.answers by.trap l b.ledger (Ok tt)) are by.lowers;
+    lowers = subst (λ ws. AskLowers callee asked at (moment_of L.seen a) (moment_of L.seen b) results ws by.answers by.trap l b.ledger (Ok tt)) are by.lowers;
     goes = by.goes;
-    done = subst (λ e. CauseOf (moment_of seen a) (moment_of seen b) by.answers by.trap e) by.ends by.cause;
-    late = traps_late (moment_of seen a) (moment_of seen b) by.answers by.trap by.ending by.cause;
+    done = subst (λ e. CauseOf (moment_of L.seen a) (moment_of L.seen b) by.answers by.trap e) by.ends by.cause;
+    late = traps_late (moment_of L.seen a) (moment_of L.seen b) by.answers by.trap by.ending by.cause;
     rises = tt;
-    moved = moved;
+    moved = moved_by L a b (events_of by.answers by.trap) (subst (λ end. UnlessShort end (GoesBy (stage_of L.seen L.moves a) (stage_of L.seen L.moves b) (events_of by.answers by.trap))) by.ends by.moves);
   }
-  lowered_as (Err f) by moved = record {
+  lowered_as (Err f) by = record {
     answers = by.answers;
     trap = by.trap;
-    lowers = subst (λ ws. AskLowers callee asked at (moment_of seen a) (moment_of seen b) results ws by.answers by.trap l b.ledger (Err f)) are by.lowers;
+    lowers = subst (λ ws. AskLowers callee asked at (moment_of L.seen a) (moment_of L.seen b) results ws by.answers by.trap l b.ledger (Err f)) are by.lowers;
     goes = by.goes;
     done = tt;
-    late = traps_late (moment_of seen a) (moment_of seen b) by.answers by.trap by.ending by.cause;
-    rises = rises index _ _ f (moment_of seen a) (moment_of seen b) by.answers by.trap by.ending by.ends by.cause;
-    moved = asked_moves (Unit {0}) seen moves (guest_of a) (guest_of b) index f moved;
+    late = traps_late (moment_of L.seen a) (moment_of L.seen b) by.answers by.trap by.ending by.cause;
+    rises = rises index _ _ f (moment_of L.seen a) (moment_of L.seen b) by.answers by.trap by.ending by.ends by.cause;
+    moved = asked_moves_by (Unit {0}) index _ _ f by.ending (L.moves (guest_of a) (events_of by.answers by.trap) (guest_of b)) by.ends (unless by.ending _ _ (moved_by L a b (events_of by.answers by.trap)) by.moves);
   }

@@ -41,7 +41,6 @@ use Rattle.canon_func.specs.declared.error.Error.TheVariants as error
 use Rattle.canon_func.proofs.AskLaws.{AskSound, FollowsSteps}
 use Rattle.canon_func.proofs.Composed.{answers as answered}
 use Rattle.canon_func.proofs.HostLowered.{CountsHost, fault_counted, host_counted, no_rise, no_trap_there, pointer_counts, row_is, stopped_counted}
-use Rattle.canon_func.proofs.Lowered.{told as told_moves}
 use Rattle.canon_func.proofs.Turns.{done_is}
 
 -- how it ended: on the way from one core to another, with the words of the results in storage
@@ -144,8 +143,7 @@ module _ {T G P S : Type 0} (its : AskForm T) (sound : AskSound its) (seen : G �
         answers = by.answers;
         events = events_of by.answers None;
         goes = subst (λ o. Goes (moment_of seen a) (moment_of seen b) (marks_of by.answers) (events_of by.answers o)) none by.goes;
-        moves = told_moves (seen a.guest).journal (seen b.guest).journal (events_of by.answers None) (λ es. moves (guest_of a) es (guest_of b))
-            (subst (λ o. AddsEvents (seen a.guest).journal (seen b.guest).journal (events_of by.answers o)) none by.goes.events) by.moved;
+        moves = subst (λ o. moves (guest_of a) (events_of by.answers o) (guest_of b)) none by.moved;
         so = (
           record {
             asked = asked;
@@ -188,7 +186,7 @@ module _ {T G P S : Type 0} (its : AskForm T) (sound : AskSound its) (seen : G �
       answers = [];
       events = [];
       goes = subst (λ (k : Parts T G). Goes (moment_of seen a) (moment_of seen k) [] []) (sym same) (goes_none (seen a.guest) a.memory a.memory (omega arith));
-      moves = λ told. answered {T = Unit {0}} (Err e) (moves (guest_of a) [] (guest_of b)) (subst (λ (k : Parts T G). moves (guest_of a) [] (guest_of k)) (sym same) stays);
+      moves = answered {T = Unit {0}} (Err e) (moves (guest_of a) [] (guest_of b)) (subst (λ (k : Parts T G). moves (guest_of a) [] (guest_of k)) (sym same) stays);
       so = (None, stopped_with [] None e counts (ap (λ (k : Parts T G). k.id) same) stops, refl, tt, rise);
     }
 
@@ -218,7 +216,7 @@ module _ {T G P S : Type 0} (its : AskForm T) (sound : AskSound its) (seen : G �
           answers = by.answers;
           events = events_of by.answers by.trap;
           goes = by.goes;
-          moves = told_moves (seen a.guest).journal (seen b.guest).journal (events_of by.answers by.trap) (λ es. OnAnswered {T = Unit {0}} (Err (asked_error index x)) (moves (guest_of a) es (guest_of b))) by.goes.events by.moved;
+          moves = by.moved;
           so = (
             by.trap,
             stopped_with by.answers by.trap (asked_error index x) (fault_counted index x none_refused)

@@ -10,20 +10,20 @@ use Rattle.canon_model.specs.Shape.{Members}
 use Rattle.canon_model.specs.Text.{Encoding}
 use Rattle.canon_memory.specs.declared.event.Event.{Event}
 use Rattle.canon_memory.specs.Guest.{GuestIn, Moment, Seen}
-use Rattle.canon_memory.specs.Journal.{AddsEvents}
 use Rattle.canon_types.specs.Instance.{Instance}
 use Rattle.canon_types.specs.Table.{TypeTable, tuple_members}
 use Rattle.canon_types.specs.declared.types.TypeFunc.{TypeFunc}
 use Rattle.canon_ledger.specs.Ledger.{LedgerState}
 use Rattle.canon_leaves.specs.Parts.{LeavesStop, LeavesTake, PassedResource, lower_parts}
 use Rattle.canon_lowering.proofs.Lowerings.{none_answered}
+use Rattle.canon_lowering.proofs.Attempts.{attempt_bare}
 use Rattle.canon_lowering.specs.Attempt.{LowersArgs}
-use Rattle.canon_lowering.specs.Lowering.{Answer, CauseOf, Ending, Trap, done, events_of, marks_of, refused, short}
+use Rattle.canon_lowering.specs.Lowering.{Answer, CauseOf, Ending, Trap, UnlessShort, done, events_of, marks_of, refused, short}
+use Rattle.canon_lowering.specs.Stages.{GoesBy, Stage, bare, moment_at}
 use Rattle.canon_context.specs.Core.{Parts}
 use Rattle.canon_value_parts.specs.Args.{LowersParams}
 use Rattle.canon_value_parts.specs.Fails.{AreSmall, BlamesMembers}
 use Rattle.canon_context.specs.Lowers.{fault_ending}
-use Rattle.canon_context.specs.Moves.{Moves}
 use Rattle.canon_context.specs.Quiet.{have_block, have_handle}
 use Rattle.canon_value_parts.specs.Resources.{Crosses, EndsAs, UsesLedger, all_passes, told_fault}
 use Rattle.canon_context.specs.Faults.{stop_of}
@@ -36,12 +36,6 @@ use Rattle.canon_func.specs.Passing.{Arguments}
 use Rattle.canon_func.specs.Steps.{EndsFor, LowersFor}
 use Rattle.canon_func.specs.Stores.{params_in}
 use Rattle.canon_func.specs.declared.error.Error.TheVariants as error
-
--- a fact of the new events of an exposed journal
-pub told : (before after : Option (List Event)) (events : List Event) (P : List Event → Type 0) → AddsEvents before after events
-    → ((l es : List Event) → before ≡ Some l → after ≡ Some (l ++ es) → P es) → IsSome before → P events
-told None after events P added so there = absurd (false≢true there)
-told (Some l) after events P added so there = so l events refl added
 
 -- the members of the tuple are the callee's parameters
 pub params_are : (t u : TypeTable) (i : ℕ) (f : TypeFunc) → u ≡ t → slice_get u.funcs i ≡ Some f → tuple_members t f.params ≡ params_in t (slice_get t.funcs i)
@@ -79,75 +73,100 @@ ends_for T some ps fault.OutOfMemory ending (inr both) = inr both.1
 ends_for T some ps f ending is = is
 
 -- what a refused lowering says of the guest's moves
-pub refused_moves : {G : Type 0} (V : Type 0) (seen : G → Seen) (moves : GuestIn G → List Event → GuestIn G → Type 0) (g h : GuestIn G) (f : Fault) → Moves seen moves g h (fault_ending f)
-    → (l es : List Event) → (seen g.guest).journal ≡ Some l → (seen h.guest).journal ≡ Some (l ++ es) → OnAnswered {T = V} (Err (error.Fault f)) (moves g es h)
-refused_moves V seen moves g h fault.OutOfMemory m l es p q = tt
-refused_moves V seen moves g h (fault.TypeMismatch k) m l es p q = m l es p q
-refused_moves V seen moves g h (fault.FieldName k) m l es p q = m l es p q
-refused_moves V seen moves g h (fault.UnknownCase k) m l es p q = m l es p q
-refused_moves V seen moves g h (fault.UnknownFlag k) m l es p q = m l es p q
-refused_moves V seen moves g h (fault.PayloadExpected k) m l es p q = m l es p q
-refused_moves V seen moves g h (fault.PayloadNotExpected k) m l es p q = m l es p q
-refused_moves V seen moves g h (fault.LengthMismatch k) m l es p q = m l es p q
-refused_moves V seen moves g h (fault.StringTooLong n) m l es p q = m l es p q
-refused_moves V seen moves g h (fault.SizeOverflow n) m l es p q = m l es p q
-refused_moves V seen moves g h (fault.ReallocMisaligned k) m l es p q = m l es p q
-refused_moves V seen moves g h (fault.ReallocOutOfBounds k) m l es p q = m l es p q
-refused_moves V seen moves g h fault.GuestTrap m l es p q = m l es p q
-refused_moves V seen moves g h (fault.PointerMisaligned at) m l es p q = m l es p q
-refused_moves V seen moves g h (fault.PointerOutOfBounds at) m l es p q = m l es p q
-refused_moves V seen moves g h (fault.InvalidUtf8 at) m l es p q = m l es p q
-refused_moves V seen moves g h (fault.InvalidUtf16 at) m l es p q = m l es p q
-refused_moves V seen moves g h (fault.InvalidChar at) m l es p q = m l es p q
-refused_moves V seen moves g h (fault.BadDiscriminant at d) m l es p q = m l es p q
-refused_moves V seen moves g h fault.HostcallFuelExhausted m l es p q = m l es p q
-refused_moves V seen moves g h (fault.Resource r) m l es p q = m l es p q
+pub refused_moves : (V : Type 0) (f : Fault) (P : Type 0) → UnlessShort (fault_ending f) P → OnAnswered {T = V} (Err (error.Fault f)) P
+refused_moves V fault.OutOfMemory P m = tt
+refused_moves V (fault.TypeMismatch k) P m = m
+refused_moves V (fault.FieldName k) P m = m
+refused_moves V (fault.UnknownCase k) P m = m
+refused_moves V (fault.UnknownFlag k) P m = m
+refused_moves V (fault.PayloadExpected k) P m = m
+refused_moves V (fault.PayloadNotExpected k) P m = m
+refused_moves V (fault.LengthMismatch k) P m = m
+refused_moves V (fault.StringTooLong n) P m = m
+refused_moves V (fault.SizeOverflow n) P m = m
+refused_moves V (fault.ReallocMisaligned k) P m = m
+refused_moves V (fault.ReallocOutOfBounds k) P m = m
+refused_moves V fault.GuestTrap P m = m
+refused_moves V (fault.PointerMisaligned at) P m = m
+refused_moves V (fault.PointerOutOfBounds at) P m = m
+refused_moves V (fault.InvalidUtf8 at) P m = m
+refused_moves V (fault.InvalidUtf16 at) P m = m
+refused_moves V (fault.InvalidChar at) P m = m
+refused_moves V (fault.BadDiscriminant at d) P m = m
+refused_moves V fault.HostcallFuelExhausted P m = m
+refused_moves V (fault.Resource r) P m = m
+
+-- the same by how it ended
+pub ended_moves : (V : Type 0) (f : Fault) (ending : Ending) (P : Type 0) → EndsFor f ending → UnlessShort ending P → OnAnswered {T = V} (Err (error.Fault f)) P
+ended_moves V fault.OutOfMemory ending P ends m = tt
+ended_moves V (fault.TypeMismatch k) ending P ends m = subst (λ end. UnlessShort end P) ends m
+ended_moves V (fault.FieldName k) ending P ends m = subst (λ end. UnlessShort end P) ends m
+ended_moves V (fault.UnknownCase k) ending P ends m = subst (λ end. UnlessShort end P) ends m
+ended_moves V (fault.UnknownFlag k) ending P ends m = subst (λ end. UnlessShort end P) ends m
+ended_moves V (fault.PayloadExpected k) ending P ends m = subst (λ end. UnlessShort end P) ends m
+ended_moves V (fault.PayloadNotExpected k) ending P ends m = subst (λ end. UnlessShort end P) ends m
+ended_moves V (fault.LengthMismatch k) ending P ends m = subst (λ end. UnlessShort end P) ends m
+ended_moves V (fault.StringTooLong n) ending P ends m = subst (λ end. UnlessShort end P) ends m
+ended_moves V (fault.SizeOverflow n) ending P ends m = subst (λ end. UnlessShort end P) ends m
+ended_moves V (fault.ReallocMisaligned k) ending P ends m = subst (λ end. UnlessShort end P) ends m
+ended_moves V (fault.ReallocOutOfBounds k) ending P ends m = subst (λ end. UnlessShort end P) ends m
+ended_moves V fault.GuestTrap ending P ends m = subst (λ end. UnlessShort end P) ends m
+ended_moves V (fault.PointerMisaligned at) ending P ends m = subst (λ end. UnlessShort end P) ends m
+ended_moves V (fault.PointerOutOfBounds at) ending P ends m = subst (λ end. UnlessShort end P) ends m
+ended_moves V (fault.InvalidUtf8 at) ending P ends m = subst (λ end. UnlessShort end P) ends m
+ended_moves V (fault.InvalidUtf16 at) ending P ends m = subst (λ end. UnlessShort end P) ends m
+ended_moves V (fault.InvalidChar at) ending P ends m = subst (λ end. UnlessShort end P) ends m
+ended_moves V (fault.BadDiscriminant at d) ending P ends m = subst (λ end. UnlessShort end P) ends m
+ended_moves V fault.HostcallFuelExhausted ending P ends m = subst (λ end. UnlessShort end P) ends m
+ended_moves V (fault.Resource r) ending P ends m = subst (λ end. UnlessShort end P) ends m
 
 -- parameters of these members, whatever they are, were lowered
-module _ (a b : Moment) (enc : Encoding) (ms : Members) (args : Arguments) (l l2 : LedgerState) (hs : List ℕ) where
+module _ {K : Type 0} (a b : Stage K) (enc : Encoding) (ms : Members) (args : Arguments) (l l2 : LedgerState) (hs : List ℕ) where
   -- where nothing was asked for
   asks_nothing : (answers : List Answer) (trap : Option Trap) → b.guest.marks ≡ a.guest.marks ++ marks_of answers → (have_block ms ≡ false → members_flat ms ≤ max_params → trap ≡ None)
-      → (members_flat ms ≤ max_params → have_block ms ≡ false → b ≡ a) → AsksNothing ms answers trap
+      → (members_flat ms ≤ max_params → have_block ms ≡ false → moment_at b ≡ moment_at a) → AsksNothing ms answers trap
   asks_nothing answers trap marks none same near quiet = (none_answered a.guest.marks answers (ap (λ (m : Moment). m.guest.marks) (sym (same near quiet)) ∙ marks), none quiet near)
 
   abbrev Lowers : List ℕ → Ending → Type 0
   Lowers words ending = LowersParams a b enc ms args.are words hs ending
 
-  pub args_done : (words : List ℕ) (M : List Event → Type 0) → length words ≡ words_within max_params ms → (members_flat ms ≤ max_params → have_block ms ≡ false → b ≡ a)
-      → Lowers words done → args.small → ((l es : List Event) → a.guest.journal ≡ Some l → b.guest.journal ≡ Some (l ++ es) → M es) → LeavesTake l args.parts hs l2
-      → Adding a b M (λ es. (handles : List ℕ) × (low : LowersArgs false a b (host_texts enc) ms args.are words handles done)
+  pub args_done : (words : List ℕ) (M : List Event → Type 0) → length words ≡ words_within max_params ms → (members_flat ms ≤ max_params → have_block ms ≡ false → moment_at b ≡ moment_at a)
+      → Lowers words done → args.small → ((es : List Event) → GoesBy a b es → M es) → LeavesTake l args.parts hs l2
+      → Adding (moment_at a) (moment_at b) M (λ es. (handles : List ℕ) × (low : LowersArgs false (bare (moment_at a)) (bare (moment_at b)) (host_texts enc) ms args.are words handles done)
       × (es ≡ events_of low.answers low.trap) × (length words ≡ words_within max_params ms) × AsksByTypes ms done low.answers low.trap × args.small × LeavesTake l args.parts handles l2)
+  unfolding attempt_bare
   args_done words M count same both small new takes =
       let mine = both.lowered in
       record {
         events = events_of mine.answers mine.trap;
         added = mine.lowering.goes.events;
-        moves = told a.guest.journal b.guest.journal (events_of mine.answers mine.trap) M mine.lowering.goes.events new;
-        so = (hs, mine, refl, count, (asks_nothing mine.answers mine.trap mine.lowering.goes.marks (λ quiet near. mine.lowering.cause) same, both.asks), small, takes);
+        moves = new (events_of mine.answers mine.trap) mine.lowering.moves;
+        so = (hs, attempt_bare false a b [] _ done mine, refl, count, (asks_nothing mine.answers mine.trap mine.lowering.goes.marks (λ quiet near. mine.lowering.cause) same, both.asks), small, takes);
       }
 
   pub args_refused : (f : Fault) (words : List ℕ) (ending : Ending) (M : List Event → Type 0) → Lowers words ending → EndsFor f ending → args.blames f → told_fault f ≡ f
-      → (members_flat ms ≤ max_params → have_block ms ≡ false → (b ≡ a) × ((ending ≡ short) ⊎ (ending ≡ refused)))
-      → ((l es : List Event) → a.guest.journal ≡ Some l → b.guest.journal ≡ Some (l ++ es) → M es) → LeavesStop (stop_of f) l args.parts l2
-      → Adding a b M (λ es. ((f ≡ fault.OutOfMemory) × (b ≡ a) × (l2 ≡ l) × (es ≡ [])) ⊎ ((words handles : List ℕ) × (end : Ending) × (low : LowersArgs false a b (host_texts enc) ms args.are words handles end)
+      → (members_flat ms ≤ max_params → have_block ms ≡ false → (moment_at b ≡ moment_at a) × ((ending ≡ short) ⊎ (ending ≡ refused)))
+      → ((es : List Event) → UnlessShort ending (GoesBy a b es) → M es) → LeavesStop (stop_of f) l args.parts l2
+      → Adding (moment_at a) (moment_at b) M (λ es. ((f ≡ fault.OutOfMemory) × (moment_at b ≡ moment_at a) × (l2 ≡ l) × (es ≡ [])) ⊎ ((words handles : List ℕ) × (end : Ending) × (low : LowersArgs false (bare (moment_at a)) (bare (moment_at b)) (host_texts enc) ms args.are words handles end)
       × EndsFor f end × args.blames f × (told_fault f ≡ f) × (es ≡ events_of low.answers low.trap) × AsksByTypes ms end low.answers low.trap × LeavesStop (stop_of f) l args.parts l2))
+  unfolding attempt_bare
   args_refused f words ending M both ends blames is_told same new stops =
       let mine = both.lowered in
       record {
         events = events_of mine.answers mine.trap;
         added = mine.lowering.goes.events;
-        moves = told a.guest.journal b.guest.journal (events_of mine.answers mine.trap) M mine.lowering.goes.events new;
+        moves = new (events_of mine.answers mine.trap) mine.lowering.moves;
         so = inr (
           words,
           hs,
           ending,
-          mine,
+          attempt_bare false a b [] _ ending mine,
           ends,
           blames,
           is_told,
           refl,
           (
-            asks_nothing mine.answers mine.trap mine.lowering.goes.marks (λ quiet near. untrapped a b mine.answers mine.trap ending mine.lowering.cause (same near quiet).1) (λ near quiet. (same near quiet).0),
+            asks_nothing mine.answers mine.trap mine.lowering.goes.marks (λ quiet near. untrapped (moment_at a) (moment_at b) mine.answers mine.trap ending mine.lowering.cause (same near quiet).1) (λ near quiet. (same near quiet).0),
             both.asks,
           ),
           stops,
@@ -155,7 +174,7 @@ module _ (a b : Moment) (enc : Encoding) (ms : Members) (args : Arguments) (l l2
       }
 
 -- dynamic values were
-module _ (a b : Moment) (enc : Encoding) (types : Instance) (ms ns : Members) (params : List Val) (l l2 : LedgerState) (is : ms ≡ ns) where
+module _ {K : Type 0} (a b : Stage K) (enc : Encoding) (types : Instance) (ms ns : Members) (params : List Val) (l l2 : LedgerState) (is : ms ≡ ns) where
   abbrev values : Members → Arguments
   values ks = record {
     are = HaveTrees ks params;
@@ -167,24 +186,24 @@ module _ (a b : Moment) (enc : Encoding) (types : Instance) (ms ns : Members) (p
   abbrev LowersValues : List ℕ → List ℕ → Ending → Type 0
   LowersValues words handles ending = LowersParams a b enc ms (HaveTrees ms params) words handles ending
 
-  pub lowered_done : (words dst : List ℕ) (M : List Event → Type 0) → words ≡ dst → length words ≡ words_within max_params ms → (members_flat ms ≤ max_params → have_block ms ≡ false → b ≡ a)
-      → Crosses {T = Unit {0}} types (have_handle ms) (all_passes ms params) (LowersValues dst) l l2 (Ok tt) → AreSmall enc ms params → ((l es : List Event) → a.guest.journal ≡ Some l → b.guest.journal ≡ Some (l ++ es) → M es)
-      → Adding a b M (λ es. (hs : List ℕ) × (low : LowersArgs false a b (host_texts enc) ns (HaveTrees ns params) words hs done)
+  pub lowered_done : (words dst : List ℕ) (M : List Event → Type 0) → words ≡ dst → length words ≡ words_within max_params ms → (members_flat ms ≤ max_params → have_block ms ≡ false → moment_at b ≡ moment_at a)
+      → Crosses {T = Unit {0}} types (have_handle ms) (all_passes ms params) (LowersValues dst) l l2 (Ok tt) → AreSmall enc ms params → ((es : List Event) → GoesBy a b es → M es)
+      → Adding (moment_at a) (moment_at b) M (λ es. (hs : List ℕ) × (low : LowersArgs false (bare (moment_at a)) (bare (moment_at b)) (host_texts enc) ns (HaveTrees ns params) words hs done)
       × (es ≡ events_of low.answers low.trap) × (length words ≡ words_within max_params ns) × AsksByTypes ns done low.answers low.trap × AreSmall enc ns params
       × LeavesTake l (map (lower_parts types) (all_passes ns params)) hs l2)
-  lowered_done words dst M e count same cross small new = subst (λ ks. Adding a b M (λ es. (hs : List ℕ) × (low : LowersArgs false a b (host_texts enc) ks (HaveTrees ks params) words hs done)
+  lowered_done words dst M e count same cross small new = subst (λ ks. Adding (moment_at a) (moment_at b) M (λ es. (hs : List ℕ) × (low : LowersArgs false (bare (moment_at a)) (bare (moment_at b)) (host_texts enc) ks (HaveTrees ks params) words hs done)
       × (es ≡ events_of low.answers low.trap) × (length words ≡ words_within max_params ks) × AsksByTypes ks done low.answers low.trap × AreSmall enc ks params
       × LeavesTake l (map (lower_parts types) (all_passes ks params)) hs l2)) is
       (args_done a b enc ms (values ms) l l2 cross.given words M count same (subst (λ ws. LowersValues ws cross.given done) (sym e) (subst (λ end. LowersValues dst cross.given end) cross.ends cross.lowered)) small new cross.passed)
 
   pub lowered_refused : (f : Fault) (dst : List ℕ) (M : List Event → Type 0) → Crosses {T = Unit {0}} types (have_handle ms) (all_passes ms params) (LowersValues dst) l l2 (Err f) → BlamesMembers enc ms params f
-      → (members_flat ms ≤ max_params → have_block ms ≡ false → (b ≡ a) × ((fault_ending f ≡ refused) ⊎ (UsesLedger (have_handle ms) (all_passes ms params) × (f ≡ fault.OutOfMemory))))
-      → ((l es : List Event) → a.guest.journal ≡ Some l → b.guest.journal ≡ Some (l ++ es) → M es)
-      → Adding a b M (λ es. ((f ≡ fault.OutOfMemory) × (b ≡ a) × (l2 ≡ l) × (es ≡ [])) ⊎ ((words hs : List ℕ) × (ending : Ending) × (low : LowersArgs false a b (host_texts enc) ns (HaveTrees ns params) words hs ending)
+      → (members_flat ms ≤ max_params → have_block ms ≡ false → (moment_at b ≡ moment_at a) × ((fault_ending f ≡ refused) ⊎ (UsesLedger (have_handle ms) (all_passes ms params) × (f ≡ fault.OutOfMemory))))
+      → ((end : Ending) → EndsFor f end → (es : List Event) → UnlessShort end (GoesBy a b es) → M es)
+      → Adding (moment_at a) (moment_at b) M (λ es. ((f ≡ fault.OutOfMemory) × (moment_at b ≡ moment_at a) × (l2 ≡ l) × (es ≡ [])) ⊎ ((words hs : List ℕ) × (ending : Ending) × (low : LowersArgs false (bare (moment_at a)) (bare (moment_at b)) (host_texts enc) ns (HaveTrees ns params) words hs ending)
       × EndsFor f ending × BlamesMembers enc ns params f × (told_fault f ≡ f) × (es ≡ events_of low.answers low.trap) × AsksByTypes ns ending low.answers low.trap
       × LeavesStop (stop_of f) l (map (lower_parts types) (all_passes ns params)) l2))
-  lowered_refused f dst M cross blames same new = subst (λ ks. Adding a b M (λ es. ((f ≡ fault.OutOfMemory) × (b ≡ a) × (l2 ≡ l) × (es ≡ [])) ⊎ ((words hs : List ℕ) × (ending : Ending)
-      × (low : LowersArgs false a b (host_texts enc) ks (HaveTrees ks params) words hs ending) × EndsFor f ending × BlamesMembers enc ks params f × (told_fault f ≡ f) × (es ≡ events_of low.answers low.trap)
+  lowered_refused f dst M cross blames same new = subst (λ ks. Adding (moment_at a) (moment_at b) M (λ es. ((f ≡ fault.OutOfMemory) × (moment_at b ≡ moment_at a) × (l2 ≡ l) × (es ≡ [])) ⊎ ((words hs : List ℕ) × (ending : Ending)
+      × (low : LowersArgs false (bare (moment_at a)) (bare (moment_at b)) (host_texts enc) ks (HaveTrees ks params) words hs ending) × EndsFor f ending × BlamesMembers enc ks params f × (told_fault f ≡ f) × (es ≡ events_of low.answers low.trap)
       × AsksByTypes ks ending low.answers low.trap × LeavesStop (stop_of f) l (map (lower_parts types) (all_passes ks params)) l2))) is
       (args_refused a b enc ms (values ms) l l2 cross.given f dst cross.ending M cross.lowered (ends_for (Unit {0}) (have_handle ms) (all_passes ms params) f cross.ending cross.ends) blames cross.as_told
-      (λ near quiet. ((same near quiet).0, ending_quiet (have_handle ms) (all_passes ms params) f cross.ending cross.ends (same near quiet).1)) new cross.passed.0)
+      (λ near quiet. ((same near quiet).0, ending_quiet (have_handle ms) (all_passes ms params) f cross.ending cross.ends (same near quiet).1)) (new cross.ending (ends_for (Unit {0}) (have_handle ms) (all_passes ms params) f cross.ending cross.ends)) cross.passed.0)

@@ -59,7 +59,7 @@ module _ {T R : Type 0} (args : Arguments) (its : ReturnedValues R) (gives : Giv
       let none : asks_in (events_of answers trap) ≡ 0 = ap asks_in (sym (append-nil (events_of answers trap))) ∙ asks_answers answers trap [] in
       omega (arith, none)
 
-  made : (f : Fault) (answers : List Answer) (trap : Option Trap) → (IsSome entry.guest.journal → Lives [] (events_of answers trap)) → Advances entry after →
+  made : (f : Fault) (answers : List Answer) (trap : Option Trap) → Lives [] (events_of answers trap) → Advances entry after →
       (Calm refused entry.guest after.guest → Stands entry.bytes after.bytes answers × KeepsLive entry after.bytes answers) →
       AsksByTypes callee.params (fault_ending f) answers trap → after.guest.marks ≡ entry.guest.marks ++ marks_of answers
       → ((ts : Trees) → args.are ts → (left : List Request) × ((last : ℕ) → Meets last (params_requests false (host_asks callee.encoding) callee.params ts) answers trap left))
@@ -81,7 +81,7 @@ module _ {T R : Type 0} (args : Arguments) (its : ReturnedValues R) (gives : Giv
     late_trap = None;
     tail = [];
     starts = inl (refl, refl, refl, refl, refl);
-    lived = λ told. (events_of answers trap, sym (append-nil (events_of answers trap)), subst (λ es. Lives [] es) (sym (append-nil (events_of answers trap))) (moves told));
+    lived = (events_of answers trap, sym (append-nil (events_of answers trap)), subst (λ es. Lives [] es) (sym (append-nil (events_of answers trap))) moves);
     asks = λ none. no_asks answers trap;
     accepted = because.accepted;
     marks = marks ∙ ap (λ xs. entry.guest.marks ++ marks_of xs) (sym (append-nil answers));
@@ -100,7 +100,7 @@ module _ {T R : Type 0} (args : Arguments) (its : ReturnedValues R) (gives : Giv
   }
 
   -- memory ran out before a request
-  pub short_call : (IsSome entry.guest.journal → Lives [] []) → after ≡ entry → HandlesPassOf args its gives callee limits.fuel [] entry.guest after [] None before left [] (Err (error.Fault fault.OutOfMemory)) [] []
+  pub short_call : Lives [] [] → after ≡ entry → HandlesPassOf args its gives callee limits.fuel [] entry.guest after [] None before left [] (Err (error.Fault fault.OutOfMemory)) [] []
       → IsCallOf args its Lives Leaves gives callee limits entry after before left (Err (error.Fault fault.OutOfMemory)) []
   short_call moves e handles =
       made fault.OutOfMemory [] None moves (subst (λ m. Advances entry m) (sym e) (record { no_shorter = omega arith; traps_later = omega arith; shortages_later = omega arith }))
@@ -111,7 +111,7 @@ module _ {T R : Type 0} (args : Arguments) (its : ReturnedValues R) (gives : Giv
 
 module _ {T R : Type 0} (args : Arguments) (its : ReturnedValues R) (gives : Giving T) (callee : Callee) (limits : Limits) (Lives : List Leg → List Event → Type 0) (Leaves : List ℕ → List ℕ → Type 0) (law : BlamesRightly args) (entry after : Moment) (before left : HostSide T) where
   abbrev Low : List ℕ → List ℕ → Ending → Type 0
-  Low words handles ending = LowersArgs false entry after (host_texts callee.encoding) callee.params args.are words handles ending
+  Low words handles ending = LowersArgs false (bare entry) (bare after) (host_texts callee.encoding) callee.params args.are words handles ending
 
   abbrev Why : (f : Fault) (ending : Ending) (words handles : List ℕ) → Low words handles ending → Type 0
   Why f ending words handles low = Refused args its gives callee limits entry after before (events_of low.answers low.trap) low.answers low.trap f
@@ -228,7 +228,7 @@ module _ {T R : Type 0} (args : Arguments) (its : ReturnedValues R) (gives : Giv
   asks_as fault.OutOfMemory ending answers trap (inr is) h = asks_short answers trap (subst (λ end. AsksByTypes callee.params end answers trap) is h)
   asks_as f ending answers trap is h = subst (λ end. AsksByTypes callee.params end answers trap) is h
 
-  pub refused_call : left ≡ record before { ledger = left.ledger } → (f : Fault) (ending : Ending) (words handles : List ℕ) (low : Low words handles ending) → (IsSome entry.guest.journal → Lives [] (events_of low.answers low.trap)) → EndsFor f ending → args.blames f → told_fault f ≡ f
+  pub refused_call : left ≡ record before { ledger = left.ledger } → (f : Fault) (ending : Ending) (words handles : List ℕ) (low : Low words handles ending) → Lives [] (events_of low.answers low.trap) → EndsFor f ending → args.blames f → told_fault f ≡ f
       → AsksByTypes callee.params ending low.answers low.trap → LeavesStop (stop_of f) (enter before.ledger) args.parts left.ledger
       → IsCallOf args its Lives Leaves gives callee limits entry after before left (Err (error.Fault f)) (events_of low.answers low.trap)
   refused_call kept f ending words handles low moves is blames told quiet stops =

@@ -14,7 +14,7 @@ use Rattle.canon_func.specs.Steps.{IsLate, IsRest, LoweredArgs, Serving, map_ok}
 use Rattle.canon_func.specs.Stores.{Callee}
 use Rattle.canon_func.specs.declared.error.Error.{Error}
 use Rattle.canon_func.specs.declared.error.Error.TheVariants as error
-use Rattle.canon_func.proofs.Asking.{ledger_kept, side_handles, side_ledger, told_after_lowering}
+use Rattle.canon_func.proofs.Asking.{ledger_kept, side_handles, side_ledger}
 use Rattle.canon_func.proofs.Composed.{InScope, answered, call_refused, call_started, entered_call, retyped, scope_short}
 use Rattle.canon_func.specs.Passed.{BlamesRightly}
 
@@ -45,7 +45,6 @@ module _ {T G R : Type 0} (args : Arguments) (its : ReturnedValues R) (gives : G
       (moment_of seen before) (moment_of seen mid) (moment_of seen after) (host_side before log refusals) (host_side mid log refusals) left
       (side_handles before mid log refusals same) words answer
       (λ es. moves (guest_of before) es (guest_of mid))
-      (told_after_lowering (moment_of seen before) (moment_of seen mid) first.events first.added)
       (λ xs ys p q. answered result (moves (guest_of mid) ys (guest_of after)) (moves (guest_of before) (xs ++ ys) (guest_of after)) (λ r. goes_on (guest_of before) (guest_of mid) (guest_of after) xs ys p r) q)
       (λ xs p leg legs ys (next, does, is, rest). (next, goes_on (guest_of before) (guest_of mid) next xs leg.events p does, is, rest)) first second
 
@@ -54,7 +53,7 @@ module _ {T G R : Type 0} (args : Arguments) (its : ReturnedValues R) (gives : G
       → Within {U = U} (Err e) (Err e) before after (host_side after log refusals)
   unlowered U e before after law same low =
       call_refused args its gives callee limits (LivesUntil {U = U} seen moves (guest_of before) (guest_of after) (Err e)) Leaves law (moment_of seen before) (moment_of seen after) (host_side before log refusals) (host_side after log refusals) (side_handles before after log refusals same) e
-      (record { events = low.events; added = low.added; moves = λ there. retyped (Vec ℕ Global) U e (moves (guest_of before) low.events (guest_of after)) (low.moves there); so = low.so })
+      (record { events = low.events; added = low.added; moves = retyped (Vec ℕ Global) U e (moves (guest_of before) low.events (guest_of after)) low.moves; so = low.so })
 
   -- the scope was opened
   pub entered : {U : Type 0} (result : Result U Error) (answer : Result R Error) (before mid after : Parts T G) (left : HostSide T) → SameButLedger before mid → mid.ledger ≡ enter before.ledger
@@ -73,7 +72,7 @@ module _ {T G R : Type 0} (args : Arguments) (its : ReturnedValues R) (gives : G
       let host = host_side before log refusals in
       subst (λ k. Whole {U = U} (Err (error.Fault fault.OutOfMemory)) (Err (error.Fault fault.OutOfMemory)) before k (host_side k log refusals)) (sym same)
       (scope_short args its gives callee limits (LivesUntil {U = U} seen moves (guest_of before) (guest_of before) (Err (error.Fault fault.OutOfMemory))) Leaves (seen before.guest) before.memory host (record host { ledger = after.ledger })
-      (ledger_kept before after log refusals left) (λ there. tt))
+      (ledger_kept before after log refusals left) tt)
 
 -- a refusal of what is said of an answer is one of the answer
 pub late_of : {A B : Type 0} (f : A → B) (result : Result A Error) → IfErr (map_ok f result) IsLate → IfErr result IsLate

@@ -105,7 +105,7 @@ module _ {T R : Type 0} (its : ReturnedValues R) (gives : Giving T) (callee : Ca
       }
 
   pub rest_of_tail : (answer : Result R Error) (late_guest : Seen) → CountsWithin before.guest late_guest after.guest → (answers late : List Answer) (trap : Option Trap) (tail : List Event) → answers ≡ answers_in turns ++ late
-      → (IsSome before.guest.journal → AsksFrom Lives (event.Start callee.func words before.bytes ∷ []) turns late_guest.live tail)
+      → AsksFrom Lives (event.Start callee.func words before.bytes ∷ []) turns late_guest.live tail
       → IsTail its gives callee limits Leaves before after (length turns) len served left answer late_guest late trap tail → IsRest its gives callee limits Lives Leaves words before after host left answer answers (so_far callee words before turns tail)
   rest_of_tail answer late_guest counts answers late trap tail all lived h = record {
     one_run = ok_then answer _ _ (λ (returned, memory, is). (words, before.bytes, returned, memory, record { reallocs = []; only_reallocs = tt; turns = turns; is = ap (λ es. first ++ es) is })) h.whole;
@@ -118,7 +118,7 @@ module _ {T R : Type 0} (its : ReturnedValues R) (gives : Giving T) (callee : Ca
     tail = tail;
     answers_are = all;
     starts = inr (record { words = words; memory = before.bytes; is = refl; no_resume = h.no_resume; asking = h.asking });
-    lived = λ told. (event.Start callee.func words before.bytes ∷ [], refl, lived told);
+    lived = (event.Start callee.func words before.bytes ∷ [], refl, lived);
     asks = λ none. sum_le (asks_in (first ++ tail)) (asks_in first) (asks_in tail) (length turns) limits.turns (asks_then first tail) count (h.asks none);
     grows = (same_le (length before.bytes), asked.grows tail (length after.bytes) h.grows);
     start = ((refl, refl), each_then _ (events_in turns) tail (each_turn _ (λ n ws m. tt) (λ o s a n p. tt) (λ ws m. tt) turns) (no_starts _ tail h.no_start));
@@ -137,7 +137,7 @@ module _ {T R : Type 0} (its : ReturnedValues R) (gives : Giving T) (callee : Ca
 
 -- memory ran out for the start
 pub rest_of_none : {T R : Type 0} (its : ReturnedValues R) (gives : Giving T) (callee : Callee) (limits : Limits) (Lives : List Leg → List Event → Type 0) (Leaves : List ℕ → List ℕ → Type 0) (words : List ℕ) (before after : Moment) (host : HostSide T)
-    → Advances before after → (IsSome before.guest.journal → Lives [] [])
+    → Advances before after → Lives [] []
     → IsRest its gives callee limits Lives Leaves words before after host host (Err (error.Fault fault.OutOfMemory)) [] []
 rest_of_none its gives callee limits Lives Leaves words before after host advances moves = record {
   one_run = tt;
@@ -150,7 +150,7 @@ rest_of_none its gives callee limits Lives Leaves words before after host advanc
   tail = [];
   answers_are = refl;
   starts = inl (refl, refl, refl, refl, refl);
-  lived = λ told. ([], refl, moves told);
+  lived = ([], refl, moves);
   asks = λ none. omega arith;
   grows = advances.no_shorter;
   start = tt;

@@ -50,12 +50,6 @@ told_so f h = told_by (λ x. x ≡ f) f (λ is. absurd (wanted_not f h is)) refl
 same_fault : (A : Type 0) (e f : Fault) → ◌≡◌ {A = Result A Fault} (Err e) (Err f) → e ≡ f
 same_fault A e f h = cc
 
--- what a refused lowering says of the guest's moves
-moves_so : {G : Type 0} (seen : G → Seen) (moves : GuestIn G → List Event → GuestIn G → Type 0) (g h : GuestIn G) (gives : List (List Part)) (f : Fault) (ending : Ending) → EndsBy {T = Unit {0}} gives (Err f) ending → Moves seen moves g h ending
-    → (l es : List Event) → (seen g.guest).journal ≡ Some l → (seen h.guest).journal ≡ Some (l ++ es) → OnAnswered {T = Vec ℕ Global} (Err (error.Fault f)) (moves g es h)
-moves_so seen moves g h gives f ending (inl is) m = refused_moves (Vec ℕ Global) seen moves g h f (subst (λ end. Moves seen moves g h end) is m)
-moves_so seen moves g h gives f ending (inr both) m = λ l es p q. subst (λ x. OnAnswered {T = Vec ℕ Global} (Err (error.Fault x)) (moves g es h)) (sym (same_fault (Unit {0}) f fault.OutOfMemory both.0)) tt
-
 module _ {T G : Type 0} (L : GuestLaws G) (options : ℕ) (a b : Parts T G) (ms : Members) (Has : Tree → Type 0) (gives : List (List Part)) where
   abbrev Params : List ℕ → Result (Unit {0}) Fault → Type 0
   Params words result = TypedParams L.seen L.moves options a b ms words Has gives result
@@ -65,21 +59,21 @@ module _ {T G : Type 0} (L : GuestLaws G) (options : ℕ) (a b : Parts T G) (ms 
 
   pub tuple_done : (words dst : List ℕ) → words ≡ dst → length words ≡ words_within max_params ms → Params dst (Ok tt)
       → Adding (moment_of L.seen a) (moment_of L.seen b) (λ es. L.moves (guest_of a) es (guest_of b))
-      (λ es. (handles : List ℕ) × (low : LowersArgs false (moment_of L.seen a) (moment_of L.seen b) (host_texts enc) ms (InParts Has) words handles done)
+      (λ es. (handles : List ℕ) × (low : LowersArgs false (bare (moment_of L.seen a)) (bare (moment_of L.seen b)) (host_texts enc) ms (InParts Has) words handles done)
       × (es ≡ events_of low.answers low.trap) × (length words ≡ words_within max_params ms) × AsksByTypes ms done low.answers low.trap × AreSmallIn enc ms Has × LeavesTake a.ledger gives handles b.ledger)
   tuple_done words dst e count given =
       let h : Params words (Ok tt) = subst (λ ws. Params ws (Ok tt)) (sym e) given in
-      args_done (moment_of L.seen a) (moment_of L.seen b) enc ms (tuple_args enc ms Has gives) a.ledger b.ledger h.handles words (λ es. L.moves (guest_of a) es (guest_of b)) count
+      args_done (stage_of L.seen L.moves a) (stage_of L.seen L.moves b) enc ms (tuple_args enc ms Has gives) a.ledger b.ledger h.handles words (λ es. L.moves (guest_of a) es (guest_of b)) count
       (λ near quiet. ap (moment_of L.seen) (h.quiet near quiet).0)
-      (subst (λ end. LowersParams (moment_of L.seen a) (moment_of L.seen b) enc ms (InParts Has) words h.handles end) (ends_done gives tt h.ending h.ends) h.lowered) h.small
-      (subst (λ end. Moves L.seen L.moves (guest_of a) (guest_of b) end) (ends_done gives tt h.ending h.ends) h.moved) h.passed
+      (subst (λ end. LowersParams (stage_of L.seen L.moves a) (stage_of L.seen L.moves b) enc ms (InParts Has) words h.handles end) (ends_done gives tt h.ending h.ends) h.lowered) h.small
+      (λ es goes. moved_by L a b es goes) h.passed
 
   pub tuple_refused : (f : Fault) (words : List ℕ) → ((t : Tree) × Has t) → Params words (Err f)
       → Adding (moment_of L.seen a) (moment_of L.seen b) (λ es. OnAnswered {T = Vec ℕ Global} (Err (error.Fault f)) (L.moves (guest_of a) es (guest_of b)))
       (λ es. ((f ≡ fault.OutOfMemory) × (moment_of L.seen b ≡ moment_of L.seen a) × (b.ledger ≡ a.ledger) × (es ≡ [])) ⊎ ((words handles : List ℕ) × (end : Ending)
-      × (low : LowersArgs false (moment_of L.seen a) (moment_of L.seen b) (host_texts enc) ms (InParts Has) words handles end)
+      × (low : LowersArgs false (bare (moment_of L.seen a)) (bare (moment_of L.seen b)) (host_texts enc) ms (InParts Has) words handles end)
       × EndsFor f end × BlamesIn enc ms Has f × (told_fault f ≡ f) × (es ≡ events_of low.answers low.trap) × AsksByTypes ms end low.answers low.trap × LeavesStop (stop_of f) a.ledger gives b.ledger))
   tuple_refused f words one h =
-      args_refused (moment_of L.seen a) (moment_of L.seen b) enc ms (tuple_args enc ms Has gives) a.ledger b.ledger h.handles f words h.ending (λ es. OnAnswered {T = Vec ℕ Global} (Err (error.Fault f)) (L.moves (guest_of a) es (guest_of b)))
+      args_refused (stage_of L.seen L.moves a) (stage_of L.seen L.moves b) enc ms (tuple_args enc ms Has gives) a.ledger b.ledger h.handles f words h.ending (λ es. OnAnswered {T = Vec ℕ Global} (Err (error.Fault f)) (L.moves (guest_of a) es (guest_of b)))
       h.lowered (ends_so gives f h.ending h.ends) h.cause (told_so f (blamed_one enc ms Has f one h.cause))
-      (λ near quiet. (ap (moment_of L.seen) (h.quiet near quiet).0, inr (h.quiet near quiet).1)) (moves_so L.seen L.moves (guest_of a) (guest_of b) gives f h.ending h.ends h.moved) h.passed.0
+      (λ near quiet. (ap (moment_of L.seen) (h.quiet near quiet).0, inr (h.quiet near quiet).1)) (λ es goes. ended_moves (Vec ℕ Global) f h.ending (L.moves (guest_of a) es (guest_of b)) (ends_so gives f h.ending h.ends) (unless h.ending _ _ (moved_by L a b es) goes)) h.passed.0

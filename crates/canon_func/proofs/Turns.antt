@@ -123,16 +123,6 @@ counts_earlier a b c s first h = record {
 pub goes_advance : (a b : Moment) (marks : List Mark) (events : List Event) → Goes a b marks events → Advances a b
 goes_advance a b marks events h = record { no_shorter = h.no_shorter; traps_later = h.traps_later; shortages_later = h.shortages_later }
 
--- ---- what is exposed
-
--- a journal that was exposed is exposed afterwards
-pub told_after : (o p : Option (List Event)) (es : List Event) → AddsEvents o p es → IsSome o → IsSome p
-told_after None p es adds told = cc
-told_after (Some xs) p es adds told = rw adds refl
-
-pub told_later : (a b : Moment) (marks : List Mark) (events : List Event) → Goes a b marks events → IsSome a.guest.journal → IsSome b.guest.journal
-told_later a b marks events goes told = told_after a.guest.journal b.guest.journal events goes.events told
-
 pub rises_later : (e : Error) (a b c : Moment) → a.guest.traps ≤ b.guest.traps → RisesAt e b c → RisesAt e a c
 rises_later (error.ImportFault n fault.GuestTrap) a b c le rose = omega (arith, le, rose)
 rises_later e a b c le rose = tt
@@ -174,7 +164,7 @@ length_more (y ∷ xs) x = ap suc (length_more xs x) ∙ sym (suc_add (length xs
 
 module _ {T : Type 0} (gives : Giving T) (callee : Callee) (limits : Limits) (Lives : List Leg → List Event → Type 0) (words : List ℕ) (before : Moment) (host : HostSide T) where
   pub stepping_begin : (now : Moment) (next : Step) → Goes before now [] (event.Start callee.func words before.bytes ∷ step_event next now.bytes ∷ [])
-      → (IsSome before.guest.journal → Lives [] (event.Start callee.func words before.bytes ∷ step_event next now.bytes ∷ [])) → Stepping gives callee limits Lives words before now host host 0 next
+      → Lives [] (event.Start callee.func words before.bytes ∷ step_event next now.bytes ∷ []) → Stepping gives callee limits Lives words before now host host 0 next
   stepping_begin now next goes moves =
       record { turns = []; len = length before.bytes; asked = asked_none gives callee limits.fuel before host; count_is = refl; longer = goes.no_shorter; goes = goes; moves = moves; lived = moves }
 
@@ -203,7 +193,7 @@ module _ {T : Type 0} (gives : Giving T) (callee : Callee) (limits : Limits) (Li
   module _ (now after : Moment) (served left : HostSide T) (P : List Leg → List Event → Type 0) (N : List Event → Type 0) (goes_on : (xs ys : List Event) → P [] xs → N ys → Lives [] (xs ++ ys))
       (asks : (legs : List Leg) (xs ys : List Event) → P legs xs → N ys → Lives (legs ++ record { events = xs; live = now.guest.live } ∷ []) ys) (count index : ℕ) (asked : List ℕ) where
     pub stepping_more : (next : Step) (xs : List Answer) (es : List Event) → Stepping gives callee limits P words before now host served count (step.Import index asked) → Goes now after (marks_of xs) es
-        → (IsSome now.guest.journal → N es) → Serves gives callee limits.fuel index asked now after served left (Ok next) xs es → Stepping gives callee limits Lives words before after host left (count + 1) next
+        → N es → Serves gives callee limits.fuel index asked now after served left (Ok next) xs es → Stepping gives callee limits Lives words before after host left (count + 1) next
     stepping_more next xs es h goes moves (r, are) =
         let t : AskTurn = ask_turn index asked now.guest.live now.bytes xs r.resumed r.memory in
         let e : so_far callee words before h.turns (event.Ask index asked now.bytes ∷ []) ++ es ≡ so_far callee words before (h.turns ++ t ∷ []) (step_event next after.bytes ∷ []) =
@@ -216,13 +206,13 @@ module _ {T : Type 0} (gives : Giving T) (callee : Callee) (limits : Limits) (Li
           longer = r.shorter;
           goes = subst (λ ms. Goes before after ms (so_far callee words before (h.turns ++ t ∷ []) (step_event next after.bytes ∷ []))) (marks_more h.turns t)
               (subst (λ ys. Goes before after (marks_of (answers_in h.turns) ++ marks_of xs) ys) e (goes_then before now after _ _ _ es h.goes goes));
-          moves = λ told. subst (λ ys. Lives [] ys) e (goes_on _ es (h.moves told) (moves (told_later before now _ _ h.goes told)));
-          lived = λ told. turn_lived h.turns t (step_event next after.bytes) es are (asks _ _ es (h.lived told) (moves (told_later before now _ _ h.goes told)));
+          moves = subst (λ ys. Lives [] ys) e (goes_on _ es h.moves moves);
+          lived = turn_lived h.turns t (step_event next after.bytes) es are (asks _ _ es h.lived moves);
         }
 
     -- the ask wasn't served, or the guest trapped after it was
     pub ran_refused : (e : Error) (xs : List Answer) (es : List Event) (h : Stepping gives callee limits P words before now host served count (step.Import index asked)) → count < limits.turns → Goes now after (marks_of xs) es
-        → (IsSome now.guest.journal → N es) → Serves gives callee limits.fuel index asked now after served left (Err e) xs es
+        → N es → Serves gives callee limits.fuel index asked now after served left (Err e) xs es
         → RunsUntil gives callee limits Lives words before after host left (Err e) (answers_in h.turns ++ xs) (so_far callee words before h.turns (event.Ask index asked now.bytes ∷ []) ++ es)
     ran_refused (error.Fault fault.GuestTrap) xs es h lt goes moves (r, rose, are) =
         let t : AskTurn = ask_turn index asked now.guest.live now.bytes xs r.resumed r.memory in
@@ -241,7 +231,7 @@ module _ {T : Type 0} (gives : Giving T) (callee : Callee) (limits : Limits) (Li
           longer = r.shorter;
           is = ap (λ ys. so_far callee words before h.turns (event.Ask index asked now.bytes ∷ []) ++ ys) are ∙ joined_turn h.turns t (trap_event (length r.memory) ∷ []);
           stopped = (omega (arith, rose, h.goes.traps_later), refl, (refl, refl, refl));
-          lived = λ told. turn_lived h.turns t (trap_event (length r.memory)) es are (asks _ _ es (h.lived told) (moves (told_later before now _ _ h.goes told)));
+          lived = turn_lived h.turns t (trap_event (length r.memory)) es are (asks _ _ es h.lived moves);
         }
     ran_refused error.TurnsExhausted xs es h lt goes moves serves = absurd serves
     ran_refused error.WrongCount xs es h lt goes moves serves = absurd serves.1
@@ -275,7 +265,7 @@ module _ {T : Type 0} (gives : Giving T) (callee : Callee) (limits : Limits) (Li
           rises = rises_later e before now after h.goes.traps_later serves.4;
         },
       );
-      lived = λ told. asks _ _ (events_of xs serves.0) (h.lived told) (subst N serves.2 (moves (told_later before now _ _ h.goes told)));
+      lived = asks _ _ (events_of xs serves.0) h.lived (subst N serves.2 moves);
     }
 
   module _ (now : Moment) (served : HostSide T) (count : ℕ) where
@@ -330,7 +320,7 @@ module _ {T : Type 0} (gives : Giving T) (callee : Callee) (limits : Limits) (Li
           rises = tt;
         },
       );
-      lived = λ told. asks _ _ (h.lived told);
+      lived = asks _ _ h.lived;
     }
 
 -- an answer and what it leaves are a step's

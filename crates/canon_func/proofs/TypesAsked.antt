@@ -24,7 +24,6 @@ use Rattle.canon_lowering.proofs.Lowerings.{none_answered}
 use Rattle.canon_lowering.specs.Lowering.{AllLawful, Answer, CauseOf, Ending, Trap, events_of, marks_of, refused}
 use Rattle.canon_context.specs.Core.{Parts, guest_of, moment_of}
 use Rattle.canon_context.specs.Lowers.{fault_ending}
-use Rattle.canon_context.specs.Moves.{Moves}
 use Rattle.canon_context.specs.Quiet.{have_block}
 use Rattle.canon_context.specs.declared.component.Export.{Export}
 use Rattle.canon_context.specs.declared.fault.Fault.{Fault}
@@ -163,28 +162,32 @@ module _ {T P R : Type 0} (types : RustTypes P R) (May : TypedAnswering T P R) w
 -- ---- its steps
 
 -- what was lowered, from one moment to another, without its handles
-record TupleBy (callee : Callee) (asked : Asked) (at : ℕ) (a b : Moment) (Has : Tree → Type 0) (words : List ℕ) (hs : List ℕ) (ending : Ending) : Type 0 where
+record TupleBy {K : Type 0} (callee : Callee) (asked : Asked) (at : ℕ) (a b : Stage K) (Has : Tree → Type 0) (words : List ℕ) (hs : List ℕ) (ending : Ending) : Type 0 where
   answers : List Answer
   trap : Option Trap
-  into : TupleInto a b callee asked at Has words answers trap hs ending
-  goes : Goes a b (marks_of answers) (events_of answers trap)
-  cause : CauseOf a b answers trap ending
+  into : TupleInto (moment_at a) (moment_at b) callee asked at Has words answers trap hs ending
+  goes : Goes (moment_at a) (moment_at b) (marks_of answers) (events_of answers trap)
+  moves : UnlessShort ending (GoesBy a b (events_of answers trap))
+  cause : CauseOf (moment_at a) (moment_at b) answers trap ending
 
-tuple_by : (callee : Callee) (asked : Asked) (at : ℕ) (a b : Moment) (Has : Tree → Type 0) (words : List ℕ) (hs : List ℕ) (ending : Ending) → LowersTuple a b (asked_origin callee asked a.bytes).encoding (asked_results callee asked) (InParts Has) at words hs ending
+tuple_by : {K : Type 0} (callee : Callee) (asked : Asked) (at : ℕ) (a b : Stage K) (Has : Tree → Type 0) (words : List ℕ) (hs : List ℕ) (ending : Ending) → LowersTuple a b (asked_origin callee asked a.bytes).encoding (asked_results callee asked) (InParts Has) at words hs ending
     → TupleBy callee asked at a b Has words hs ending
+unfolding attempt_bare
 tuple_by callee asked at a b Has words hs ending h = ⊎_elim
     (λ far. let low = h.far far in record {
       answers = low.answers;
       trap = low.trap;
-      into = record { near = λ near. absurd (not_far (members_flat (asked_results callee asked)) near far); far = λ again. (low, refl, refl) };
+      into = record { near = λ near. absurd (not_far (members_flat (asked_results callee asked)) near far); far = λ again. (attempt_bare false a b _ _ ending low, refl, refl) };
       goes = low.lowering.goes;
+      moves = low.lowering.moves;
       cause = low.lowering.cause;
     })
     (λ near. let low = h.near near in record {
       answers = low.answers;
       trap = low.trap;
-      into = record { near = λ again. (low, refl, refl); far = λ far. absurd (not_far (members_flat (asked_results callee asked)) near far) };
+      into = record { near = λ again. (attempt_bare false a b _ _ ending low, refl, refl); far = λ far. absurd (not_far (members_flat (asked_results callee asked)) near far) };
       goes = low.lowering.goes;
+      moves = low.lowering.moves;
       cause = low.lowering.cause;
     })
     (cases_lt max_results (members_flat (asked_results callee asked)))
@@ -203,12 +206,11 @@ tuple_rises index gives (fault.Resource resource.OutOfMemory) a b answers trap e
 tuple_rises index gives (fault.Resource r) a b answers trap ending ends cause = tt
 tuple_rises index gives f a b answers trap ending ends cause = tt
 
-tuple_moves : {G : Type 0} (seen : G → Seen) (moves : GuestIn G → List Event → GuestIn G → Type 0) (g h : GuestIn G) (index : ℕ) (gives : List (List Part)) (f : Fault) (ending : Ending) → EndsBy {T = Unit {0}} gives (Err f) ending → Moves seen moves g h ending
-    → (l es : List Event) → (seen g.guest).journal ≡ Some l → (seen h.guest).journal ≡ Some (l ++ es) → OnAnswered {T = Unit {0}} (Err (asked_error index f)) (moves g es h)
-tuple_moves seen moves g h index gives f ending (inl is) m = asked_moves (Unit {0}) seen moves g h index f (subst (λ e. Moves seen moves g h e) is m)
-tuple_moves seen moves g h index gives f ending (inr both) m = λ l es p q. subst (λ x. OnAnswered {T = Unit {0}} (Err (asked_error index x)) (moves g es h)) (sym (same_fault f fault.OutOfMemory both.0)) tt
+tuple_moves : (index : ℕ) (gives : List (List Part)) (f : Fault) (ending : Ending) (P : Type 0) → EndsBy {T = Unit {0}} gives (Err f) ending → UnlessShort ending P → OnAnswered {T = Unit {0}} (Err (asked_error index f)) P
+tuple_moves index gives f ending P (inl is) m = asked_moves (Unit {0}) index f P (subst (λ e. UnlessShort e P) is m)
+tuple_moves index gives f ending P (inr both) m = subst (λ x. OnAnswered {T = Unit {0}} (Err (asked_error index x)) P) (sym (same_fault f fault.OutOfMemory both.0)) tt
 
-module _ {T G P R : Type 0} (types : RustTypes P R) (May : TypedAnswering T P R) (seen : G → Seen) (moves : GuestIn G → List Event → GuestIn G → Type 0) (gives : Giving T) (log : Option (List LoggedEntry)) (index : ℕ) (a b : Parts T G) (export : Export) (asked : Asked) (words pad storage2 : List ℕ)
+module _ {T G P R : Type 0} (types : RustTypes P R) (May : TypedAnswering T P R) (L : GuestLaws G) (gives : Giving T) (log : Option (List LoggedEntry)) (index : ℕ) (a b : Parts T G) (export : Export) (asked : Asked) (words pad storage2 : List ℕ)
     (is : IsHostAsk (export_callee a.component export) index words asked) where
   abbrev callee : Callee
   callee = export_callee a.component export
@@ -227,23 +229,23 @@ module _ {T G P R : Type 0} (types : RustTypes P R) (May : TypedAnswering T P R)
   declines e (inr other) = inr (ap (host_error index) other.0, other.1, other.2)
 
   abbrev Lowered : T → LedgerState → ℕ → R → Result (Unit {0}) Fault → Type 0
-  Lowered s l at results r = LowersTyped seen moves types.walks types.gives asked (record a { state = s; ledger = l }) at results r b storage2
+  Lowered s l at results r = LowersTyped L.seen L.moves types.walks types.gives asked (record a { state = s; ledger = l }) at results r b storage2
 
   -- results that reach no text and no list ask for nothing
   asks_none : (s : T) (l : LedgerState) (at : ℕ) (results : R) (r : Result (Unit {0}) Fault) (h : Lowered s l at results r) (answers : List Answer) (trap : Option Trap)
-      → (seen b.guest).marks ≡ (seen a.guest).marks ++ marks_of answers → CauseOf (moment_of seen a) (moment_of seen b) answers trap h.ending → have_block (asked_results callee asked) ≡ false
-      → (answers ≡ []) × (trap ≡ None) × (seen b.guest ≡ seen a.guest) × (members_flat (asked_results callee asked) ≤ max_results → b.memory ≡ a.memory)
+      → (L.seen b.guest).marks ≡ (L.seen a.guest).marks ++ marks_of answers → CauseOf (moment_of L.seen a) (moment_of L.seen b) answers trap h.ending → have_block (asked_results callee asked) ≡ false
+      → (answers ≡ []) × (trap ≡ None) × (L.seen b.guest ≡ L.seen a.guest) × (members_flat (asked_results callee asked) ≤ max_results → b.memory ≡ a.memory)
   asks_none s l at results r h answers trap marks cause none =
-      let still : seen b.guest ≡ seen a.guest = ap seen (h.quiet none).0 in (
-        none_answered (seen a.guest).marks answers (ap (λ (k : Seen). k.marks) (sym still) ∙ marks),
-        tuple_quiet r (typed_given types callee asked results) (moment_of seen a) (moment_of seen b) answers trap h.ending h.ends (h.quiet none).1 cause,
+      let still : L.seen b.guest ≡ L.seen a.guest = ap L.seen (h.quiet none).0 in (
+        none_answered (L.seen a.guest).marks answers (ap (λ (k : Seen). k.marks) (sym still) ∙ marks),
+        tuple_quiet r (typed_given types callee asked results) (moment_of L.seen a) (moment_of L.seen b) answers trap h.ending h.ends (h.quiet none).1 cause,
         still,
         λ near. ap (λ (k : Parts T G). k.memory) (h.quiet_near near none).0,
       )
 
-  lowered : (s : T) (l : LedgerState) (at : ℕ) (results : R) (r : Result (Unit {0}) Fault) → Lowered s l at results r → LowersAs (ask_types types May) seen moves index a b callee asked storage2 at results l r
+  lowered : (s : T) (l : LedgerState) (at : ℕ) (results : R) (r : Result (Unit {0}) Fault) → Lowered s l at results r → LowersAs (ask_types types May) L.seen L.moves index a b callee asked storage2 at results l r
   lowered s l at results (Ok x) h =
-      let by = tuple_by callee asked at (moment_of seen a) (moment_of seen b) (types.walks results) (take (members_flat (asked_results callee asked)) storage2) h.handles h.ending h.lowered in
+      let by = tuple_by callee asked at (stage_of L.seen L.moves a) (stage_of L.seen L.moves b) (types.walks results) (take (members_flat (asked_results callee asked)) storage2) h.handles h.ending h.lowered in
       let over = ends_done (typed_given types callee asked results) tt h.ending h.ends in
       record {
         answers = by.answers;
@@ -259,13 +261,13 @@ module _ {T G P R : Type 0} (types : RustTypes P R) (May : TypedAnswering T P R)
           quiet = asks_none s l at results (Ok x) h by.answers by.trap by.goes.marks by.cause;
         };
         goes = by.goes;
-        done = subst (λ e. CauseOf (moment_of seen a) (moment_of seen b) by.answers by.trap e) over by.cause;
-        late = traps_late (moment_of seen a) (moment_of seen b) by.answers by.trap h.ending by.cause;
+        done = subst (λ e. CauseOf (moment_of L.seen a) (moment_of L.seen b) by.answers by.trap e) over by.cause;
+        late = traps_late (moment_of L.seen a) (moment_of L.seen b) by.answers by.trap h.ending by.cause;
         rises = tt;
-        moved = subst (λ e. Moves seen moves (guest_of a) (guest_of b) e) over h.moved;
+        moved = moved_by L a b (events_of by.answers by.trap) (subst (λ e. UnlessShort e (GoesBy (stage_of L.seen L.moves a) (stage_of L.seen L.moves b) (events_of by.answers by.trap))) over by.moves);
       }
   lowered s l at results (Err f) h =
-      let by = tuple_by callee asked at (moment_of seen a) (moment_of seen b) (types.walks results) (take (members_flat (asked_results callee asked)) storage2) h.handles h.ending h.lowered in
+      let by = tuple_by callee asked at (stage_of L.seen L.moves a) (stage_of L.seen L.moves b) (types.walks results) (take (members_flat (asked_results callee asked)) storage2) h.handles h.ending h.lowered in
       record {
         answers = by.answers;
         trap = by.trap;
@@ -281,12 +283,12 @@ module _ {T G P R : Type 0} (types : RustTypes P R) (May : TypedAnswering T P R)
         };
         goes = by.goes;
         done = tt;
-        late = traps_late (moment_of seen a) (moment_of seen b) by.answers by.trap h.ending by.cause;
-        rises = tuple_rises index (typed_given types callee asked results) f (moment_of seen a) (moment_of seen b) by.answers by.trap h.ending h.ends by.cause;
-        moved = tuple_moves seen moves (guest_of a) (guest_of b) index (typed_given types callee asked results) f h.ending h.ends h.moved;
+        late = traps_late (moment_of L.seen a) (moment_of L.seen b) by.answers by.trap h.ending by.cause;
+        rises = tuple_rises index (typed_given types callee asked results) f (moment_of L.seen a) (moment_of L.seen b) by.answers by.trap h.ending h.ends by.cause;
+        moved = tuple_moves index (typed_given types callee asked results) f h.ending (L.moves (guest_of a) (events_of by.answers by.trap) (guest_of b)) h.ends (unless h.ending _ _ (moved_by L a b (events_of by.answers by.trap)) by.moves);
       }
 
-  pub types_follow : FollowsSteps (ask_types types May) gives.answers (steps_of_types types May log seen moves asked) (λ told. log) seen moves log index a b callee asked words pad storage2
+  pub types_follow : FollowsSteps (ask_types types May) gives.answers (steps_of_types types May log L.seen L.moves asked) (λ told. log) L.seen L.moves log index a b callee asked words pad storage2
   types_follow = record {
     declines = declines;
     lifts = λ l r lifted h. ((h.0, lifts l r lifted h.1), h.1.1);

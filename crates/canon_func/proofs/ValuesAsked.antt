@@ -142,7 +142,7 @@ values_lawful = record {
 
 -- ---- its steps
 
-module _ {T G : Type 0} (seen : G → Seen) (moves : GuestIn G → List Event → GuestIn G → Type 0) (gives : Giving T) (log : Option (List LoggedEntry)) (index : ℕ) (a b : Parts T G) (export : Export) (asked : Asked) (words pad storage2 : List ℕ)
+module _ {T G : Type 0} (L : GuestLaws G) (gives : Giving T) (log : Option (List LoggedEntry)) (index : ℕ) (a b : Parts T G) (export : Export) (asked : Asked) (words pad storage2 : List ℕ)
     (is : IsHostAsk (export_callee a.component export) index words asked) where
   abbrev callee : Callee
   callee = export_callee a.component export
@@ -151,22 +151,22 @@ module _ {T G : Type 0} (seen : G → Seen) (moves : GuestIn G → List Event �
   first_is = take-append-le (args_words (asked_params callee asked)) words pad (pointer_counts (args_words (asked_params callee asked)) (members_flat (asked_results callee asked)) (length words) is.count).0
 
   -- results that reach no text and no list ask for nothing
-  asks_none : (s : T) (l : LedgerState) (at : ℕ) (results : List Val) (r : Result (Unit {0}) Fault) (h : LowersGiven seen moves asked (record a { state = s; ledger = l }) at results r b storage2) (answers : List Answer) (trap : Option Trap)
-      → (seen b.guest).marks ≡ (seen a.guest).marks ++ marks_of answers → CauseOf (moment_of seen a) (moment_of seen b) answers trap h.lowered.ending → have_block (asked_results callee asked) ≡ false
-      → (answers ≡ []) × (trap ≡ None) × (seen b.guest ≡ seen a.guest) × (members_flat (asked_results callee asked) ≤ max_results → b.memory ≡ a.memory)
+  asks_none : (s : T) (l : LedgerState) (at : ℕ) (results : List Val) (r : Result (Unit {0}) Fault) (h : LowersGiven L.seen L.moves asked (record a { state = s; ledger = l }) at results r b storage2) (answers : List Answer) (trap : Option Trap)
+      → (L.seen b.guest).marks ≡ (L.seen a.guest).marks ++ marks_of answers → CauseOf (moment_of L.seen a) (moment_of L.seen b) answers trap h.lowered.ending → have_block (asked_results callee asked) ≡ false
+      → (answers ≡ []) × (trap ≡ None) × (L.seen b.guest ≡ L.seen a.guest) × (members_flat (asked_results callee asked) ≤ max_results → b.memory ≡ a.memory)
   asks_none s l at results r h answers trap marks cause none =
-      let still : seen b.guest ≡ seen a.guest = ap seen (h.quiet none).0 in (
-        none_answered (seen a.guest).marks answers (ap (λ (k : Seen). k.marks) (sym still) ∙ marks),
-        quiet_trap r (have_handle (asked_results callee asked)) (all_passes (asked_results callee asked) results) (moment_of seen a) (moment_of seen b) answers trap h.lowered.ending h.lowered.ends (h.quiet none).1 cause,
+      let still : L.seen b.guest ≡ L.seen a.guest = ap L.seen (h.quiet none).0 in (
+        none_answered (L.seen a.guest).marks answers (ap (λ (k : Seen). k.marks) (sym still) ∙ marks),
+        quiet_trap r (have_handle (asked_results callee asked)) (all_passes (asked_results callee asked) results) (moment_of L.seen a) (moment_of L.seen b) answers trap h.lowered.ending h.lowered.ends (h.quiet none).1 cause,
         still,
         λ near. ap (λ (k : Parts T G). k.memory) (h.quiet_near near none).0,
       )
 
-  lowered : (s : T) (l : LedgerState) (at : ℕ) (results : List Val) (r : Result (Unit {0}) Fault) → LowersGiven seen moves asked (record a { state = s; ledger = l }) at results r b storage2
-      → LowersAs ask_values seen moves index a b callee asked storage2 at results l r
+  lowered : (s : T) (l : LedgerState) (at : ℕ) (results : List Val) (r : Result (Unit {0}) Fault) → LowersGiven L.seen L.moves asked (record a { state = s; ledger = l }) at results r b storage2
+      → LowersAs ask_values L.seen L.moves index a b callee asked storage2 at results l r
   lowered s l at results r h =
-      let by = into_by callee asked at (moment_of seen a) (moment_of seen b) results (take (members_flat (asked_results callee asked)) storage2) h.lowered.given h.lowered.ending h.lowered.lowered in
-      lowered_as seen moves index a b callee asked at results (take (members_flat (asked_results callee asked)) storage2) storage2 refl l r (record {
+      let by = into_by callee asked at (stage_of L.seen L.moves a) (stage_of L.seen L.moves b) results (take (members_flat (asked_results callee asked)) storage2) h.lowered.given h.lowered.ending h.lowered.lowered in
+      lowered_as L index a b callee asked at results (take (members_flat (asked_results callee asked)) storage2) storage2 refl l r (record {
         answers = by.answers;
         trap = by.trap;
         ending = h.lowered.ending;
@@ -178,10 +178,11 @@ module _ {T G : Type 0} (seen : G → Seen) (moves : GuestIn G → List Event �
           quiet = asks_none s l at results r h by.answers by.trap by.goes.marks by.cause;
         };
         goes = by.goes;
+        moves = by.moves;
         cause = by.cause;
-      }) h.moved
+      })
 
-  pub values_follow : FollowsSteps ask_values gives.answers (steps_of_values gives log index seen moves asked) (λ told. logged log (logged_entry index told)) seen moves log index a b callee asked words pad storage2
+  pub values_follow : FollowsSteps ask_values gives.answers (steps_of_values gives log index L.seen L.moves asked) (λ told. logged log (logged_entry index told)) L.seen L.moves log index a b callee asked words pad storage2
   values_follow = record {
     declines = λ e why. ap (host_error index) why;
     lifts = λ l r lifted h. (subst (λ ws. (over : ℕ) × LiftsParams (asked_origin callee asked a.memory) ws (asked_params callee asked) l a.fuel r lifted.ledger over) first_is h.0, h.1);

@@ -66,9 +66,9 @@ module _ {P : Type 0} (reading : Reading P) (callee : Callee) (asked : Asked) (w
 -- perhaps a trap.
 pub record TupleInto (from to : Moment) (callee : Callee) (asked : Asked) (at : ℕ) (Has : Tree → Type 0) (words : List ℕ) (answers : List Answer) (trap : Option Trap) (hs : List ℕ) (ending : Ending) : Type 0 where
   pub near : members_flat (asked_results callee asked) ≤ max_results
-      → (low : LowersMembers false from to (host_texts (asked_origin callee asked from.bytes).encoding) (asked_results callee asked) words 0 (InParts Has) hs ending) × (low.answers ≡ answers) × (low.trap ≡ trap)
+      → (low : LowersMembers false (bare from) (bare to) (host_texts (asked_origin callee asked from.bytes).encoding) (asked_results callee asked) words 0 (InParts Has) hs ending) × (low.answers ≡ answers) × (low.trap ≡ trap)
   pub far : max_results < members_flat (asked_results callee asked)
-      → (low : StoresTuple from to (asked_origin callee asked from.bytes).encoding (asked_results callee asked) at (InParts Has) hs ending) × (low.answers ≡ answers) × (low.trap ≡ trap)
+      → (low : StoresTuple (bare from) (bare to) (asked_origin callee asked from.bytes).encoding (asked_results callee asked) at (InParts Has) hs ending) × (low.answers ≡ answers) × (low.trap ≡ trap)
 
 -- the same, with its handles through the ledger, which do this, from one moment to another
 pub record TypedAskLowers (Has : Tree → Type 0) (gives : List (List Part)) (callee : Callee) (asked : Asked) (at : ℕ) (from to : Moment) (words : List ℕ) (answers : List Answer) (trap : Option Trap) (before after : LedgerState) (result : Result (Unit {0}) Fault) : Type 0 where

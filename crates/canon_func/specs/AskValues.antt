@@ -70,9 +70,9 @@ ask_result_parts callee asked results = map (lower_parts callee.types) (all_pass
 -- Its results were lowered so, to these words in a row or at the place, by these answers of `realloc` and perhaps a trap.
 pub record LowersInto (from to : Moment) (callee : Callee) (asked : Asked) (at : ℕ) (results : List Val) (words : List ℕ) (answers : List Answer) (trap : Option Trap) (hs : List ℕ) (ending : Ending) : Type 0 where
   pub near : members_flat (asked_results callee asked) ≤ max_results
-      → (low : LowersMembers false from to (host_texts (asked_origin callee asked from.bytes).encoding) (asked_results callee asked) words 0 (HaveTrees (asked_results callee asked) results) hs ending) × (low.answers ≡ answers) × (low.trap ≡ trap)
+      → (low : LowersMembers false (bare from) (bare to) (host_texts (asked_origin callee asked from.bytes).encoding) (asked_results callee asked) words 0 (HaveTrees (asked_results callee asked) results) hs ending) × (low.answers ≡ answers) × (low.trap ≡ trap)
   pub far : max_results < members_flat (asked_results callee asked)
-      → (low : StoresMembers false from to (host_texts (asked_origin callee asked from.bytes).encoding) (asked_results callee asked) 0 at (HaveTrees (asked_results callee asked) results) hs ending) × (low.answers ≡ answers) × (low.trap ≡ trap)
+      → (low : StoresMembers false (bare from) (bare to) (host_texts (asked_origin callee asked from.bytes).encoding) (asked_results callee asked) 0 at (HaveTrees (asked_results callee asked) results) hs ending) × (low.answers ≡ answers) × (low.trap ≡ trap)
 
 -- the same, with its handles through the ledger, from one moment to another
 pub record AskLowers (callee : Callee) (asked : Asked) (at : ℕ) (from to : Moment) (results : List Val) (words : List ℕ) (answers : List Answer) (trap : Option Trap) (before after : LedgerState) (result : Result (Unit {0}) Fault) : Type 0 where

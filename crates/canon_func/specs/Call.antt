@@ -308,7 +308,7 @@ LivesUntil seen moves before after answer = ByLegs moves (λ g. (seen g.guest).l
 
 -- A call that wasn't refused before the guest was entered, by its parameters, what its results are, how its guest went from ask to ask,
 -- what a post-return may leave, what functions of the host may give, its callee, what it may use, the moments and the host before and
--- after, its answer and the events that it adds to an exposed journal.
+-- after, its answer and the events by which the guest moved.
 pub record IsCallOf {T R : Type 0} (args : Arguments) (its : ReturnedValues R) (Lives : List Leg → List Event → Type 0) (Leaves : List ℕ → List ℕ → Type 0) (gives : Giving T) (callee : Callee) (limits : Limits)
     (before after : Moment) (host left : HostSide T) (answer : Result R Error) (events : List Event) : Type 0 where
   -- The guest made one run; of a refused call the events are a prefix of one.
@@ -331,8 +331,8 @@ pub record IsCallOf {T R : Type 0} (args : Arguments) (its : ReturnedValues R) (
   pub late_trap : Option Trap
   pub tail : List Event
   pub starts : MayStart callee.func turns late late_trap tail later
-  -- Where the journal is exposed: one guest went from ask to ask by the events between them, and at each ask those blocks lived in it.
-  pub lived : IsSome before.guest.journal → AsksLive Lives turns late_guest.live tail events
+  -- One guest went from ask to ask by the events between them, and at each ask those blocks lived in it.
+  pub lived : AsksLive Lives turns late_guest.live tail events
   pub asks : answer ≢ Err error.TurnsExhausted → asks_in events ≤ limits.turns
   -- each answer was aligned and its block ended inside memory, but one that the call was refused for; and each answer has its mark
   pub accepted : Accepted (lowering_ending answer) (length after.bytes) answers
@@ -414,10 +414,9 @@ abbrev pub IsCall : {T : Type 0} → (List Leg → List Event → Type 0) → (L
 IsCall Lives Leaves gives callee limits params before after host left answer results events =
     IsCallOf (dynamic callee params) (dynamic_results callee) Lives Leaves gives callee limits before after host left (with_results answer results) events
 
--- From one moment to another the guest's journal, where it is exposed, got these events, of which this is so; then the guest
--- moved by them.
+-- From one moment to another the guest moved by these events, of which this is so; its journal, where it is exposed, got them.
 pub record Adding (before after : Moment) (Moves IsSo : List Event → Type 0) : Type 0 where
   pub events : List Event
   pub added : AddsEvents before.guest.journal after.guest.journal events
-  pub moves : IsSome before.guest.journal → Moves events
+  pub moves : Moves events
   pub so : IsSo events

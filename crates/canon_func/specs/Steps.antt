@@ -68,12 +68,12 @@ EndsFor f ending = ending ≡ fault_ending f
 -- memory ran out before, nothing was done. Memory that the ledger wanted ends a lowering as a refusal does.
 abbrev pub LoweredArgs : Arguments → Callee → Moment → Moment → LedgerState → LedgerState → Result (Vec ℕ Global) Error → List Event → Type 0
 LoweredArgs args callee before after ledger left (Ok words) events =
-    (handles : List ℕ) × (low : LowersArgs false before after (host_texts callee.encoding) callee.params args.are words.items handles done) × (events ≡ events_of low.answers low.trap)
+    (handles : List ℕ) × (low : LowersArgs false (bare before) (bare after) (host_texts callee.encoding) callee.params args.are words.items handles done) × (events ≡ events_of low.answers low.trap)
     × (length words.items ≡ words_within max_params callee.params) × AsksByTypes callee.params done low.answers low.trap
     × args.small × LeavesTake ledger args.parts handles left
 LoweredArgs args callee before after ledger left (Err (error.Fault f)) events =
     ((f ≡ fault.OutOfMemory) × (after ≡ before) × (left ≡ ledger) × (events ≡ []))
-    ⊎ ((words handles : List ℕ) × (ending : Ending) × (low : LowersArgs false before after (host_texts callee.encoding) callee.params args.are words handles ending)
+    ⊎ ((words handles : List ℕ) × (ending : Ending) × (low : LowersArgs false (bare before) (bare after) (host_texts callee.encoding) callee.params args.are words handles ending)
     × EndsFor f ending × args.blames f × (told_fault f ≡ f) × (events ≡ events_of low.answers low.trap) × AsksByTypes callee.params ending low.answers low.trap
     × LeavesStop (stop_of f) ledger args.parts left)
 LoweredArgs args callee before after ledger left (Err _) events = ⊥
@@ -81,14 +81,13 @@ LoweredArgs args callee before after ledger left (Err _) events = ⊥
 -- Parameters whose types are those of the tuple were lowered into these words, with their handles through the ledger.
 pub record LowersFor {T G X : Type 0} (seen : G → Seen) (moves : GuestIn G → List Event → GuestIn G → Type 0) (core after : Parts T G) (options tuple : ℕ) (params : List Val) (words : List ℕ) (result : Result X Fault) : Type 0 where
   pub crosses : Crosses core.component.types (have_handle (tuple_members (component_types core) tuple)) (all_passes (tuple_members (component_types core) tuple) params)
-      (λ hs ending. LowersParams (moment_of seen core) (moment_of seen after) (encoding_by core options) (tuple_members (component_types core) tuple) (HaveTrees (tuple_members (component_types core) tuple) params) words hs ending)
+      (λ hs ending. LowersParams (stage_of seen moves core) (stage_of seen moves after) (encoding_by core options) (tuple_members (component_types core) tuple) (HaveTrees (tuple_members (component_types core) tuple) params) words hs ending)
       core.ledger after.ledger result
   pub cause : IfErr result (BlamesMembers (encoding_by core options) (tuple_members (component_types core) tuple) params)
   pub small : OnOk result (AreSmall (encoding_by core options) (tuple_members (component_types core) tuple) params)
   pub quiet : members_flat (tuple_members (component_types core) tuple) ≤ max_params
       → QuietBut (have_handle (tuple_members (component_types core) tuple)) (all_passes (tuple_members (component_types core) tuple) params)
       (have_block (tuple_members (component_types core) tuple)) (SameButLedger core after) result
-  pub moved : Moves seen moves (guest_of core) (guest_of after) (ending_of result)
   pub same : SameButHandles core after
 
 -- ---- the start
@@ -111,13 +110,13 @@ Resumed words before after (Err _) events = ⊥
 
 -- ---- asks
 
--- From one moment to another, with these answers of `realloc`: these events were added, which the guest did if its journal is exposed,
--- and of which this is so.
+-- From one moment to another, with these answers of `realloc`: the guest moved by these events, of which this is so, and they were added
+-- to its journal, where it is exposed.
 pub record Serving (before after : Moment) (Moves : List Event → Type 0) (IsSo : List Answer → List Event → Type 0) : Type 0 where
   pub answers : List Answer
   pub events : List Event
   pub goes : Goes before after (marks_of answers) events
-  pub moves : IsSome before.guest.journal → Moves events
+  pub moves : Moves events
   pub so : IsSo answers events
 
 -- only the data, the guest, its memory and the ledger may differ
@@ -190,8 +189,8 @@ module _ {T : Type 0} (gives : Giving T) (callee : Callee) (limits : Limits) whe
     pub longer : len ≤ length now.bytes
     pub goes : Goes before now (marks_of (answers_in turns)) (so_far callee words before turns (step_event next now.bytes ∷ []))
     -- by these events, and by the same in legs
-    pub moves : IsSome before.guest.journal → Lives [] (so_far callee words before turns (step_event next now.bytes ∷ []))
-    pub lived : IsSome before.guest.journal → Lives (legs_in (event.Start callee.func words before.bytes ∷ []) turns) (since_last (event.Start callee.func words before.bytes ∷ []) turns ++ step_event next now.bytes ∷ [])
+    pub moves : Lives [] (so_far callee words before turns (step_event next now.bytes ∷ []))
+    pub lived : Lives (legs_in (event.Start callee.func words before.bytes ∷ []) turns) (since_last (event.Start callee.func words before.bytes ∷ []) turns ++ step_event next now.bytes ∷ [])
 
   -- The guest was left after so many asks that were served in an ask that wasn't.
   pub record StopsInAsk (count len : ℕ) (before after : Moment) (served left : HostSide T) (e : Error) (late_guest : Seen) (late : List Answer) (trap : Option Trap) (tail : List Event) : Type 0 where
@@ -232,7 +231,7 @@ module _ {T : Type 0} (gives : Giving T) (callee : Callee) (limits : Limits) whe
     pub longer : len ≤ length after.bytes
     pub is : events ≡ so_far callee words before turns tail
     pub stopped : Stopped (length turns) len before after served left answer late_guest late late_trap tail
-    pub lived : IsSome before.guest.journal → AsksFrom Lives (event.Start callee.func words before.bytes ∷ []) turns late_guest.live tail
+    pub lived : AsksFrom Lives (event.Start callee.func words before.bytes ∷ []) turns late_guest.live tail
 
   -- or memory ran out for its start
   abbrev pub MayRun : (List Leg → List Event → Type 0) → List ℕ → Moment → Moment → HostSide T → HostSide T → Result (List ℕ) Error → List Answer → List Event → Type 0
@@ -327,7 +326,7 @@ module _ {T R : Type 0} (its : ReturnedValues R) (gives : Giving T) (callee : Ca
     pub tail : List Event
     pub answers_are : answers ≡ answers_in turns ++ late
     pub starts : MayStart callee.func turns late late_trap tail events
-    pub lived : IsSome before.guest.journal → AsksLive Lives turns late_guest.live tail events
+    pub lived : AsksLive Lives turns late_guest.live tail events
     pub asks : answer ≢ Err error.TurnsExhausted → asks_in events ≤ limits.turns
     pub grows : Grows (length before.bytes) events (length after.bytes)
     pub start : Each (OnStart (λ ws m. (ws ≡ words) × (m ≡ before.bytes))) events

@@ -9,7 +9,7 @@ use Rattle.canon_model.specs.Requests.{Call, Request, call_of}
 use Rattle.canon_lowering.specs.Stages.{GoesBy, Stage, bare, holding, moment_at}
 use Rattle.canon_memory.specs.Realloc.{new_block, block}
 use Rattle.canon_lowering.specs.Steps.{Apart, Writes}
-use Rattle.canon_lowering.specs.Lowering.{AllLawful, Answer, AtMostOne, BeginsWith, Ending, Granted, Lowering, CauseOf, Reallocated, Requested, UnlessShort, WhenDone, addresses_of, done, events_of, misaligned, out_of_bounds, refused, short, trapped}
+use Rattle.canon_lowering.specs.Lowering.{AllLawful, Answer, AtMostOne, BeginsWith, Ending, Granted, Lowering, Reallocated, Requested, UnlessShort, WhenDone, addresses_of, done, events_of, misaligned, out_of_bounds, refused, short, trapped}
 use Rattle.canon_memory.specs.declared.event.Event.{Event}
 use Rattle.canon_lowering.specs.Attempt.{Aim, AreHeld, Attempt, Shown}
 use Rattle.canon_lowering.proofs.Lowerings.{NotDone, addresses_append, answer, lowering_anew, lowering_filled, lowering_write, requested_cons, requested_stopped, stopped, stopped_asked, in_first, in_second, lawful_first, lawful_second, lowering_none, lowering_refused, lowering_then, lowering_within, requested_later, requested_none, requested_part, requested_then, tidy_first, tidy_second, when, when_not}
@@ -321,7 +321,7 @@ attempt_bare {hs = hs} wide a b places aim e h = record {
   answers = h.answers;
   trap = h.trap;
   fresh = h.fresh;
-  lowering = record { goes = h.lowering.goes; moves = bare_so e a b (events_of h.answers h.trap); small = h.lowering.small; lawful = h.lowering.lawful; tidy = h.lowering.tidy; gained = h.lowering.gained; cause = cause_bare e h.lowering.cause; accepted = h.lowering.accepted };
+  lowering = record { goes = h.lowering.goes; moves = bare_so e a b (events_of h.answers h.trap); small = h.lowering.small; lawful = h.lowering.lawful; tidy = h.lowering.tidy; gained = h.lowering.gained; cause = h.lowering.cause; accepted = h.lowering.accepted };
   requested = h.requested;
   shown = when e (Shown wide a b places aim h.answers h.fresh hs) (Shown wide (bare (moment_at a)) (bare (moment_at b)) places aim h.answers h.fresh hs) (λ k. record {
     it = k.it;
@@ -332,14 +332,6 @@ attempt_bare {hs = hs} wide a b places aim e h = record {
     memory_homes = k.memory_homes;
   }) h.shown;
 }
-  where
-    cause_bare : (e : Ending) → CauseOf a b h.answers h.trap e → CauseOf (bare (moment_at a)) (bare (moment_at b)) h.answers h.trap e
-    cause_bare done c = c
-    cause_bare refused c = c
-    cause_bare (misaligned n) c = c
-    cause_bare (out_of_bounds n) c = c
-    cause_bare trapped c = c
-    cause_bare short c = c
 
 -- with the same answers
 pub bare_asked : {K : Type 0} {X : Type 0} {hs : List ℕ} (wide : Bool) (a b : Stage K) (places : List Block) (aim : Aim X) (e : Ending) (h : Attempt wide a b places aim hs e)

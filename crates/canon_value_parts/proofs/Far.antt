@@ -1,4 +1,5 @@
 -- Parameters that are lowered into a block.
+use Rattle.canon_memory.specs.Guest.{Moment}
 use Rattle.canon_value_parts.specs.Fails.{MemberFails}
 use Rattle.canon_value_parts.proofs.Lookups.{tuple_names}
 use Rattle.canon_plan.proofs.Lookups.{tuple_shape_of}
@@ -21,7 +22,7 @@ use Rattle.canon_types.specs.Table.{IsDefined, TupleType, TypeTable, shape_of, t
 use Rattle.canon_types.specs.declared.types.InterfaceType.{InterfaceType}
 use Rattle.canon_types.specs.declared.types.InterfaceType.TheVariants as ty
 use Rattle.canon_value_parts.specs.Args.{AsksTuple, LowersParams, args_words}
-use Rattle.canon_context.specs.Core.{Parts, component_types, encoding_by, stage_of}
+use Rattle.canon_context.specs.Core.{Parts, component_types, encoding_by, moment_of, stage_of}
 use Rattle.canon_context.specs.Lowers.{ending_of, fault_ending}
 use Rattle.canon_context.specs.Asks.{AsksFor, SameButHandles}
 use Rattle.canon_value_parts.proofs.Passing.{handles_then, passes_from, same_handles}
@@ -54,7 +55,7 @@ one_word (x ∷ []) w p e is = ap (λ (y : ℕ). y ∷ []) is
 one_word (x ∷ y ∷ ws) w p e is = absurd (omega (arith, e))
 
 -- where a refusal is for the value alone, no request trapped
-no_trap : {K : Type 0} (a b : Stage K) (answers : List Answer) (trap : Option Trap) (r : Result ℕ Fault) → IfErr r (λ e. fault_ending e ≡ refused) → CauseOf a b answers trap (ending_of r) → trap ≡ None
+no_trap : (a b : Moment) (answers : List Answer) (trap : Option Trap) (r : Result ℕ Fault) → IfErr r (λ e. fault_ending e ≡ refused) → CauseOf a b answers trap (ending_of r) → trap ≡ None
 no_trap a b answers trap (Ok n) h cause = cause
 no_trap a b answers trap (Err e) h cause = subst (λ end. CauseOf a b answers trap end) h cause
 
@@ -82,7 +83,7 @@ module _ {T G : Type 0} (L : GuestLaws G) (options options2 : ℕ) (a b c : Part
       far_first false (host_texts (encoding_by a options)) ms (Named ms (no_names vs) vs) (HaveTrees ms vs) (λ ts have. have.1) from (stage_of L.seen L.moves a) (stage_of L.seen L.moves b) (stage_of L.seen L.moves c) p (ending_of r) far g.small g.does storing,
       λ quiet. far_only false (host_texts (encoding_by a options)) ms (Named ms (no_names vs) vs) (HaveTrees ms vs) (λ ts have. have.1) from (stage_of L.seen L.moves a) (stage_of L.seen L.moves b) (stage_of L.seen L.moves c) p (ending_of r) far g.small g.does storing
           (none_answered (L.seen b.guest).marks storing.answers (ap (λ (x : G). (L.seen x).marks) (sym (stood.quiet quiet).0) ∙ storing.lowering.goes.marks))
-          (no_trap (stage_of L.seen L.moves b) (stage_of L.seen L.moves c) storing.answers storing.trap r (stood.quiet quiet).1 storing.lowering.cause),
+          (no_trap (moment_of L.seen b) (moment_of L.seen c) storing.answers storing.trap r (stood.quiet quiet).1 storing.lowering.cause),
     );
   }
 

@@ -13,7 +13,7 @@ use Rattle.canon_func.specs.Stores.{export_callee}
 use Rattle.canon_func.proofs.Asking.{but_host, has_exhausted, has_returned, has_stopped, not_started, side_same, then_host}
 use Rattle.canon_func.proofs.Composed.{retyped}
 use Rattle.canon_func.proofs.Lived.{lives_ask, lives_then}
-use Rattle.canon_func.proofs.Turns.{stepping_begin, stepping_more, told_later}
+use Rattle.canon_func.proofs.Turns.{stepping_begin, stepping_more}
 use Rattle.canon_func.proofs.asks.run_core.Goals as goal
 
 pub returns-in-Err-clause-did : goal.returns-in-Err-clause-did
@@ -50,7 +50,7 @@ loop-init g c =
       stepping = subst (λ k. Stepping gives callee limits (LivesUntil {U = Unit {0}} g.G.Guest.seen g.G.Guest.moves (guest_of before) (guest_of now) (Ok tt)) c.args.words.now (moment_of seen before) (moment_of seen now) host k 0 c.in-Ok.step)
           (sym (side_same before now (imports.log i) (imports.refusals i) c.in-Ok.ensures.same))
           (stepping_begin gives callee limits (LivesUntil {U = Unit {0}} g.G.Guest.seen g.G.Guest.moves (guest_of before) (guest_of now) (Ok tt)) c.args.words.now (moment_of seen before) host (moment_of seen now) c.in-Ok.step
-          (subst (λ es. Goes (moment_of seen before) (moment_of seen now) [] es) did.so did.goes) (λ told. subst (λ es. moves (guest_of before) es (guest_of now)) did.so did.moves));
+          (subst (λ es. Goes (moment_of seen before) (moment_of seen now) [] es) did.so did.goes) (subst (λ es. moves (guest_of before) es (guest_of now)) did.so did.moves));
     }
 
 pub returns-in-Err-serve-clause-did : goal.returns-in-Err-serve-clause-did
@@ -84,7 +84,7 @@ returns-in-Err-serve-clause-did g c =
     (subst (λ q. Serving (moment_of seen mid) (moment_of seen after) N (Serves (imports.gives (imports.plan j)) (export_callee q.component c.args.export.now) q.fuel index asked (moment_of seen mid) (moment_of seen after) served left (Err e)))
     c.loop.invariant.same c.in-Err-serve.ensures.did) in
     has_stopped gives callee limits (LivesUntil {U = List ℕ} g.G.Guest.seen g.G.Guest.moves (guest_of before) (guest_of after) (Err e)) words (moment_of seen before) host (moment_of seen mid) (moment_of seen after) served left
-    before_lives N (told_later (moment_of seen before) (moment_of seen mid) _ _ so_far.goes)
+    before_lives N
     (λ xs ys p q. lives_then seen moves (List ℕ) (Unit {0}) tt (Err e) (guest_of before) (guest_of mid) (guest_of after) g.met.G.Guest.goes_on [] xs ys p (retyped Step (List ℕ) e (moves (guest_of mid) ys (guest_of after)) q))
     (λ legs xs ys p q. lives_ask seen moves (List ℕ) (Unit {0}) tt (Err e) (guest_of before) (guest_of mid) (guest_of after) legs xs ys p (retyped Step (List ℕ) e (moves (guest_of mid) ys (guest_of after)) q))
     c.loop.counter index asked e so_far (omega (arith, c.loop-test.true)) one
