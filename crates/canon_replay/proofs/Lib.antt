@@ -3,3 +3,4 @@ pub mod Departing
 pub mod Making
 pub mod Places
 pub mod Rows
+pub mod Whole

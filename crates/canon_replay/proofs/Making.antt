@@ -48,7 +48,7 @@ module _ (k : ℕ) (a : Again) (before after : ReplayStore) (ready : IsReady k b
         → after.core.component ≡ before.core.component → EndsOk k (named_export before a.export) after results a.results.items o → MakesAgain k call before after o
     after_ok None some calls same (passed, one) =
         let adding = calls.call refl in
-        let moves = adding.moves refl in
+        let moves = adding.moves in
         let alike = all_alike k call before after (Ok tt) results adding.events (length after.core.memory) refl (same_in adding.events moves) passed (follows adding.events moves) in
         let (going, at, past) = all_passed k call before after (Ok tt) results adding.events (length after.core.memory) refl (same_in adding.events moves) passed in
         (record {
@@ -67,7 +67,7 @@ module _ (k : ℕ) (a : Again) (before after : ReplayStore) (ready : IsReady k b
         past_now c r le = subst (λ (n : ℕ). length (call_events h.recorded n) ≤ h.at) (sym c) (subst (λ (rs : List (List Event)). length (call_events rs k) ≤ h.at) (sym r) le)
     after_ok (Some o) some calls same (is, why) =
         let adding = calls.call refl in
-        let moves = adding.moves refl in
+        let moves = adding.moves in
         let kept = same_in adding.events moves in
         let made : WasMade call before after (Ok tt) results adding.events = record { is = adding.so; moves = moves } in
         subst (Departs k call before) (sym is)
@@ -86,7 +86,7 @@ module _ (k : ℕ) (a : Again) (before after : ReplayStore) (ready : IsReady k b
         entered : IsNone (refused_by (Err e)) → Departs k call before (outcome_at k h)
         entered none =
             let adding = calls.call none in
-            let moved = adding.moves refl in
+            let moved = adding.moves in
             let moves = unless_short (Err e) (JournaledReplays (guest_of before.core) adding.events (guest_of after.core)) (λ s. other (same_error s)) moved in
             departs k call before after (Err e) results adding.events (length after.core.memory) refl (same_in adding.events moves) (record { is = adding.so; moves = moved }) (λ f. tt) (follows adding.events moves)
           where
