@@ -55,7 +55,8 @@ fn add(parts: &mut Parts, call: Recorded) -> Result<(), ReplayError>
         mut served,
         results,
     } = call;
-    if parts.events.push(events).is_err() || parts.asks.append(&mut served).is_err() {
+    keep(&mut parts.events, events)?;
+    if parts.asks.append(&mut served).is_err() {
         return Err(ReplayError::OutOfMemory);
     }
     let again = Again {
@@ -63,8 +64,14 @@ fn add(parts: &mut Parts, call: Recorded) -> Result<(), ReplayError>
         params,
         results,
     };
-    if parts.calls.push(again).is_err() {
-        return Err(ReplayError::OutOfMemory);
+    keep(&mut parts.calls, again)
+}
+
+fn keep<T: Drop>(items: &mut Vec<T>, item: T) -> Result<(), ReplayError>
+    ensures ok { OnOk result (items.new.items ≡ items.old.items ++ item ∷ []) }
+{
+    match items.push(item) {
+        Ok(()) => Ok(()),
+        Err(_) => Err(ReplayError::OutOfMemory),
     }
-    Ok(())
 }
