@@ -47,7 +47,7 @@ module _ (exports imports : Functions) where
   })
 
   call_of_export : (call : RecordedCall) (bs : List ℕ) → (a_call true exports imports).writes call bs → IsRecordedCallOf exports imports call
-  call_of_export call bs (n, rest, good, f, (x, e, (xs, ys, be, (ps, rs, ve, hp, hr), (es, as, de, (ne, erest, te, fe, he), (na, arest, ta, fa, ha))))) =
+  call_of_export call bs (n, rest, good, f, (x, e, (xs, ys, be, (ps, rs, ve, hp, hr), (es, asked, de, (ne, erest, te, fe, he), (na, arest, ta, fa, ha))))) =
       subst (IsRecordedCallOf exports imports) (sym e) (record {
         its = record { known = good; params = values_are (exports.params n) x.0.0 ps hp; results = values_are (exports.results n) x.0.1 rs hr };
         few = omega (arith, fe.fits, row_count (an_event imports.count) ne x.1.0 erest he);

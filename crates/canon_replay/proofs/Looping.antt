@@ -82,4 +82,4 @@ module _ (first : ReplayStore) (calls : List Again) where
     loop_departs next o h = are.rest o (inr (here next (Some o) h))
 
   pub loop_ends : (k : ℕ) (store : ReplayStore) (left : List Again) → left ≡ [] → AreReplayed k store left → ReplaysFrom 0 (all_made recorded 0 calls) first outcome.Same
-  loop_ends k store left e are = are.rest outcome.Same (subst (λ (as : List Again). ReplaysFrom k (all_made recorded k as) store outcome.Same) (sym e) refl)
+  loop_ends k store left e are = are.rest outcome.Same (subst (λ (others : List Again). ReplaysFrom k (all_made recorded k others) store outcome.Same) (sym e) refl)

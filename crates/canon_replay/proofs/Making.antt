@@ -50,18 +50,22 @@ module _ (k : ℕ) (a : Again) (before after : ReplayStore) (ready : IsReady k b
         let adding = calls.call refl in
         let moves = adding.moves in
         let alike = all_alike k call before after (Ok tt) results adding.events (length after.core.memory) refl (same_in adding.events moves) passed (follows adding.events moves) in
-        let (going, at, past) = all_passed k call before after (Ok tt) results adding.events (length after.core.memory) refl (same_in adding.events moves) passed in
-        (record {
-          results = results;
-          events = adding.events;
-          made = record { is = adding.so; moves = moves };
-          alike = alike;
-          same = subst (λ (c : Component). HaveOneImage (results_shape_in c.types.types (type_in c (slice_get c.exports.items a.export))) results a.results.items) same one;
-        }, record {
-          going = going;
-          before = inr (omega (arith, at), past_now at (same_in adding.events moves) past);
-          untrapped = calls.runs ∙ ready.untrapped;
-        }, same, same_in adding.events moves)
+        let (going, at, past) = all_passed k call before after (Ok tt) results adding.events (length after.core.memory) refl (same_in adding.events moves) passed in (
+          record {
+            results = results;
+            events = adding.events;
+            made = record { is = adding.so; moves = moves };
+            alike = alike;
+            same = subst (λ (c : Component). HaveOneImage (results_shape_in c.types.types (type_in c (slice_get c.exports.items a.export))) results a.results.items) same one;
+          },
+          record {
+            going = going;
+            before = inr (omega (arith, at), past_now at (same_in adding.events moves) past);
+            untrapped = calls.runs ∙ ready.untrapped;
+          },
+          same,
+          same_in adding.events moves,
+        )
       where
         past_now : h.call ≡ k → h.recorded ≡ g.recorded → length (call_events g.recorded k) ≤ h.at → length (call_events h.recorded h.call) ≤ h.at
         past_now c r le = subst (λ (n : ℕ). length (call_events h.recorded n) ≤ h.at) (sym c) (subst (λ (rs : List (List Event)). length (call_events rs k) ≤ h.at) (sym r) le)

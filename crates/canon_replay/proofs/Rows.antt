@@ -33,31 +33,31 @@ same_made recorded k a call e f =
     let results : a.results.items ≡ call.results = ap (λ x. x.1.1) e in
     rw export rw params rw results rw f refl
 
-pub all_made_are : (recorded : List (List Event)) (k : ℕ) (as : List Again) (calls : List RecordedCall) → map told_again as ≡ map told_call calls → drop k recorded ≡ map events_of_call calls → all_made recorded k as ≡ map call_made calls
+pub all_made_are : (recorded : List (List Event)) (k : ℕ) (agains : List Again) (calls : List RecordedCall) → map told_again agains ≡ map told_call calls → drop k recorded ≡ map events_of_call calls → all_made recorded k agains ≡ map call_made calls
 all_made_are recorded k [] [] e f = refl
 all_made_are recorded k [] (call ∷ calls) e f = absurd (omega (arith, ap length e))
-all_made_are recorded k (a ∷ as) [] e f = absurd (omega (arith, ap length e))
-all_made_are recorded k (a ∷ as) (call ∷ calls) e f =
+all_made_are recorded k (a ∷ agains) [] e f = absurd (omega (arith, ap length e))
+all_made_are recorded k (a ∷ agains) (call ∷ calls) e f =
     let first : told_again a ≡ told_call call = cc in
-    let others : map told_again as ≡ map told_call calls = cc in
+    let others : map told_again agains ≡ map told_call calls = cc in
     let events : call_events recorded k ≡ call.events = rw (get_first recorded k call.events (map events_of_call calls) f) refl in
-    ap₂ (λ x xs. x ∷ xs) (same_made recorded k a call first events) (all_made_are recorded (k + 1) as calls others (drop_rest recorded k call.events (map events_of_call calls) f))
+    ap₂ (λ x xs. x ∷ xs) (same_made recorded k a call first events) (all_made_are recorded (k + 1) agains calls others (drop_rest recorded k call.events (map events_of_call calls) f))
 
-pub same_length : (as : List Again) (calls : List RecordedCall) → map told_again as ≡ map told_call calls → length as ≡ length calls
-same_length as calls e = sym (map_length told_again as) ∙ (ap length e ∙ map_length told_call calls)
+pub same_length : (agains : List Again) (calls : List RecordedCall) → map told_again agains ≡ map told_call calls → length agains ≡ length calls
+same_length agains calls e = sym (map_length told_again agains) ∙ (ap length e ∙ map_length told_call calls)
 
 -- ---- what fits
 
-pub known_again : (as : List Again) (calls : List RecordedCall) (c : Component) → map told_again as ≡ map told_call calls → All (IsRecordedCallOf (exports_of c) (imports_of c)) calls → All (λ (a : Again). a.export < length c.exports.items) as
+pub known_again : (agains : List Again) (calls : List RecordedCall) (c : Component) → map told_again agains ≡ map told_call calls → All (IsRecordedCallOf (exports_of c) (imports_of c)) calls → All (λ (a : Again). a.export < length c.exports.items) agains
 known_again [] calls c e are = All-nil (λ (a : Again). a.export < length c.exports.items)
-known_again (a ∷ as) [] c e are = absurd (omega (arith, ap length e))
-known_again (a ∷ as) (call ∷ calls) c e are =
+known_again (a ∷ agains) [] c e are = absurd (omega (arith, ap length e))
+known_again (a ∷ agains) (call ∷ calls) c e are =
     let first : told_again a ≡ told_call call = cc in
-    let others : map told_again as ≡ map told_call calls = cc in
+    let others : map told_again agains ≡ map told_call calls = cc in
     let export : a.export ≡ call.export = ap (λ x. x.0) first in
-    All-cons (λ (a : Again). a.export < length c.exports.items) a as
+    All-cons (λ (a : Again). a.export < length c.exports.items) a agains
     (subst (λ (n : ℕ). n < length c.exports.items) (sym export) (All-head (IsRecordedCallOf (exports_of c) (imports_of c)) call calls are).its.known)
-    (known_again as calls c others (All-tail (IsRecordedCallOf (exports_of c) (imports_of c)) call calls are))
+    (known_again agains calls c others (All-tail (IsRecordedCallOf (exports_of c) (imports_of c)) call calls are))
 
 run_has : (func : ℕ) (post : Option ℕ) (events : List Event) → IsOneRun func post events → 0 < length events
 run_has func post events (words, memory, returned, after, run) = subst (λ (es : List Event). 0 < length es) (sym run.is) (some_events run.reallocs _ _)

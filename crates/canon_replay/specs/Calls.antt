@@ -51,7 +51,7 @@ made_again recorded k a = record { export = a.export; params = a.params.items; e
 -- calls from call k on
 abbrev pub all_made : List (List Event) → ℕ → List Again → List MadeCall
 all_made recorded k [] = []
-all_made recorded k (a ∷ as) = made_again recorded k a ∷ all_made recorded (k + 1) as
+all_made recorded k (a ∷ others) = made_again recorded k a ∷ all_made recorded (k + 1) others
 
 -- what stands in both: the export, the parameters and the results
 abbrev pub told_again : Again → ℕ × (List Val × List Val)

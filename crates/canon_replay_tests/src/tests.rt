@@ -111,11 +111,7 @@ fn bytes_of(alloc: Global, c: &Component) -> Option<Vec<u8>> {
 }
 
 /// What reading those bytes and replaying them gives, where this byte is in the place of another.
-fn replays_changed(
-    alloc: Global,
-    at: usize,
-    byte: u8,
-) -> Option<Result<Outcome, ReplayError>> {
+fn replays_changed(alloc: Global, at: usize, byte: u8) -> Option<Result<Outcome, ReplayError>> {
     let c = component_of(alloc)?;
     let mut bytes = bytes_of(alloc, &c)?;
     *bytes.get_mut(at)? = byte;
