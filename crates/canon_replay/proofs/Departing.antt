@@ -14,8 +14,8 @@ use Rattle.canon_replay_guest.specs.Replaying.{Replaying, call_events}
 use Rattle.canon_replay_guest.specs.declared.stop.Stop.{Stop}
 use Rattle.canon_replay_guest.specs.declared.stop.Stop.TheVariants as stop
 use Rattle.canon_recording.proofs.Rows.{take_all}
-use Rattle.canon_replay.specs.Calls.{AnswersOtherwise, CallDiffers, Departs, HaveOtherImages, IsNotEntered, LeavesAt, MadeCall, WasMade, results_shape_of}
-use Rattle.canon_replay.specs.Outcomes.{has_passed, is_going, is_unlawful, outcome_at, place_in}
+use Rattle.canon_replay.specs.Calls.{AnswersOtherwise, CallDiffers, Departs, HaveOtherImages, IsNotEntered, LeavesAt, MadeCall, WasMadeAgain, results_shape_of}
+use Rattle.canon_replay.specs.Outcomes.{has_passed, is_going, is_unlawful, outcome_at, place_in_call}
 use Rattle.canon_replay.specs.Stores.{ReplayStore, guest_in_store}
 use Rattle.canon_replay.specs.declared.outcome.Outcome.{Outcome}
 use Rattle.canon_replay.specs.declared.outcome.Outcome.TheVariants as outcome
@@ -27,13 +27,13 @@ second_not : {A : Type 0} (b c : Bool) (x y : A) → c ≡ false → (if b && c 
 second_not true c x y e = rw e refl
 second_not false c x y e = refl
 
-differs_at : (k : ℕ) (h : Replaying) → is_unlawful h.stop ≡ false → outcome_at k h ≡ outcome.Differs k (place_in k h)
-differs_at k h e = second_not (nat_eq h.call k) (is_unlawful h.stop) (outcome.Unlawful k (place_in k h)) (outcome.Differs k (place_in k h)) e
+differs_at : (k : ℕ) (h : Replaying) → is_unlawful h.stop ≡ false → outcome_at k h ≡ outcome.Differs k (place_in_call k h)
+differs_at k h e = second_not (nat_eq h.call k) (is_unlawful h.stop) (outcome.Unlawful k (place_in_call k h)) (outcome.Differs k (place_in_call k h)) e
 
-unlawful_at : (k : ℕ) (h : Replaying) → h.call ≡ k → h.stop ≡ Some stop.Unlawful → outcome_at k h ≡ outcome.Unlawful k (place_in k h)
+unlawful_at : (k : ℕ) (h : Replaying) → h.call ≡ k → h.stop ≡ Some stop.Unlawful → outcome_at k h ≡ outcome.Unlawful k (place_in_call k h)
 unlawful_at k h c s = rw (eq-eqb h.call k c) rw s refl
 
-elsewhere : (k : ℕ) (h : Replaying) → k < h.call → outcome_at k h ≡ outcome.Differs k (place_in k h)
+elsewhere : (k : ℕ) (h : Replaying) → k < h.call → outcome_at k h ≡ outcome.Differs k (place_in_call k h)
 elsewhere k h lt = rw (ne_eqb h.call k (λ e. omega (arith, lt, e))) refl
 
 -- ---- a call that isn't as it was recorded
@@ -50,41 +50,41 @@ module _ (k : ℕ) (call : MadeCall) (before after : ReplayStore) (result : Resu
     events_h = ap (λ (r : List (List Event)). call_events r k) same ∙ sym is
 
     -- the place, by the recorded events of the call
-    there : h.call ≡ k → ((place_in k h ≡ h.at) × (h.at < length call.events)) ⊎ ((place_in k h ≡ length call.events) × (length call.events ≤ h.at))
+    there : h.call ≡ k → ((place_in_call k h ≡ h.at) × (h.at < length call.events)) ⊎ ((place_in_call k h ≡ length call.events) × (length call.events ≤ h.at))
     there c = go (place_there k h c)
       where
-        go : ((place_in k h ≡ h.at) × (h.at < length (call_events h.recorded k))) ⊎ ((place_in k h ≡ length (call_events h.recorded k)) × (length (call_events h.recorded k) ≤ h.at))
-            → ((place_in k h ≡ h.at) × (h.at < length call.events)) ⊎ ((place_in k h ≡ length call.events) × (length call.events ≤ h.at))
+        go : ((place_in_call k h ≡ h.at) × (h.at < length (call_events h.recorded k))) ⊎ ((place_in_call k h ≡ length (call_events h.recorded k)) × (length (call_events h.recorded k) ≤ h.at))
+            → ((place_in_call k h ≡ h.at) × (h.at < length call.events)) ⊎ ((place_in_call k h ≡ length call.events) × (length call.events ≤ h.at))
         go (inl (p, lt)) = inl (p, subst (λ (es : List Event). h.at < length es) events_h lt)
         go (inr (p, le)) = inr (p ∙ ap length events_h, subst (λ (es : List Event). length es ≤ h.at) events_h le)
 
     -- what was followed is the recorded events up to the place
-    pub followed_to : Follows k g h events → AreAlike events (take (place_in k h) call.events)
+    pub followed_to : Follows k g h events → AreAlike events (take (place_in_call k h) call.events)
     followed_to f = by f.passes
       where
         alike : AreAlike events (take f.count call.events)
         alike = subst (λ (es : List Event). AreAlike events (take f.count es)) (sym is) f.alike
 
-        at_place : f.count ≡ h.at → ((place_in k h ≡ h.at) × (h.at < length call.events)) ⊎ ((place_in k h ≡ length call.events) × (length call.events ≤ h.at)) → AreAlike events (take (place_in k h) call.events)
+        at_place : f.count ≡ h.at → ((place_in_call k h ≡ h.at) × (h.at < length call.events)) ⊎ ((place_in_call k h ≡ length call.events) × (length call.events ≤ h.at)) → AreAlike events (take (place_in_call k h) call.events)
         at_place c (inl (p, lt)) = subst (λ (i : ℕ). AreAlike events (take i call.events)) (c ∙ sym p) alike
         at_place c (inr (p, le)) = subst (AreAlike events) (ap (λ (i : ℕ). take i call.events) c ∙ take_there call.events h.at le ∙ ap (λ (i : ℕ). take i call.events) (sym p)) alike
 
-        by : IsPassedCount k h f.count → AreAlike events (take (place_in k h) call.events)
+        by : IsPassedCount k h f.count → AreAlike events (take (place_in_call k h) call.events)
         by (inl (c, n)) = at_place n (there c)
         by (inr (c, n)) = subst (λ (i : ℕ). AreAlike events (take i call.events)) (n ∙ sym (place_before k h c)) alike
 
     -- where the guest left it, at the place
-    left_at_place : (why : Stop) → h.call ≡ k → Leaves why (call_events g.recorded k) h.at g.live len events → LeavesAt why (place_in k h) call before events
+    left_at_place : (why : Stop) → h.call ≡ k → Leaves why (call_events g.recorded k) h.at g.live len events → LeavesAt why (place_in_call k h) call before events
     left_at_place why c l = (len, by (there c))
       where
         l2 : Leaves why call.events h.at g.live len events
         l2 = subst (λ (es : List Event). Leaves why es h.at g.live len events) (sym is) l
 
-        by : ((place_in k h ≡ h.at) × (h.at < length call.events)) ⊎ ((place_in k h ≡ length call.events) × (length call.events ≤ h.at)) → Leaves why call.events (place_in k h) g.live len events
+        by : ((place_in_call k h ≡ h.at) × (h.at < length call.events)) ⊎ ((place_in_call k h ≡ length call.events) × (length call.events ≤ h.at)) → Leaves why call.events (place_in_call k h) g.live len events
         by (inl (p, lt)) = subst (λ (i : ℕ). Leaves why call.events i g.live len events) (sym p) l2
         by (inr (p, le)) = subst (λ (i : ℕ). Leaves why call.events i g.live len events) (sym p) (leaves_there why call.events h.at g.live len events le l2)
 
-    module _ (made : WasMade call before after result results events) where
+    module _ (made : WasMadeAgain call before after result results events) where
       stops : (why : Stop) → h.stop ≡ Some why → h.call ≡ k → Leaves why (call_events g.recorded k) h.at g.live len events → Departs k call before (outcome_at k h)
       stops stop.Differs s c l = subst (Departs k call before) (sym (differs_at k h (ap is_unlawful s))) (refl, inr (after, result, results, events, made, inl (left_at_place stop.Differs c l)))
       stops stop.Unfit s c l = subst (Departs k call before) (sym (differs_at k h (ap is_unlawful s))) (refl, inr (after, result, results, events, made, inr (inl (left_at_place stop.Unfit c l))))
@@ -93,11 +93,11 @@ module _ (k : ℕ) (call : MadeCall) (before after : ReplayStore) (result : Resu
       overruns : k < h.call → Leaves stop.Differs (call_events g.recorded k) (length (call_events g.recorded k)) g.live len events → Departs k call before (outcome_at k h)
       overruns lt l = subst (Departs k call before) (sym (elsewhere k h lt)) (refl, inr (after, result, results, events, made, inl (len, there_left)))
         where
-          there_left : Leaves stop.Differs call.events (place_in k h) g.live len events
+          there_left : Leaves stop.Differs call.events (place_in_call k h) g.live len events
           there_left = subst (λ (i : ℕ). Leaves stop.Differs call.events i g.live len events) (sym (place_after k h lt ∙ ap length events_h))
               (subst (λ (es : List Event). Leaves stop.Differs es (length es) g.live len events) (sym is) l)
 
-      pub departs : (Follows k g h events → AnswersOtherwise (place_in k h) call before results result) → Follows k g h events ⊎ TrapsInCall k g h len events ⊎ Overruns k g h len events → Departs k call before (outcome_at k h)
+      pub departs : (Follows k g h events → AnswersOtherwise (place_in_call k h) call before results result) → Follows k g h events ⊎ TrapsInCall k g h len events ⊎ Overruns k g h len events → Departs k call before (outcome_at k h)
       departs otherwise (inl f) = subst (Departs k call before) (sym (differs_at k h (ap is_unlawful f.going)))
           (refl, inr (after, result, results, events, made, inr (inr (followed_to f, otherwise f))))
       departs otherwise (inr (inl (why, s, c, l))) = stops why s c l
@@ -125,9 +125,9 @@ module _ (k : ℕ) (call : MadeCall) (before after : ReplayStore) (result : Resu
         let (stands, c, le) = all_passed e in
         subst (AreAlike events) (at_end (there c)) (followed_to f)
       where
-        at_end : ((place_in k h ≡ h.at) × (h.at < length call.events)) ⊎ ((place_in k h ≡ length call.events) × (length call.events ≤ h.at)) → take (place_in k h) call.events ≡ call.events
+        at_end : ((place_in_call k h ≡ h.at) × (h.at < length call.events)) ⊎ ((place_in_call k h ≡ length call.events) × (length call.events ≤ h.at)) → take (place_in_call k h) call.events ≡ call.events
         at_end (inl (p, lt)) = absurd (omega (arith, lt, (all_passed e).2))
-        at_end (inr (p, le)) = take_all call.events (place_in k h) (omega (arith, p))
+        at_end (inr (p, le)) = take_all call.events (place_in_call k h) (omega (arith, p))
     all_alike e (inr (inl (why, s, c, l))) = absurd (some_stop (sym s ∙ (all_passed e).0))
       where
         some_stop : ¬ (Some why ≡ None)
@@ -135,7 +135,7 @@ module _ (k : ℕ) (call : MadeCall) (before after : ReplayStore) (result : Resu
     all_alike e (inr (inr (lt, l))) = absurd (omega (arith, lt, (all_passed e).1))
 
     -- not all were, of a guest that goes on
-    pub not_all : 0 < length call.events → has_passed k h ≡ false → Follows k g h events → place_in k h < length call.events
+    pub not_all : 0 < length call.events → has_passed k h ≡ false → Follows k g h events → place_in_call k h < length call.events
     not_all some e f = by f.passes
       where
         short : h.call ≡ k → h.at < length call.events
@@ -144,11 +144,11 @@ module _ (k : ℕ) (call : MadeCall) (before after : ReplayStore) (result : Resu
             tested : has_passed k h ≡ false → nat_le (length (call_events h.recorded k)) h.at ≡ false
             tested x = sym (rw f.going rw (eq-eqb h.call k c) refl) ∙ x
 
-        at_place : h.call ≡ k → ((place_in k h ≡ h.at) × (h.at < length call.events)) ⊎ ((place_in k h ≡ length call.events) × (length call.events ≤ h.at)) → place_in k h < length call.events
+        at_place : h.call ≡ k → ((place_in_call k h ≡ h.at) × (h.at < length call.events)) ⊎ ((place_in_call k h ≡ length call.events) × (length call.events ≤ h.at)) → place_in_call k h < length call.events
         at_place c (inl (p, lt)) = omega (arith, p, lt)
         at_place c (inr (p, le)) = absurd (omega (arith, short c, le))
 
-        by : IsPassedCount k h f.count → place_in k h < length call.events
+        by : IsPassedCount k h f.count → place_in_call k h < length call.events
         by (inl (c, n)) = at_place c (there c)
         by (inr (c, n)) = omega (arith, place_before k h c, some)
 
@@ -157,14 +157,14 @@ module _ (k : ℕ) (call : MadeCall) (before after : ReplayStore) (result : Resu
 pub not_entered : (k : ℕ) (call : MadeCall) (before : ReplayStore) → (guest_in_store before).stop ≡ None → IsBefore k (guest_in_store before) → IsNotEntered call before → Departs k call before (outcome_at k (guest_in_store before))
 not_entered k call before going at refused = subst (Departs k call before) (sym (differs_at k (guest_in_store before) (ap is_unlawful going))) (refl, inl (place at, refused))
   where
-    place_at : (guest_in_store before).call ≡ k → (guest_in_store before).at ≡ 0 → place_in k (guest_in_store before) ≡ 0
+    place_at : (guest_in_store before).call ≡ k → (guest_in_store before).at ≡ 0 → place_in_call k (guest_in_store before) ≡ 0
     place_at c z = by (place_there k (guest_in_store before) c)
       where
-        by : ((place_in k (guest_in_store before) ≡ (guest_in_store before).at) × ((guest_in_store before).at < length (call_events (guest_in_store before).recorded k))) ⊎ ((place_in k (guest_in_store before) ≡ length (call_events (guest_in_store before).recorded k)) × (length (call_events (guest_in_store before).recorded k) ≤ (guest_in_store before).at)) → place_in k (guest_in_store before) ≡ 0
+        by : ((place_in_call k (guest_in_store before) ≡ (guest_in_store before).at) × ((guest_in_store before).at < length (call_events (guest_in_store before).recorded k))) ⊎ ((place_in_call k (guest_in_store before) ≡ length (call_events (guest_in_store before).recorded k)) × (length (call_events (guest_in_store before).recorded k) ≤ (guest_in_store before).at)) → place_in_call k (guest_in_store before) ≡ 0
         by (inl (p, lt)) = p ∙ z
         by (inr (p, le)) = omega (arith, p, le, z)
 
-    place : IsBefore k (guest_in_store before) → place_in k (guest_in_store before) ≡ 0
+    place : IsBefore k (guest_in_store before) → place_in_call k (guest_in_store before) ≡ 0
     place (inl (c, z)) = place_at c z
     place (inr (c, past)) = place_before k (guest_in_store before) c
 

@@ -17,9 +17,9 @@ use Rattle.canon_func.specs.Call.{call_refusal, refused_by}
 use Rattle.canon_func.specs.Stores.{Named, callee_of, type_in, type_of}
 use Rattle.canon_func.specs.declared.error.Error.{Error}
 use Rattle.canon_func.specs.declared.error.Error.TheVariants as error
-use Rattle.canon_replay.specs.Calls.{AnswersOtherwise, CallReplayed, Departs, EndsOk, HaveOneImage, HaveOtherImages, IsReady, MadeCall, MakesAgain, WasMade, made_again, results_shape_in, results_shape_of}
+use Rattle.canon_replay.specs.Calls.{AnswersOtherwise, CallReplayed, Departs, EndsOk, HaveOneImage, HaveOtherImages, IsReady, MadeCall, MakesAgain, WasMadeAgain, made_again, results_shape_in, results_shape_of}
 use Rattle.canon_replay.specs.Made.{CallsExport}
-use Rattle.canon_replay.specs.Outcomes.{has_passed, outcome_at, place_in}
+use Rattle.canon_replay.specs.Outcomes.{has_passed, outcome_at, place_in_call}
 use Rattle.canon_replay.specs.Stores.{JournaledReplays, ReplayStore, guest_in_store, named_export}
 use Rattle.canon_replay.specs.declared.again.Again.{Again}
 use Rattle.canon_replay.specs.declared.outcome.Outcome.{Outcome}
@@ -73,13 +73,13 @@ module _ (k : ℕ) (a : Again) (before after : ReplayStore) (ready : IsReady k b
         let adding = calls.call refl in
         let moves = adding.moves in
         let kept = same_in adding.events moves in
-        let made : WasMade call before after (Ok tt) results adding.events = record { is = adding.so; moves = moves } in
+        let made : WasMadeAgain call before after (Ok tt) results adding.events = record { is = adding.so; moves = moves } in
         subst (Departs k call before) (sym is)
         (departs k call before after (Ok tt) results adding.events (length after.core.memory) refl kept made (λ f. otherwise adding.events kept f why) (follows adding.events moves))
       where
         otherwise : (events : List Event) → h.recorded ≡ g.recorded → Follows k g h events
             → (has_passed k h ≡ false) ⊎ HaveOtherImages (results_shape_in (component_types after.core) (type_of after (named_export before a.export))) results a.results.items
-            → AnswersOtherwise (place_in k h) call before results (Ok tt)
+            → AnswersOtherwise (place_in_call k h) call before results (Ok tt)
         otherwise events kept f (inl no) = inl (not_all k call before after (Ok tt) results events (length after.core.memory) refl kept some no f)
         otherwise events kept f (inr other) = inr (subst (λ (c : Component). HaveOtherImages (results_shape_in c.types.types (type_in c (slice_get c.exports.items a.export))) results a.results.items) same other)
 

@@ -14,7 +14,7 @@ use Rattle.canon_replay_guest.specs.Replaying.{Replaying, call_events}
 use Rattle.canon_replay_guest.specs.declared.stop.Stop.{Stop}
 use Rattle.canon_replay_guest.proofs.Passing.{does_pass, does_trap}
 use Rattle.canon_recording.proofs.Rows.{take_all}
-use Rattle.canon_replay.specs.Outcomes.{has_passed, is_going, place_in}
+use Rattle.canon_replay.specs.Outcomes.{has_passed, is_going, place_in_call}
 
 -- ---- what is recorded stays
 
@@ -37,16 +37,16 @@ module _ (k : ℕ) (g : Replaying) where
   abbrev count : ℕ
   count = length (call_events g.recorded k)
 
-  pub place_before : suc g.call ≡ k → place_in k g ≡ 0
+  pub place_before : suc g.call ≡ k → place_in_call k g ≡ 0
   place_before e = rw (lt-ltb g.call k (omega (arith, e))) refl
 
-  pub place_after : k < g.call → place_in k g ≡ count
+  pub place_after : k < g.call → place_in_call k g ≡ count
   place_after lt = rw (le-ltb g.call k (omega (arith, lt))) rw (ne_eqb g.call k (λ e. omega (arith, lt, e))) refl
 
-  pub place_there : g.call ≡ k → ((place_in k g ≡ g.at) × (g.at < count)) ⊎ ((place_in k g ≡ count) × (count ≤ g.at))
+  pub place_there : g.call ≡ k → ((place_in_call k g ≡ g.at) × (g.at < count)) ⊎ ((place_in_call k g ≡ count) × (count ≤ g.at))
   place_there e = go (nat_lt g.at count) refl
     where
-      go : (b : Bool) → nat_lt g.at count ≡ b → ((place_in k g ≡ g.at) × (g.at < count)) ⊎ ((place_in k g ≡ count) × (count ≤ g.at))
+      go : (b : Bool) → nat_lt g.at count ≡ b → ((place_in_call k g ≡ g.at) × (g.at < count)) ⊎ ((place_in_call k g ≡ count) × (count ≤ g.at))
       go true is = inl (rw (le-ltb g.call k (omega (arith, e))) rw (eq-eqb g.call k e) rw is refl, ltb-true g.at count is)
       go false is = inr (rw (le-ltb g.call k (omega (arith, e))) rw (eq-eqb g.call k e) rw is refl, ltb-false g.at count is)
 

@@ -9,7 +9,7 @@ use Rattle.canon_func.specs.Runs.{IsOneRun, last_len}
 use Rattle.canon_recording.proofs.Rows.{map_length}
 use Rattle.canon_recording.specs.Fits.{AreRuns, IsRecordedCallOf}
 use Rattle.canon_recording.specs.Recordings.{Functions, RecordedCall, exports_of, imports_of}
-use Rattle.canon_replay.specs.Calls.{HasEvents, MadeCall, all_made, call_made, events_of_call, made_again, told_again, told_call}
+use Rattle.canon_replay.specs.Calls.{HasEvents, MadeCall, all_made, made_call_of, events_of_call, made_again, told_again, told_call}
 use Rattle.canon_replay.specs.declared.again.Again.{Again}
 
 -- ---- the calls that are made
@@ -26,14 +26,14 @@ drop_rest [] (suc k) y ys e = cc
 drop_rest (x ∷ xs) zero y ys e = cc
 drop_rest (x ∷ xs) (suc k) y ys e = drop_rest xs k y ys e
 
-same_made : (recorded : List (List Event)) (k : ℕ) (a : Again) (call : RecordedCall) → told_again a ≡ told_call call → call_events recorded k ≡ call.events → made_again recorded k a ≡ call_made call
+same_made : (recorded : List (List Event)) (k : ℕ) (a : Again) (call : RecordedCall) → told_again a ≡ told_call call → call_events recorded k ≡ call.events → made_again recorded k a ≡ made_call_of call
 same_made recorded k a call e f =
     let export : a.export ≡ call.export = ap (λ x. x.0) e in
     let params : a.params.items ≡ call.params = ap (λ x. x.1.0) e in
     let results : a.results.items ≡ call.results = ap (λ x. x.1.1) e in
     rw export rw params rw results rw f refl
 
-pub all_made_are : (recorded : List (List Event)) (k : ℕ) (agains : List Again) (calls : List RecordedCall) → map told_again agains ≡ map told_call calls → drop k recorded ≡ map events_of_call calls → all_made recorded k agains ≡ map call_made calls
+pub all_made_are : (recorded : List (List Event)) (k : ℕ) (agains : List Again) (calls : List RecordedCall) → map told_again agains ≡ map told_call calls → drop k recorded ≡ map events_of_call calls → all_made recorded k agains ≡ map made_call_of calls
 all_made_are recorded k [] [] e f = refl
 all_made_are recorded k [] (call ∷ calls) e f = absurd (omega (arith, ap length e))
 all_made_are recorded k (a ∷ agains) [] e f = absurd (omega (arith, ap length e))

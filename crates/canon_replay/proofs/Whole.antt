@@ -6,7 +6,7 @@ use Rattle.canon_context.specs.declared.component.Component.{Component}
 use Rattle.canon_recording.proofs.Rows.{map_length}
 use Rattle.canon_recording.specs.Fits.{FitsComponent}
 use Rattle.canon_recording.specs.Recordings.{RecordedCall, ServedAsk}
-use Rattle.canon_replay.specs.Calls.{HasEvents, IsReady, MadeCall, ReplaysFrom, all_made, asks_of_calls, call_made, events_of_call, told_again, told_call}
+use Rattle.canon_replay.specs.Calls.{HasEvents, IsReady, MadeCall, ReplaysFrom, all_made, asks_of_calls, made_call_of, events_of_call, told_again, told_call}
 use Rattle.canon_replay.specs.Stores.{IsNewStore, ReplayStore, guest_in_store}
 use Rattle.canon_replay.specs.declared.again.Again.{Again}
 use Rattle.canon_replay.specs.declared.outcome.Outcome.{Outcome}
@@ -28,7 +28,7 @@ module _ (c : Component) (calls : List RecordedCall) (fuel turns : ℕ) (events 
   count_first = same_length agains calls are.2 ∙ sym (ap length recorded_are ∙ map_length events_of_call calls)
 
   pub replayed_is : (o : Outcome) → ReplaysFrom 0 (all_made (guest_in_store store).recorded 0 agains) store o
-      → (s : ReplayStore) × IsNewStore c (map events_of_call calls) (asks_of_calls calls) fuel turns s × ReplaysFrom 0 (map call_made calls) s o
+      → (s : ReplayStore) × IsNewStore c (map events_of_call calls) (asks_of_calls calls) fuel turns s × ReplaysFrom 0 (map made_call_of calls) s o
   replayed_is o h = (store, new_of_calls, subst (λ (cs : List MadeCall). ReplaysFrom 0 cs store o) (all_made_are (guest_in_store store).recorded 0 agains calls are.2 recorded_are) h)
     where
       new_of_calls : IsNewStore c (map events_of_call calls) (asks_of_calls calls) fuel turns store

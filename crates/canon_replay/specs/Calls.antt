@@ -41,8 +41,8 @@ pub record MadeCall : Type 0 where
   pub events : List Event
   pub results : List Val
 
-abbrev pub call_made : RecordedCall → MadeCall
-call_made call = record { export = call.export; params = call.params; events = call.events; results = call.results }
+abbrev pub made_call_of : RecordedCall → MadeCall
+made_call_of call = record { export = call.export; params = call.params; events = call.events; results = call.results }
 
 -- the same of call k, whose events the guest has
 abbrev pub made_again : List (List Event) → ℕ → Again → MadeCall
@@ -101,7 +101,7 @@ replay_host store = host_side store.core (Some (entries_of store.imports.lines.i
 
 -- Its function was called with its parameters, which answered so, and left these results; the guest's events were these, by which it moved. Its
 -- imports gave the recorded answers.
-pub record WasMade (call : MadeCall) (before after : ReplayStore) (result : Result (Unit {0}) Error) (results : List Val) (events : List Event) : Type 0 where
+pub record WasMadeAgain (call : MadeCall) (before after : ReplayStore) (result : Result (Unit {0}) Error) (results : List Val) (events : List Event) : Type 0 where
   pub is : IsCall (LivesUntil journaled_seen JournaledReplays (guest_of before.core) (guest_of after.core) result) (λ m n. n ≡ m) (GivesNext (asks_in_store before)) (callee_of before (named_export before call.export))
       (allowed before.core.fuel before.turns) call.params (moment_of journaled_seen before.core) (moment_of journaled_seen after.core) (replay_host before) (replay_host after) result results events
   pub moves : OnAnswered result (JournaledReplays (guest_of before.core) events (guest_of after.core))
@@ -110,7 +110,7 @@ pub record WasMade (call : MadeCall) (before after : ReplayStore) (result : Resu
 pub record CallReplayed (call : MadeCall) (before after : ReplayStore) : Type 0 where
   pub results : List Val
   pub events : List Event
-  pub made : WasMade call before after (Ok tt) results events
+  pub made : WasMadeAgain call before after (Ok tt) results events
   pub alike : AreAlike events call.events
   pub same : HaveOneImage (results_shape_of before call.export) results call.results
 
@@ -134,7 +134,7 @@ IsNotEntered call before = (slots : ℕ) × IfSome (type_of before (named_export
 
 -- What was done in the call, where it isn't as it was recorded from this place on.
 abbrev pub DepartsAt : (ReplayStore → List Val → Result (Unit {0}) Error → List Event → Type 0) → MadeCall → ReplayStore → Type 0
-DepartsAt IsSo call before = (after : ReplayStore) × (result : Result (Unit {0}) Error) × (results : List Val) × (events : List Event) × WasMade call before after result results events × IsSo after results result events
+DepartsAt IsSo call before = (after : ReplayStore) × (result : Result (Unit {0}) Error) × (results : List Val) × (events : List Event) × WasMadeAgain call before after result results events × IsSo after results result events
 
 -- The request at the place isn't the recorded one, or the recorded events are none of a run there; or the answer isn't the recorded one.
 abbrev pub CallDiffers : ℕ → MadeCall → ReplayStore → Type 0
@@ -160,7 +160,7 @@ ReplaysFrom k (call ∷ calls) store o = ((next : ReplayStore) × CallReplayed c
 
 -- `replay` of these calls answers so
 abbrev pub IsReplayed : Component → List RecordedCall → ℕ → ℕ → Result Outcome ReplayError → Type 0
-IsReplayed c calls fuel turns (Ok o) = (store : ReplayStore) × IsNewStore c (map events_of_call calls) (asks_of_calls calls) fuel turns store × ReplaysFrom 0 (map call_made calls) store o
+IsReplayed c calls fuel turns (Ok o) = (store : ReplayStore) × IsNewStore c (map events_of_call calls) (asks_of_calls calls) fuel turns store × ReplaysFrom 0 (map made_call_of calls) store o
 IsReplayed c calls fuel turns (Err error.OutOfMemory) = ⊤
 IsReplayed c calls fuel turns (Err _) = ⊥
 

@@ -2,7 +2,7 @@
 
 ghost use Rattle.std.specs.Prelude.{◌≡◌, ◌<◌, ◌^◌, length};
 ghost use Rattle.canon_replay_guest.specs.Replaying.{call_events};
-ghost use Rattle.canon_replay.specs.Outcomes.{has_passed, outcome_at, place_in};
+ghost use Rattle.canon_replay.specs.Outcomes.{has_passed, outcome_at, place_in_call};
 
 use canon_replay_guest::{ReplayGuest, Stop};
 
@@ -23,7 +23,7 @@ pub(crate) fn outcome_at(guest: &ReplayGuest, k: u32) -> Outcome
     requires few { length (call_events guest.now.recorded k) < 2 ^ 32 }
     ensures { result ≡ outcome_at k guest.now }
 {
-    let event = place_in(guest, k) as u32;
+    let event = place_in_call(guest, k) as u32;
     if guest.call() == u64::from(k) && guest.stop() == Some(Stop::Unlawful) {
         Outcome::Unlawful { call: k, event }
     } else {
@@ -32,8 +32,8 @@ pub(crate) fn outcome_at(guest: &ReplayGuest, k: u32) -> Outcome
 }
 
 /// How many recorded events of call k the guest passed.
-pub(crate) fn place_in(guest: &ReplayGuest, k: u32) -> u64
-    ensures { result ≡ place_in k guest.now }
+pub(crate) fn place_in_call(guest: &ReplayGuest, k: u32) -> u64
+    ensures { result ≡ place_in_call k guest.now }
 {
     let call = guest.call();
     let count = guest.event_count(u64::from(k));
