@@ -1,13 +1,17 @@
 -- Questions that may want memory, put together.
-use Rattle.std.proofs.Common.{All, Bool, Err, List, Ok, Result, [], drop, false, refl, subst, suc, sym, true, zero, ℕ, ◌+◌, ◌∷◌, ◌≡◌}
-use Rattle.std.specs.Prelude.{IsTrue}
-use Rattle.std.proofs.lemmas.List.Elements.{All-cons, All-nil}
+use Rattle.std.proofs.Common.{All, Bool, Err, List, Ok, Result, [], ap, arith, drop, false, length, refl, subst, subst₂, suc, sym, true, zero, ℕ, ◌+◌, ◌<◌, ◌∙◌, ◌∷◌, ◌≡◌, ◌≤◌}
+use Rattle.std.specs.Prelude.{IsTrue, slice_index_or}
+use Rattle.std.proofs.lemmas.List.Elements.{All-cons, All-head, All-nil, All-tail}
+use Rattle.canon_model.specs.Tree.{no_trees, tree}
+use Rattle.canon_types.specs.Table.{TypeTable, members_of, shape_of}
+use Rattle.canon_types.specs.declared.types.InterfaceType.{InterfaceType}
 use Rattle.canon_context.specs.declared.component.Component.{Component}
+use Rattle.canon_val.specs.declared.val.Val.{Val}
 use Rattle.canon_func.specs.Runs.{last_len}
 use Rattle.canon_recording_parts.specs.declared.error.ReplayError.{ReplayError}
 use Rattle.canon_recording_parts.specs.declared.error.ReplayError.TheVariants as error
 use Rattle.canon_recording.specs.Decided.{Decides}
-use Rattle.canon_recording.specs.Fits.{AreRuns, IsNoRunAt}
+use Rattle.canon_recording.specs.Fits.{AreRuns, AreValuesOf, IsNoRunAt, IsValueOf}
 use Rattle.canon_recording.specs.Recordings.{RecordedCall}
 use Rattle.canon_recording.proofs.Staging.{none}
 
@@ -41,6 +45,19 @@ first_fails P Q d = none (λ h. absurd (d_no (d.1 h.0)))
 
 -- ---- each of a list
 
+pub dropped_at : {A : Type 0} (xs : List A) (k : ℕ) (x : A) → k < length xs → slice_index_or xs k x ≡ x → drop k xs ≡ x ∷ drop (k + 1) xs
+dropped_at [] k x lt e = absurd (omega (arith, lt))
+dropped_at (y ∷ ys) zero x lt e = ap (λ i. i ∷ ys) e
+dropped_at (y ∷ ys) (suc k) x lt e =
+    let next : suc (k + 1) ≡ suc k + 1 = omega arith in
+    dropped_at ys k x (omega (arith, lt)) e ∙ ap (λ i. x ∷ drop i (y ∷ ys)) next
+
+pub dropped_all : {A : Type 0} (xs : List A) (k : ℕ) → length xs ≤ k → drop k xs ≡ []
+dropped_all [] zero le = refl
+dropped_all [] (suc k) le = refl
+dropped_all (x ∷ xs) zero le = absurd (omega (arith, le))
+dropped_all (x ∷ xs) (suc k) le = dropped_all xs k (omega (arith, le))
+
 -- where those that are left are so, all are
 abbrev pub RestOf : {A : Type 0} → (A → Type 0) → List A → ℕ → Type 0
 RestOf P xs k = All P (drop k xs) → All P xs
@@ -53,6 +70,32 @@ rest_goes_on P xs k x e p so h = so (subst (All P) (sym e) (All-cons P x (drop (
 
 pub rest_ends : {A : Type 0} (P : A → Type 0) (xs : List A) (k : ℕ) → drop k xs ≡ [] → RestOf P xs k → All P xs
 rest_ends P xs k e so = so (subst (All P) (sym e) (All-nil P))
+
+pub all_there : {A : Type 0} (P : A → Type 0) (xs : List A) (k : ℕ) (x : A) (rest : List A) → drop k xs ≡ x ∷ rest → All P xs → P x
+all_there P [] zero x rest e all = absurd (omega (arith, ap length e))
+all_there P [] (suc k) x rest e all = absurd (omega (arith, ap length e))
+all_there P (y ∷ ys) zero x rest e all =
+    let same : y ≡ x = cc in
+    subst P same (All-head P y ys all)
+all_there P (y ∷ ys) (suc k) x rest e all = all_there P ys k x rest e (All-tail P y ys all)
+
+-- ---- values
+
+-- where those that are left are of their types, all are
+abbrev pub RestAre : TypeTable → List InterfaceType → List Val → ℕ → Type 0
+RestAre t tys vs k = AreValuesOf (members_of t (drop k tys)) (drop k vs) → AreValuesOf (members_of t tys) vs
+
+pub values_begin : (t : TypeTable) (tys : List InterfaceType) (vs : List Val) → RestAre t tys vs 0
+values_begin t tys vs h = h
+
+pub values_go_on : (t : TypeTable) (tys : List InterfaceType) (vs : List Val) (k : ℕ) (type : InterfaceType) (v : Val) → k < length tys → length vs ≡ length tys → slice_index_or tys k type ≡ type → slice_index_or vs k v ≡ v
+    → IsValueOf (shape_of t type) v → RestAre t tys vs k → RestAre t tys vs (k + 1)
+values_go_on t tys vs k type v lt count et ev (u, has) so (us, have) =
+    so (subst₂ (λ is ws. AreValuesOf (members_of t is) ws) (sym (dropped_at tys k type lt et)) (sym (dropped_at vs k v (omega (arith, lt, count)) ev))
+    (tree u us, (v, drop (k + 1) vs, u, us, refl, refl, has, have)))
+
+pub values_end : (t : TypeTable) (tys : List InterfaceType) (vs : List Val) (k : ℕ) → length tys ≤ k → length vs ≡ length tys → RestAre t tys vs k → AreValuesOf (members_of t tys) vs
+values_end t tys vs k past count so = so (subst₂ (λ is ws. AreValuesOf (members_of t is) ws) (sym (dropped_all tys k past)) (sym (dropped_all vs k (omega (arith, past, count)))) (no_trees, (refl, refl)))
 
 -- ---- runs
 
