@@ -10,7 +10,7 @@ use Rattle.canon_relay.specs.Relay.{PassesMessages, adds_both, adds_none}
 use Rattle.canon_serve.specs.Begins.{HasComponent, HasNoComponent, IsBegun}
 use Rattle.canon_serve.specs.Carries.{CarriesOutCommand, EngineStore}
 use Rattle.canon_serve.specs.Messages.{HearsCommand, HearsNone, IsFirstOf, answer_messages}
-use Rattle.canon_serve.specs.Sessions.{CommandTurn, CutsCommand, EndsAtOnce, EndsSession, EndsUnbegun, IsFirstAnswer, IsFirstTurn, IsSession, IsUnheardEnd, ServesAll, ServesOne, ServesTurn, ServesTurns, ServesUntil, ToldOrCut, command_messages, one_turn_messages}
+use Rattle.canon_serve.specs.Sessions.{CommandTurn, CutsCommand, EndsAtOnce, EndsSession, EndsUnbegun, GoesOnAfter, IsFirstAnswer, IsFirstTurn, IsSession, IsUnheardEnd, ServesAll, ServesOne, ServesTurn, ServesTurns, ServesUntil, ToldOrCut, command_messages, one_turn_messages}
 use Rattle.canon_serve.specs.declared.answer.Answer.{Answer}
 use Rattle.canon_serve.specs.declared.answer.Answer.TheVariants as answer
 use Rattle.canon_serve.specs.declared.answer.Senseless.{Senseless}
@@ -28,6 +28,15 @@ messages_more : (ts : List CommandTurn) (t : CommandTurn) → command_messages (
 messages_more [] t = append-nil (one_turn_messages t)
 messages_more (u ∷ ts) t = ap (λ ms. one_turn_messages u ++ ms) (messages_more ts t) ∙ sym (append_assoc (one_turn_messages u) (command_messages ts) (one_turn_messages t))
 
+-- any but the one that ends it
+pub goes_on_after : (asked : Command) → (asked ≡ command.End → ⊥) → GoesOnAfter asked
+goes_on_after command.End not = not refl
+goes_on_after (command.Begin all json) not = tt
+goes_on_after (command.Call export params) not = tt
+goes_on_after command.Live not = tt
+goes_on_after command.Marks not = tt
+goes_on_after command.Unknown not = tt
+
 module _ {E H : Type 0} (log : E → Option (List Message)) where
   serves_more : (ts : List CommandTurn) (t : CommandTurn) (s next last : EngineStore E H) → ServesTurns log ts s next → ServesTurn log t next last → ServesTurns log (ts ++ t ∷ []) s last
   serves_more [] t s next last here served = (last, subst (λ u. ServesTurn log t u last) here served, refl)
@@ -44,31 +53,31 @@ module _ {E H : Type 0} (log : E → Option (List Message)) where
   }
 
   -- a command that was heard was carried out, and its answer told
-  pub served_one : (a b c : Option (List Message)) (s t : EngineStore E H) (asked : Command) (answered : Answer) → PassesMessages a b (HearsCommand asked) → CarriesOutCommand log asked s t answered
+  pub served_one : (a b c : Option (List Message)) (s t : EngineStore E H) (asked : Command) (answered : Answer) → GoesOnAfter asked → PassesMessages a b (HearsCommand asked) → CarriesOutCommand log asked s t answered
       → AddsMessages b c (answer_messages answered) → ServesOne log a c s t
-  served_one a b c s t asked answered heard carried told = (
+  served_one a b c s t asked answered goes_on heard carried told = (
     record { asked = asked; heard = heard.0; answered = answered },
-    (heard.2, carried),
+    (goes_on, heard.2, carried),
     adds_both a b c heard.0 (answer_messages answered) heard.1 told,
   )
 
   -- or it wasn't told whole
-  pub cut_command : (a b c : Option (List Message)) (s t : EngineStore E H) (asked : Command) (why : End) → PassesMessages a b (HearsCommand asked) → CutsCommand log why asked s t b c
+  pub cut_command : (a b c : Option (List Message)) (s t : EngineStore E H) (asked : Command) (why : End) → GoesOnAfter asked → PassesMessages a b (HearsCommand asked) → CutsCommand log why asked s t b c
       → PassesMessages a c (EndsSession log why s)
-  cut_command a b c s t asked end.Broken heard cut = (
+  cut_command a b c s t asked end.Broken goes_on heard cut = (
     heard.0 ++ cut.2.0,
     adds_both a b c heard.0 cut.2.0 heard.1 cut.2.1,
-    inr (record { turn = record { asked = asked; heard = heard.0; answered = cut.0 }; next = t; serves = (heard.2, cut.1); part = cut.2.0; first = cut.2.2; are = refl }),
+    inr (record { turn = record { asked = asked; heard = heard.0; answered = cut.0 }; next = t; serves = (goes_on, heard.2, cut.1); part = cut.2.0; first = cut.2.2; are = refl }),
   )
-  cut_command a b c s t asked end.OutOfMemory heard cut = (heard.0, subst (λ l. AddsMessages a l heard.0) (sym cut.1) heard.1, inr (record { asked = asked; heard = heard.2; next = t; short = cut.0 }))
-  cut_command a b c s t asked end.Asked heard cut = absurd cut
-  cut_command a b c s t asked end.NoComponent heard cut = absurd cut
-  cut_command a b c s t asked end.NotInstantiated heard cut = absurd cut
+  cut_command a b c s t asked end.OutOfMemory goes_on heard cut = (heard.0, subst (λ l. AddsMessages a l heard.0) (sym cut.1) heard.1, inr (record { asked = asked; goes_on = goes_on; heard = heard.2; next = t; short = cut.0 }))
+  cut_command a b c s t asked end.Asked goes_on heard cut = absurd cut
+  cut_command a b c s t asked end.NoComponent goes_on heard cut = absurd cut
+  cut_command a b c s t asked end.NotInstantiated goes_on heard cut = absurd cut
 
-  pub cut_ends : (a b c : Option (List Message)) (s t : EngineStore E H) (asked : Command) (r : Option End) → PassesMessages a b (HearsCommand asked) → IfSome r (λ why. CutsCommand log why asked s t b c)
+  pub cut_ends : (a b c : Option (List Message)) (s t : EngineStore E H) (asked : Command) (r : Option End) → GoesOnAfter asked → PassesMessages a b (HearsCommand asked) → IfSome r (λ why. CutsCommand log why asked s t b c)
       → IfSome r (λ why. PassesMessages a c (EndsSession log why s))
-  cut_ends a b c s t asked None heard cut = cut
-  cut_ends a b c s t asked (Some why) heard cut = cut_command a b c s t asked why heard cut
+  cut_ends a b c s t asked None goes_on heard cut = cut
+  cut_ends a b c s t asked (Some why) goes_on heard cut = cut_command a b c s t asked why goes_on heard cut
 
   -- nothing more was heard
   pub unheard_last : (a b : Option (List Message)) (s : EngineStore E H) (why : End) → IsUnheardEnd why → PassesMessages a b HearsNone → PassesMessages a b (EndsSession log why s)

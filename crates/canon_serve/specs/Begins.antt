@@ -66,7 +66,7 @@ abbrev pub HasPlay : List ℕ → Play → Type 0
 HasPlay json play = (tree : Data) × IsTree json tree × (script_of tree ≡ Some play)
 
 abbrev pub HasComponent : List ℕ → Type 0
-HasComponent json = (play : Play) × HasPlay json play
+HasComponent json = (play : Play) × HasPlay json play × (component : Component) × IsComponentOf play component × IsComponent component
 
 -- they are that of none, or of one whose component isn't sound
 abbrev pub HasNoComponent : List ℕ → Type 0
@@ -106,6 +106,7 @@ module _ {E H : Type 0} (log : E → Option (List Message)) where
     pub has : HasPlay json play
     pub component : Component
     pub served : IsComponentOf play component
+    pub sound : IsComponent component
     pub relay : Relaying E
     pub memory : Memory
     pub instantiated : IsInstantiated log engine (memory_of (replicate play.memory 0) false) relay memory

@@ -34,10 +34,15 @@ abbrev pub command_messages : List CommandTurn → List Message
 command_messages [] = []
 command_messages (t ∷ ts) = one_turn_messages t ++ command_messages ts
 
+-- a session goes on after any command but one
+abbrev pub GoesOnAfter : Command → Type 0
+GoesOnAfter command.End = ⊥
+GoesOnAfter _ = Unit {0}
+
 module _ {E H : Type 0} (log : E → Option (List Message)) where
-  -- the command was heard and carried out, from one store to another, with this answer
+  -- the command, which doesn't end the session, was heard and carried out, from one store to another, with this answer
   abbrev pub ServesTurn : CommandTurn → EngineStore E H → EngineStore E H → Type 0
-  ServesTurn t store store2 = HearsCommand t.asked t.heard × CarriesOutCommand log t.asked store store2 t.answered
+  ServesTurn t store store2 = GoesOnAfter t.asked × HearsCommand t.asked t.heard × CarriesOutCommand log t.asked store store2 t.answered
 
   -- each was, one after another
   abbrev pub ServesTurns : List CommandTurn → EngineStore E H → EngineStore E H → Type 0
@@ -68,6 +73,7 @@ module _ {E H : Type 0} (log : E → Option (List Message)) where
   -- a command was heard, and memory ran out as it was carried out
   pub record IsCutCommand (store : EngineStore E H) (messages : List Message) : Type 0 where
     pub asked : Command
+    pub goes_on : GoesOnAfter asked
     pub heard : HearsCommand asked messages
     pub next : EngineStore E H
     pub short : AnswersShort log asked store next

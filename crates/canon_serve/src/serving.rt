@@ -122,10 +122,13 @@ fn serve_next<E: Channel, H: Channel, P: Channel>(
     ensures one { IsNone result → ServesOne E.log (P.log caller.old) (P.log caller.new) store.old store.new }
     ensures ends { IfSome result (λ why. PassesMessages (P.log caller.old) (P.log caller.new) (EndsSession E.log why store.old)) }
 {
-    match hear_command(alloc, caller) {
-        Ok(Command::End) => Some(End::Asked),
-        Ok(command) => serve_command(alloc, store, caller, &command),
-        Err(why) => Some(unheard(why)),
+    let command = match hear_command(alloc, caller) {
+        Ok(command) => command,
+        Err(why) => return Some(unheard(why)),
+    };
+    match command {
+        Command::End => Some(End::Asked),
+        _ => serve_command(alloc, store, caller, &command),
     }
 }
 

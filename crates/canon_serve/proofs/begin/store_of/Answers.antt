@@ -10,7 +10,7 @@ pub returns-then-not-check-clause-none : goal.returns-then-not-check-clause-none
 returns-then-not-check-clause-none g c = λ same. unsound_script c.args.json.now (play_of c.in-Ok.script) c.in-Ok-component_of.component c.in-Ok.ensures.play (search rules) (search rules)
 
 pub returns-in_default-instantiated-clause-not_instantiated : goal.returns-in_default-instantiated-clause-not_instantiated
-returns-in_default-instantiated-clause-not_instantiated g c = λ same. (play_of c.in-Ok.script, c.in-Ok.ensures.play)
+returns-in_default-instantiated-clause-not_instantiated g c = λ same. (play_of c.in-Ok.script, c.in-Ok.ensures.play, c.in-Ok-component_of.component, search rules, c.if-not-check.ensures.0 refl)
 
 pub returns-clause-begun : goal.returns-clause-begun
 returns-clause-begun g c = record {
@@ -18,6 +18,7 @@ returns-clause-begun g c = record {
   has = c.in-Ok.ensures.play;
   component = c.in-Ok-component_of.component;
   served = search rules;
+  sound = c.if-not-check.ensures.0 refl;
   relay = c.in-Some.relay;
   memory = c.in-Some.memory;
   instantiated = search rules;

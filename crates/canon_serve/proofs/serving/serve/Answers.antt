@@ -37,7 +37,7 @@ returns-then-not-tell_answer g c =
     let b = told c.hear_command.new.caller in
     let heard = subst (λ k. PassesMessages a b (HearsCommand k)) c.in-Begin.is c.in-Ok.ensures.heard in
     let begun = subst (λ bytes. IsBegun g.E.Channel.log c.args.engine c.args.host c.in-Begin.watches_all bytes c.in-Ok-store_of.store) c.deref.ensures.value c.in-Ok-store_of.ensures.begun in
-    inr (cut_first a b (told c.tell_answer.new.caller) asked (answer.Done c.new.result) heard ((begun.play, begun.has), c.new.ensures.items) (c.if-not-tell_answer.ensures.cut refl))
+    inr (cut_first a b (told c.tell_answer.new.caller) asked (answer.Done c.new.result) heard ((begun.play, begun.has, begun.component, begun.served, begun.sound), c.new.ensures.items) (c.if-not-tell_answer.ensures.cut refl))
 
 pub returns : goal.returns
 returns g c =
