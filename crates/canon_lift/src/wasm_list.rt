@@ -1,6 +1,6 @@
 //! Lists that stay in memory.
 
-ghost use Rattle.std.specs.Prelude.{◌≡◌, ◌↔◌, ◌≤◌, ◌<◌, ◌+◌, ◌*◌, ◌%◌, ◌^◌, IfNone, IfSome, IsNone, IsTrue, false, ℕ};
+ghost use Rattle.std.specs.Prelude.{◌≡◌, ◌↔◌, ◌≤◌, ◌<◌, ◌+◌, ◌*◌, ◌%◌, IfNone, IfSome, IsNone, IsTrue, false, ℕ};
 ghost use Rattle.canon_context.specs.Core.{component_types};
 ghost use Rattle.std.proofs.Common.{refl};
 ghost use Rattle.canon_reading.specs.Scopes.{plain_kept};
@@ -51,8 +51,6 @@ pub(crate) fn test_range<T: ComponentType, U, G>(
     count: u64,
     at: At,
 ) -> Result<(), Fault>
-    requires narrow { pointer < 2 ^ 32 }
-    requires narrow_count { count < 2 ^ 32 }
     requires aligned { 0 < abi.now.align32 }
     ensures tested { (s : Shape) → HasLayout abi.now s → RangeTested (setting_in cx.old.core.now cx.old.options) s (cap T.host_bytes) pointer count at cx.old.fuel result cx.new.fuel }
     ensures same { cx.new ≡ record cx.old { fuel = cx.new.fuel } }
@@ -79,8 +77,6 @@ pub(crate) fn list_from<T: ComponentType, U, G>(
     at: At,
 ) -> Result<WasmList<T>, Fault>
     requires known { Knows (component_types cx.old.core.now) element }
-    requires narrow { pointer < 2 ^ 32 }
-    requires narrow_count { count < 2 ^ 32 }
     ensures tested { ListTested (setting_in cx.old.core.now cx.old.options) (shape_of (component_types cx.old.core.now) element) (cap T.host_bytes) pointer count at cx.old.fuel element result cx.new.fuel }
     ensures same { cx.new ≡ record cx.old { fuel = cx.new.fuel } }
 {

@@ -27,7 +27,6 @@ pub fn load_text(
     length: u64,
     at: At,
 ) -> Result<String, Fault>
-    requires narrow { pointer < 2 ^ 32 }
     requires narrow_length { length < 2 ^ 32 }
     ensures ok { IfOk result (IsTextLoaded (encoding_of source.now.encoding) (narrow source.now.memory.now) pointer length fuel.old fuel.new) }
     ensures err { IfErr result (LiftBlames (Exactly (TextFault (encoding_of source.now.encoding) (narrow source.now.memory.now) (place_of at) pointer length))
@@ -52,8 +51,6 @@ fn charged_bytes<'a>(
     align: u64,
     at: At,
 ) -> Result<&'a [u8], Fault>
-    requires narrow { pointer < 2 ^ 32 }
-    requires sized { count < 2 ^ 33 }
     requires some { 0 < align }
     ensures bytes { IfOk result (λ bytes. bytes.now ≡ bytes_at (narrow memory.now) pointer count) }
     ensures good { IfOk result (λ _. IsGood (narrow memory.now) pointer count align) }
@@ -83,8 +80,6 @@ fn load_utf8(
     length: u64,
     at: At,
 ) -> Result<String, Fault>
-    requires narrow { pointer < 2 ^ 32 }
-    requires narrow_length { length < 2 ^ 32 }
     ensures ok { IfOk result (IsTextLoaded utf8 (narrow memory.now) pointer length fuel.old fuel.new) }
     ensures err { IfErr result (LiftBlames (Exactly (TextFault utf8 (narrow memory.now) (place_of at) pointer length))
         (fuel.old < text_reach utf8 (narrow memory.now) pointer length)) }
@@ -109,7 +104,6 @@ fn load_utf16(
     units: u64,
     at: At,
 ) -> Result<String, Fault>
-    requires narrow { pointer < 2 ^ 32 }
     requires narrow_length { units < 2 ^ 32 }
     ensures ok { IfOk result (IsTextLoaded utf16 (narrow memory.now) pointer units fuel.old fuel.new) }
     ensures err { IfErr result (LiftBlames (Exactly (TextFault utf16 (narrow memory.now) (place_of at) pointer units))
@@ -136,7 +130,6 @@ fn load_compact(
     length: u64,
     at: At,
 ) -> Result<String, Fault>
-    requires narrow { pointer < 2 ^ 32 }
     requires narrow_length { length < 2 ^ 32 }
     ensures ok { IfOk result (IsTextLoaded compact (narrow memory.now) pointer length fuel.old fuel.new) }
     ensures err { IfErr result (LiftBlames (Exactly (TextFault compact (narrow memory.now) (place_of at) pointer length))
@@ -160,7 +153,6 @@ fn load_latin1(
     length: u64,
     at: At,
 ) -> Result<String, Fault>
-    requires narrow { pointer < 2 ^ 32 }
     requires untagged { length < 2 ^ 31 }
     ensures ok { IfOk result (IsTextLoaded compact (narrow memory.now) pointer length fuel.old fuel.new) }
     ensures err { IfErr result (LiftBlames (Exactly (TextFault compact (narrow memory.now) (place_of at) pointer length))

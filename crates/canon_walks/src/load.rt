@@ -257,7 +257,6 @@ pub fn load_items(
 ) -> Result<Vec<Val>, Fault>
     requires one_origin { IsOneOrigin source.now }
     requires known { IsKnown source.now.types.now element.now }
-    requires narrow { pointer < 2 ^ 32 }
     requires narrow_length { length < 2 ^ 32 }
     ensures ok { IfOk result (λ vs. IsListLoaded (encoding_of source.now.encoding) (narrow source.now.memory.now) (list_shape source.now.types.now element.now) pointer length fuel.old fuel.new vs.items) }
     ensures err { IfErr result (LiftBlames (Exactly (ItemsFault (encoding_of source.now.encoding) (narrow source.now.memory.now) (list_shape source.now.types.now element.now) (place_of at) pointer length))
