@@ -136,8 +136,8 @@ load_items-returns-clause-ok = steps.load_items-returns-clause-ok
 pub load_items-returns-clause-err : goal.load_items-returns-clause-err
 load_items-returns-clause-err = steps.load_items-returns-clause-err
 
-pub load_items-returns-then-pointer-length-clause-handles : goal.load_items-returns-then-pointer-length-clause-handles
-load_items-returns-then-pointer-length-clause-handles = steps.load_items-returns-then-pointer-length-clause-handles
+pub load_items-returns-then-not-ends_inside-clause-handles : goal.load_items-returns-then-not-ends_inside-clause-handles
+load_items-returns-then-not-ends_inside-clause-handles = steps.load_items-returns-then-not-ends_inside-clause-handles
 
 pub load_items-returns-in_err-charge_each-clause-handles : goal.load_items-returns-in_err-charge_each-clause-handles
 load_items-returns-in_err-charge_each-clause-handles = steps.load_items-returns-in_err-charge_each-clause-handles

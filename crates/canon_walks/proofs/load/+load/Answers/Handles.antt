@@ -1,5 +1,6 @@
 -- What loading does with handles, step by step, and what it says of lists and cases.
 use Rattle.std.proofs.Common.{◌≡◌, ◌≤◌, ◌<◌, ◌+◌, ◌-◌, ◌*◌, ◌%◌, ◌∙◌, [], List, None, Vec, ap, arith, false, length, refl, subst, sym}
+use Rattle.std.proofs.lemmas.Bool.{leb-true}
 use Rattle.std.specs.declared.alloc.Global.{Global}
 use Rattle.canon_lowering.specs.Storing.{narrow}
 use Rattle.canon_model.specs.Cost.{val_cost}
@@ -82,8 +83,8 @@ load_items-load_parts-requires t0 c =
     let w = row_weighs enc bytes t e c.requires.known n p in
     let shapes = c.slots_of-members.ensures.shapes t in
     let abi = c.element_abi-abi.ensures in
-    let inside : p + n * size false (element_shape s) ≤ length bytes = subst (λ k. p + n * k ≤ length bytes) (c.from.ensures ∙ (abi.size false)) c.if-pointer-length.false in
-    let aligned : p % align false (element_shape s) ≡ 0 = subst (λ k. p % k ≡ 0) (c.from-2.ensures ∙ (abi.align false)) c.if-pointer-from-ne0.false in
+    let inside : p + n * size false (element_shape s) ≤ length bytes = subst (λ k. p + n * k ≤ length bytes) (abi.size false) (leb-true _ _ (sym c.ends_inside.ensures ∙ c.if-not-ends_inside.false)) in
+    let aligned : p % align false (element_shape s) ≡ 0 = subst (λ k. p % k ≡ 0) (c.from.ensures ∙ (abi.align false)) c.if-pointer-from-ne0.false in
     let these = shapes_of t c.slots_of-members.result in
     let r = row t e c.requires.known n in
     let falls : 4 * deepest these + 1 < 4 * depth s - 2 = omega (arith, r.shallow, ap deepest shapes) in (
@@ -109,8 +110,8 @@ load_items-returns-clause-ok t0 c =
     let w = row_weighs enc bytes t e c.requires.known n p in
     let shapes = c.slots_of-members.ensures.shapes t in
     let abi = c.element_abi-abi.ensures in
-    let inside : p + n * size false (element_shape s) ≤ length bytes = subst (λ k. p + n * k ≤ length bytes) (c.from.ensures ∙ (abi.size false)) c.if-pointer-length.false in
-    let aligned : p % align false (element_shape s) ≡ 0 = subst (λ k. p % k ≡ 0) (c.from-2.ensures ∙ (abi.align false)) c.if-pointer-from-ne0.false in
+    let inside : p + n * size false (element_shape s) ≤ length bytes = subst (λ k. p + n * k ≤ length bytes) (abi.size false) (leb-true _ _ (sym c.ends_inside.ensures ∙ c.if-not-ends_inside.false)) in
+    let aligned : p % align false (element_shape s) ≡ 0 = subst (λ k. p % k ≡ 0) (c.from.ensures ∙ (abi.align false)) c.if-pointer-from-ne0.false in
     let charged : c.args.fuel.now ≡ c.charge_each.new.fuel + n * element_cost s = c.in_ok-charge_each.ensures ∙ ap (λ k. c.charge_each.new.fuel + n * k) (c.element_cost.ensures t c.requires.known) in
     let mid = c.charge_each.new.fuel in
     let these = shapes_of t c.slots_of-members.result in
@@ -130,8 +131,8 @@ load_items-returns-clause-err t0 c =
     let w = row_weighs enc bytes t e c.requires.known n p in
     let shapes = c.slots_of-members.ensures.shapes t in
     let abi = c.element_abi-abi.ensures in
-    let inside : p + n * size false (element_shape s) ≤ length bytes = subst (λ k. p + n * k ≤ length bytes) (c.from.ensures ∙ (abi.size false)) c.if-pointer-length.false in
-    let aligned : p % align false (element_shape s) ≡ 0 = subst (λ k. p % k ≡ 0) (c.from-2.ensures ∙ (abi.align false)) c.if-pointer-from-ne0.false in
+    let inside : p + n * size false (element_shape s) ≤ length bytes = subst (λ k. p + n * k ≤ length bytes) (abi.size false) (leb-true _ _ (sym c.ends_inside.ensures ∙ c.if-not-ends_inside.false)) in
+    let aligned : p % align false (element_shape s) ≡ 0 = subst (λ k. p % k ≡ 0) (c.from.ensures ∙ (abi.align false)) c.if-pointer-from-ne0.false in
     let charged : c.args.fuel.now ≡ c.charge_each.new.fuel + n * element_cost s = c.in_ok-charge_each.ensures ∙ ap (λ k. c.charge_each.new.fuel + n * k) (c.element_cost.ensures t c.requires.known) in
     let mid = c.charge_each.new.fuel in
     let these = shapes_of t c.slots_of-members.result in
@@ -140,8 +141,8 @@ load_items-returns-clause-err t0 c =
     (λ f h. row_refused enc bytes s n p c.args.fuel.now mid (place_of c.args.at) f w aligned inside charged
     (subst (λ (x : Members). LiftBlames (Exactly (MemberFault enc (narrow bytes) x 0 p)) (mid < charged_reach enc (narrow bytes) x 0 p) f) shapes h)) c.load_parts.ensures.err
 
-pub load_items-returns-then-pointer-length-clause-handles : goal.load_items-returns-then-pointer-length-clause-handles
-load_items-returns-then-pointer-length-clause-handles t0 c = stops_before c.args.source.now.instance.now c.args.ledger.now _ _ (fault.PointerOutOfBounds c.args.at) refl refl
+pub load_items-returns-then-not-ends_inside-clause-handles : goal.load_items-returns-then-not-ends_inside-clause-handles
+load_items-returns-then-not-ends_inside-clause-handles t0 c = stops_before c.args.source.now.instance.now c.args.ledger.now _ _ (fault.PointerOutOfBounds c.args.at) refl refl
 
 pub load_items-returns-in_err-charge_each-clause-handles : goal.load_items-returns-in_err-charge_each-clause-handles
 load_items-returns-in_err-charge_each-clause-handles t0 c =
@@ -160,8 +161,8 @@ load_items-returns-clause-handles t0 c =
     let p = c.args.pointer in
     let shapes = c.slots_of-members.ensures.shapes t in
     let abi = c.element_abi-abi.ensures in
-    let inside : p + n * size false (element_shape s) ≤ length bytes = subst (λ k. p + n * k ≤ length bytes) (c.from.ensures ∙ (abi.size false)) c.if-pointer-length.false in
-    let aligned : p % align false (element_shape s) ≡ 0 = subst (λ k. p % k ≡ 0) (c.from-2.ensures ∙ (abi.align false)) c.if-pointer-from-ne0.false in
+    let inside : p + n * size false (element_shape s) ≤ length bytes = subst (λ k. p + n * k ≤ length bytes) (abi.size false) (leb-true _ _ (sym c.ends_inside.ensures ∙ c.if-not-ends_inside.false)) in
+    let aligned : p % align false (element_shape s) ≡ 0 = subst (λ k. p % k ≡ 0) (c.from.ensures ∙ (abi.align false)) c.if-pointer-from-ne0.false in
     subst (λ (ls : List Leaf). LiftsHandles (λ (vs : Vec Val Global). all_resources vs.items) c.args.source.now.instance.now c.args.ledger.now c.load_parts.new.ledger ls c.load_parts.result)
     (ap (λ (x : Members). members_reach_leaves (narrow bytes) x 0 p) shapes ∙ sym (items_leaves bytes t e c.requires.known n p aligned inside)) c.load_parts.ensures.handles
 
