@@ -1,5 +1,5 @@
 -- What is lifted from words, in a row or by a pointer, is what they and memory represent.
-use Rattle.std.proofs.Common.{Err, List, Ok, Option, Result, Some, ap, arith, inl, inr, length, nat_le, refl, subst, sym, true, ⊎_elim, ℕ, ◌+◌, ◌<◌, ◌∙◌, ◌≡◌, ◌≤◌, ◌⊎◌}
+use Rattle.std.proofs.Common.{Err, List, Ok, Option, Result, ap, arith, inl, inr, length, nat_le, refl, subst, sym, true, ⊎_elim, ℕ, ◌+◌, ◌<◌, ◌∙◌, ◌≡◌, ◌≤◌, ◌⊎◌}
 use Rattle.std.specs.Prelude.{false, slice_index}
 use Rattle.std.proofs.lemmas.Bool.{cases_lt, cond-false, cond-true, le-leb, lt-leb}
 use Rattle.canon_args.specs.Areas.{good_area}
@@ -7,18 +7,16 @@ use Rattle.canon_args.specs.Exactly.{IsAlwaysPassed, IsOnlyPassed}
 use Rattle.canon_args.specs.Returned.{IsGoodArea, area_reading, passed_count, reading_by}
 use Rattle.canon_context.proofs.Told.{blamed_by}
 use Rattle.canon_context.specs.Told.{LiftBlames, ToldAt}
-use Rattle.canon_context.specs.declared.fault.At.{At as Place}
 use Rattle.canon_context.specs.declared.fault.Fault.{Fault}
 use Rattle.canon_context.specs.declared.fault.Fault.TheVariants as fault
 use Rattle.canon_leaves.proofs.Leaves.{leaves_excluded}
 use Rattle.canon_leaves.specs.Parts.{LeavesStop, LeavesTake, Part}
 use Rattle.canon_ledger.specs.Ledger.{LedgerState}
 use Rattle.canon_ledger.specs.declared.fault.ResourceFault.{ResourceFault}
-use Rattle.canon_lift_parts.proofs.Exactness.{lifts_exactly_there}
+use Rattle.canon_lift_parts.proofs.Exactness.{Remains, lifts_exactly_there}
 use Rattle.canon_reading.specs.Laws.{IsLifted, LiftsExactly}
 use Rattle.canon_reading.specs.OfTrees.{IsFaulted, IsOfTrees, IsPriced}
 use Rattle.canon_reading.specs.Reading.{AreTaken, Lifts, Reading, Refused, Setting}
-use Rattle.canon_context.specs.Faults.{stop_of}
 use Rattle.canon_reading.specs.Spots.{Represents, Spot, flat_in, stored}
 use Rattle.canon_reading.specs.Ways.{AreLiftedBy}
 use Rattle.canon_model.proofs.Faults.{fault_excludes}
@@ -33,10 +31,6 @@ use Rattle.canon_model.specs.Tree.{Tree, Trees, parts}
 use Rattle.canon_types.specs.Instance.{Instance}
 use Rattle.canon_types.specs.Table.{shape_of}
 use Rattle.canon_types.specs.declared.types.InterfaceType.{InterfaceType}
-
--- what is left where no place has a fault and the fuel is enough
-abbrev Remains : Fault → Type 0
-Remains e = (e ≡ fault.OutOfMemory) ⊎ ((r : ResourceFault) × (stop_of e ≡ Some r))
 
 remaining : (e : Fault) → LiftBlames (λ k x. ⊥) ⊥ e → Remains e
 remaining fault.OutOfMemory h = inl refl

@@ -14,7 +14,7 @@ use Rattle.canon_memory.specs.Guest.{Moment}
 use Rattle.canon_ledger.specs.Ledger.{enter}
 use Rattle.canon_leaves.proofs.Leaves.{leaves_same}
 use Rattle.canon_leaves.specs.Parts.{LeavesTake}
-use Rattle.canon_lowering.proofs.Lowerings.{lawful_second}
+use Rattle.canon_lowering.proofs.Lowerings.{lawful_second, marks_append}
 use Rattle.canon_model.specs.Homes.{AnyPointer}
 use Rattle.canon_lowering.specs.Attempt.{LowersArgs}
 use Rattle.canon_lowering.specs.Lowering.{Accepted, AllGood, Answer, Ending, Meets, addresses_of, done, short, events_of, marks_of}
@@ -30,7 +30,7 @@ use Rattle.canon_func.specs.Stores.{Callee}
 use Rattle.canon_func.specs.declared.error.Error.{Error}
 use Rattle.canon_func.specs.declared.error.Error.TheVariants as error
 use Rattle.canon_func.proofs.Legs.{asks_after}
-use Rattle.canon_func.proofs.Turns.{counts_earlier, err_same, marks_then, not_ok}
+use Rattle.canon_func.proofs.Turns.{counts_earlier, err_same, not_ok}
 use Rattle.canon_func.proofs.Prefixes.{IsEarly, answers_are, answers_early, asks_answers, each_after, each_answer, each_then, ends_after, grows_answers, grows_from, post_then, prefix_after, return_then, run_after}
 use Rattle.canon_lowering.specs.Stages.{bare}
 
@@ -173,7 +173,7 @@ module _ {T R : Type 0} (args : Arguments) (its : ReturnedValues R) (gives : Giv
 
   -- the marks of all answers
   all_marks : (more : List Answer) → mid.guest.marks ≡ entry.guest.marks ++ marks_of answers → after.guest.marks ≡ mid.guest.marks ++ marks_of more → after.guest.marks ≡ entry.guest.marks ++ marks_of (answers ++ more)
-  all_marks more first second = second ∙ (ap (λ ms. ms ++ marks_of more) first ∙ (append_assoc entry.guest.marks (marks_of answers) (marks_of more) ∙ ap (λ ms. entry.guest.marks ++ ms) (sym (marks_then answers more))))
+  all_marks more first second = second ∙ (ap (λ ms. ms ++ marks_of more) first ∙ (append_assoc entry.guest.marks (marks_of answers) (marks_of more) ∙ ap (λ ms. entry.guest.marks ++ ms) (sym (marks_append answers more))))
 
   pub joined : (more : List Answer) (answer : Result R Error) → (((xs : List Event) → P [] xs → Q [] (first ++ xs))
       × ((leg : Leg) (legs : List Leg) (xs : List Event) → P (leg ∷ legs) xs → Q (record { events = first ++ leg.events; live = leg.live } ∷ legs) xs))

@@ -7,7 +7,7 @@ use Rattle.canon_context.specs.declared.component.Component.{Component}
 use Rattle.canon_context.specs.declared.fault.Fault.{Fault}
 use Rattle.canon_context.specs.declared.host.HostStop.{HostStop}
 use Rattle.canon_context.specs.declared.host.HostView.{HostView}
-use Rattle.canon_host.proofs.Leaving.{ended_leaves}
+use Rattle.canon_ledger.proofs.LeavingLemmas.{ended_leaves}
 use Rattle.canon_host.specs.Serves.{ConcludesBy, Ends}
 use Rattle.canon_host.specs.ServesTyped.{CallsTyped, LiftsTyped, LowersTyped}
 use Rattle.canon_host.specs.TypedAsks.{RefusedIsPartway, ServedIsThrough, WasCalled, asked_parts, asked_steps, given_parts, given_steps, param_words}

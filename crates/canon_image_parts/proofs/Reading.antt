@@ -17,7 +17,7 @@ use Rattle.canon_val.specs.Value.{AreLiftedFrom}
 use Rattle.canon_val.specs.declared.val.Val.{Val}
 use Rattle.canon_val.specs.declared.val.Val.TheVariants as val
 use Rattle.canon_value_parts.proofs.Walks.{copies_have}
-use Rattle.canon_image_parts.proofs.Fields.{length-le_bytes}
+use Rattle.canon_model.proofs.ImageFields.{length-le_bytes}
 use Rattle.canon_image_parts.proofs.Writing.{case_imaged, copies_image}
 use Rattle.canon_image_parts.specs.Read.{NumberReadTo, ReadsTo, Spans, StopsFrom}
 use Rattle.canon_image_parts.specs.Stops.{CaseStops, FirstStops, MembersStop, RowStops, Stop, StopsAt, malformed, truncated}

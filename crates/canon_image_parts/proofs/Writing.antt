@@ -35,7 +35,7 @@ use Rattle.canon_value_parts.proofs.Steps.{blames_first, blames_itself, blames_l
 use Rattle.canon_value_parts.proofs.StoreSteps.{heads, least_low}
 use Rattle.canon_value_parts.proofs.WalkCases.{tag_fits}
 use Rattle.canon_value_parts.proofs.Walks.{copies_fail, copies_have, copies_names}
-use Rattle.canon_image_parts.proofs.Bytes.{le_bytes_low}
+use Rattle.canon_model.proofs.NumberBytes.{le_bytes_low}
 use Rattle.canon_image_parts.proofs.Counting.{case_counted, count_members, fields_count, fixed_counted, product_counts}
 use Rattle.canon_image_parts.specs.Written.{CountsFields, IsTold, PartsWriteTo, WritesTo}
 

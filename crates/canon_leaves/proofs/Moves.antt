@@ -16,7 +16,7 @@ use Rattle.canon_leaves.specs.Parts.{LeafMoves, Part, Stops, borrow_in, borrow_p
 abbrev pub Does : Part → LedgerState → LedgerState → Result ℕ ResourceFault → Type 0
 Does p l m r = (last : ℕ) → Did (do_part last p l) r l m
 
-stopped : (last : ℕ) (p : Part) (ps : List Part) (l n : LedgerState) (e : ResourceFault) → Did (do_part last p l) (Err e) l n → Stops (refusal_of e) last l (p ∷ ps) n
+pub stopped : (last : ℕ) (p : Part) (ps : List Part) (l n : LedgerState) (e : ResourceFault) → Did (do_part last p l) (Err e) l n → Stops (refusal_of e) last l (p ∷ ps) n
 stopped last p ps l n e (inl d) = inr (inl (e, refl, d.0, d.1))
 stopped last p ps l n e (inr d) = inl (ap refusal_of d.0, d.1)
 

@@ -556,7 +556,7 @@ known_when_given call l x s h g =
     let n = k.generation in let same = g.generation in
     record { slot = written_slot call l.host.generation; there = slot_new l _ x.index _ _ k h; older = omega arith }
 
-run-append : (calls more : List LedgerStep) (l : LedgerState) → run_steps (calls ++ more) l ≡ run_steps more (run_steps calls l)
+pub run-append : (calls more : List LedgerStep) (l : LedgerState) → run_steps (calls ++ more) l ≡ run_steps more (run_steps calls l)
 run-append [] more l = refl
 run-append (call ∷ calls) more l = run-append calls more (do_step call l).after
 

@@ -1,7 +1,6 @@
 -- There are values of a definition where there are of its parts, which are less deep.
-use Rattle.std.proofs.Common.{◌≡◌, ◌≤◌, ◌<◌, ◌||◌, ◌∙◌, All, Bool, List, None, Option, Some, String, [], ◌∷◌, ap, arith, false, filter_map, get_or, length, map, refl, subst, suc, sym, true, zero, ℕ}
+use Rattle.std.proofs.Common.{◌≡◌, ◌≤◌, ◌<◌, ◌||◌, ◌∙◌, All, Bool, List, None, Option, Some, String, [], ◌∷◌, ap, arith, false, filter_map, map, refl, subst, sym, true}
 use Rattle.std.specs.Prelude.{⊤}
-use Rattle.std.proofs.lemmas.List.Elements.{All-head, All-tail}
 use Rattle.canon_model.specs.Shape.{Name, Shape, bare_cases}
 use Rattle.canon_types.proofs.Made.{case_parts, result_parts}
 use Rattle.canon_types.proofs.Measures.{depth_defined}
@@ -75,21 +74,5 @@ case_payloads t type cases ps e h =
 pub result_payloads : (t : TypeTable) (type : InterfaceType) (ok err : Option InterfaceType) → IsDefined t type (ResultType ok err) → HasParts t type (filter_map (λ p. p) (ok ∷ err ∷ []))
 result_payloads t type ok err h = subst (HasParts t type) (sym (result_parts ok err)) (has_parts t type (ResultType ok err) tt h)
 
-pub option_payload : (t : TypeTable) (type some : InterfaceType) → IsDefined t type (OptionType some) → (depth (shape_of t some) < depth (shape_of t type)) × Knows t some
-option_payload t type some h = let p = has_parts t type (OptionType some) tt h in (omega (arith, p.falls), p.known 0 some (omega arith))
-
 pub enum_block : (t : TypeTable) (type : InterfaceType) (e : TypeEnum) → IsDefined t type (enum_type e) → false ≡ has_block (shape_of t type)
 enum_block t type e h = (has_parts t type (enum_type e) tt h).block
-
--- a payload among others
-pub payload_here : (t : TypeTable) (ps : List (Option InterfaceType)) (i : ℕ) (d : Option InterfaceType) (type : InterfaceType) → Some type ≡ get_or ps i d → i < length ps → All (Knows t) (filter_map (λ p. p) ps)
-    → (depth (shape_of t type) ≤ deepest (members_of t (filter_map (λ p. p) ps))) × Knows t type
-payload_here t [] i d type e lt known = absurd (omega (arith, lt))
-payload_here t (None ∷ ps) zero d type e lt known = cc
-payload_here t (None ∷ ps) (suc i) d type e lt known = payload_here t ps i d type e (omega (arith, lt)) known
-payload_here t (Some x ∷ ps) zero d type e lt known =
-    let same : x ≡ type = cc in
-    (omega (arith, ap (λ (y : InterfaceType). depth (shape_of t y)) same), subst (Knows t) same (All-head (Knows t) x (filter_map (λ p. p) ps) known))
-payload_here t (Some x ∷ ps) (suc i) d type e lt known =
-    let there = payload_here t ps i d type e (omega (arith, lt)) (All-tail (Knows t) x (filter_map (λ p. p) ps) known) in
-    (omega (arith, there.0), there.1)

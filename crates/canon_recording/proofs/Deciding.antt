@@ -3,7 +3,7 @@ use Rattle.std.proofs.Common.{All, Err, List, Ok, Result, [], append-nil, ap, ar
 use Rattle.std.proofs.lemmas.List.Elements.{All-cons, All-nil}
 use Rattle.canon_model.specs.Image.{IsField}
 use Rattle.canon_context.specs.declared.component.Component.{Component}
-use Rattle.canon_recording_parts.proofs.Fields.{append_parts, field_length, field_once}
+use Rattle.canon_model.proofs.ImageFields.{append_parts, field_length, field_once}
 use Rattle.canon_model.specs.Shape.{Shape}
 use Rattle.canon_plan.specs.NoHandle.{HasNoHandle}
 use Rattle.canon_image_parts.specs.Read.{IsOnlyReading}

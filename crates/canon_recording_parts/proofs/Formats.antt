@@ -2,7 +2,7 @@
 use Rattle.std.proofs.Common.{List, [], append_assoc, ap, ap₂, arith, inl, inr, length, refl, subst, suc, sym, zero, ℕ, ◌+◌, ◌++◌, ◌∙◌, ◌∷◌, ◌≡◌, append-nil}
 use Rattle.std.specs.Prelude.{⊤}
 use Rattle.canon_model.specs.Image.{IsField, le_bytes}
-use Rattle.canon_recording_parts.proofs.Fields.{append_parts, field_front, field_length, field_once, field_then, length-join}
+use Rattle.canon_model.proofs.ImageFields.{append_parts, field_front, field_length, field_once, field_then, length-join}
 use Rattle.canon_recording_parts.specs.Format.{Format, IsFormat, also, as_, before, counted_row, empty_list, exactly, for_each, in_a_row, none, number, prepend, sized_field, so_many, then_}
 
 -- ---- lists

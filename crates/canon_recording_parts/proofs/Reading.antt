@@ -6,8 +6,8 @@ use Rattle.std.proofs.lemmas.List.{get_or-take, get_or_past, take-append-drop}
 use Rattle.canon_lowering.specs.Storing.{narrow}
 use Rattle.canon_model.specs.Image.{IsField, le_bytes}
 use Rattle.canon_model.specs.Memory.{bytes_in, num}
-use Rattle.canon_recording_parts.proofs.Bytes.{le_number_bytes}
-use Rattle.canon_recording_parts.proofs.Fields.{field_length, field_then}
+use Rattle.canon_model.proofs.NumberBytes.{le_number_bytes}
+use Rattle.canon_model.proofs.ImageFields.{field_length, field_then}
 use Rattle.canon_recording_parts.specs.Format.{Format, also, any_number, as_, for_each, in_a_row, number, sized_field, so_many, then_}
 use Rattle.canon_recording_parts.specs.Events.{byte_list, raw}
 use Rattle.canon_recording_parts.specs.Read.{IsReadSoFar, ReadsFormat, StandBetween}

@@ -7,12 +7,9 @@ use Rattle.canon_model.specs.Memory.{Block}
 use Rattle.canon_memory.specs.Realloc.{block}
 use Rattle.canon_memory.specs.Watch.{is_block}
 use Rattle.canon_scripted.specs.Allocator.{InRow, is_live, listed, with_block_resized}
+use Rattle.canon_memory.proofs.Watch.{Among}
 
 -- ---- a block is one of a list
-
-abbrev pub Among : List Block → Block → Type 0
-Among [] b = ⊥
-Among (x ∷ xs) b = (x ≡ b) ⊎ Among xs b
 
 pub among_from : (xs : List Block) (b : Block) → Contains xs b → Among xs b
 among_from [] b (k, lt, e) = absurd (omega (arith, lt))

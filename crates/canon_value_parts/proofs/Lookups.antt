@@ -6,7 +6,7 @@ use Rattle.canon_types.specs.declared.types.InterfaceType.{InterfaceType}
 use Rattle.canon_types.specs.Table.{TypeTable, members_of, tuple_members, types_of as tuple_types_of}
 use Rattle.canon_val.specs.Value.{member_names, no_names, values_in, names_in}
 use Rattle.canon_val.specs.declared.val.Val.{Val}
-use Rattle.canon_plan.proofs.Lookups.{count_members}
+use Rattle.canon_types.proofs.Measures.{count_members}
 
 -- ---- the fields of a record and the members of a tuple, one after another
 

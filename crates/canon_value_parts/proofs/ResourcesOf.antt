@@ -56,11 +56,11 @@ resources_list xs = search (rules, the_lemmas)
 pub resources_fixed : (xs : Vec Val Global) → resources (val.FixedLengthList xs) ≡ all_resources xs.items
 resources_fixed xs = search (rules, the_lemmas)
 
-field_resources : (fs : List (String Global × Val)) → joined (map (λ f. f.1) (map (former-Val-Record-0-at-2.map Val (List Any) resources) fs)) ≡ all_resources (values_in fs)
+pub field_resources : (fs : List (String Global × Val)) → joined (map (λ f. f.1) (map (former-Val-Record-0-at-2.map Val (List Any) resources) fs)) ≡ all_resources (values_in fs)
 field_resources [] = refl
 field_resources (f ∷ fs) = ap (λ (xs : List Any). resources f.1 ++ xs) (field_resources fs)
 
-resources_record : (fs : Vec (String Global × Val) Global) → resources (val.Record fs) ≡ all_resources (values_in fs.items)
+pub resources_record : (fs : Vec (String Global × Val) Global) → resources (val.Record fs) ≡ all_resources (values_in fs.items)
 resources_record fs = search (rules, the_lemmas, field_resources fs.items)
 
 pub product_resources : (k : ProductKind) (names : List Name) (vs : List Val) (v : Val) → IsProduct k names vs v → resources v ≡ all_resources vs

@@ -1,8 +1,9 @@
 use Rattle.std.proofs.Common.{◌∙◌, arith, sym}
 use Rattle.std.proofs.lemmas.Grind.{common_steps}
 use Rattle.canon_plan.proofs.Lookups.{field_depth, field_known, member_depth}
-use Rattle.canon_recording.proofs.BlockKinds.{case_payloads, enum_block, option_payload, payload_here, result_payloads}
+use Rattle.canon_recording.proofs.BlockKinds.{case_payloads, enum_block, result_payloads}
 use Rattle.canon_recording.proofs.blocks.+block.Goals as goal
+use Rattle.canon_plan.proofs.NoHandleKinds.{option_payload, payload_here}
 
 pub fields_have_block-has_block-requires : goal.fields_have_block-has_block-requires
 fields_have_block-has_block-requires t c = grind (arith, common_steps, field_depth, field_known)

@@ -3,9 +3,10 @@ use Rattle.canon_resources.specs.Types.{as_host}
 use Rattle.canon_reading.specs.HostHandles.{IsMadeBy}
 use Rattle.canon_reading.specs.Reading.{setting_in}
 use Rattle.canon_reading.specs.Spots.{flat_in}
-use Rattle.canon_lift_parts.proofs.HostSteps.{held_lifts, is_handle}
+use Rattle.canon_lift_parts.proofs.HostSteps.{held_lifts}
 use Rattle.canon_lift_parts.proofs.WordRooms.{handle_words}
 use Rattle.canon_lift.proofs.host_handles.ResourceLift.lift_words.Goals as goal
+use Rattle.canon_typed.proofs.Layouts.{is_handle}
 
 pub word_u32-requires : goal.word_u32-requires
 word_u32-requires g c =

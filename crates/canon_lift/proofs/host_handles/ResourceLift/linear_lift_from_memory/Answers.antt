@@ -9,8 +9,9 @@ use Rattle.canon_reading.specs.HostHandles.{IsMadeBy}
 use Rattle.canon_reading.specs.Reading.{setting_in}
 use Rattle.canon_reading.specs.Spots.{stored}
 use Rattle.canon_lift_parts.proofs.HandleSteps.{handle_room}
-use Rattle.canon_lift_parts.proofs.HostSteps.{held_lifts, is_handle}
+use Rattle.canon_lift_parts.proofs.HostSteps.{held_lifts}
 use Rattle.canon_lift.proofs.host_handles.ResourceLift.linear_lift_from_memory.Goals as goal
+use Rattle.canon_typed.proofs.Layouts.{is_handle}
 
 pub load_u32-index-requires : goal.load_u32-index-requires
 load_u32-index-requires g c =
