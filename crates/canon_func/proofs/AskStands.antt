@@ -56,13 +56,13 @@ stands_more places larger from to answers within h = record {
 }
 
 module _ (callee : Callee) (asked : Asked) (at : ℕ) (from to : Moment) (answers : List Answer) where
-  abbrev Stands : Type 0
-  Stands = StandsBut (result_places callee asked at) from to answers
+  abbrev TurnStands : Type 0
+  TurnStands = StandsBut (result_places callee asked at) from to answers
 
-  near_stands : members_flat (asked_results callee asked) ≤ max_results → StandsBut [] from to answers → Stands
+  near_stands : members_flat (asked_results callee asked) ≤ max_results → StandsBut [] from to answers → TurnStands
   near_stands near h = subst (λ b. StandsBut (if b then [] else value_place false (given_shape callee asked) at ∷ []) from to answers) (sym (le-leb (members_flat (asked_results callee asked)) max_results near)) h
 
-  far_stands : max_results < members_flat (asked_results callee asked) → StandsBut (value_place false (given_shape callee asked) at ∷ []) from to answers → Stands
+  far_stands : max_results < members_flat (asked_results callee asked) → StandsBut (value_place false (given_shape callee asked) at ∷ []) from to answers → TurnStands
   far_stands far h = subst (λ b. StandsBut (if b then [] else value_place false (given_shape callee asked) at ∷ []) from to answers) (sym (lt-leb (members_flat (asked_results callee asked)) max_results far)) h
 
   span_within : Within (members_span false (asked_results callee asked) 0 at ∷ []) (value_place false (given_shape callee asked) at ∷ [])

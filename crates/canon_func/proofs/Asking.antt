@@ -12,7 +12,7 @@ use Rattle.canon_memory.specs.Journal.{AddsEvents, trap_event}
 use Rattle.canon_ledger.specs.Ledger.{Did, Done, LedgerState}
 use Rattle.canon_ledger.specs.declared.fault.ResourceFault.{ResourceFault}
 use Rattle.canon_ledger.specs.declared.fault.ResourceFault.TheVariants as resource
-use Rattle.canon_lowering.proofs.Lowerings.{goes_none, goes_then, marks_append}
+use Rattle.canon_lowering.proofs.Lowerings.{goes_none, goes_then, lowering_marks_append}
 use Rattle.canon_lowering.specs.Lowering.{Answer, Trap, events_of, marks_of}
 use Rattle.canon_context.specs.declared.fault.Fault.TheVariants as fault
 use Rattle.canon_context.specs.declared.component.Import.{Import}
@@ -104,7 +104,7 @@ module _ {T : Type 0} (gives : Giving T) (callee : Callee) (limits : Limits) (Li
   has_stopped now after served left P N goes_on asks count index asked e h lt second = record {
     answers = answers_in h.turns ++ second.answers;
     events = so_far callee words before h.turns (event.Ask index asked now.bytes ∷ []) ++ second.events;
-    goes = subst (λ ms. Goes before after ms (so_far callee words before h.turns (event.Ask index asked now.bytes ∷ []) ++ second.events)) (sym (marks_append (answers_in h.turns) second.answers))
+    goes = subst (λ ms. Goes before after ms (so_far callee words before h.turns (event.Ask index asked now.bytes ∷ []) ++ second.events)) (sym (lowering_marks_append (answers_in h.turns) second.answers))
         (goes_then before now after _ _ _ second.events h.goes second.goes);
     moves = goes_on _ second.events h.moves second.moves;
     so = inr (ran_refused gives callee limits Lives words before host now after served left P N goes_on asks count index asked e second.answers second.events h lt second.goes second.moves second.so);

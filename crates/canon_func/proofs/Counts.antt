@@ -29,8 +29,8 @@ counted : (most n : ℕ) (o : Option ℕ) (ms : Members) → n ≡ members_flat 
 counted most n (Some x) ms e few h = h.1 ∙ (e ∙ sym (within_least most ms (omega (arith, h.0.0))))
 counted most n None ms e few h = sym (⊎_elim (λ far. within_more most ms far) (λ near. absurd (h (omega arith, omega arith))) (cases_lt most (members_flat ms)))
 
-pub words_counted : (most : ℕ) (o : Option ℕ) (ms : Members) → most ≤ 16 → SomeIff o ((flat (product of_places ms) ≤ most) × (flat (product of_places ms) ≤ 16)) (flat (product of_places ms)) → unwrap_or o 1 ≡ words_within most ms
-words_counted most o ms few h = counted most (flat (product of_places ms)) o ms (product_flat ms) few h
+pub call_words_counted : (most : ℕ) (o : Option ℕ) (ms : Members) → most ≤ 16 → SomeIff o ((flat (product of_places ms) ≤ most) × (flat (product of_places ms) ≤ 16)) (flat (product of_places ms)) → unwrap_or o 1 ≡ words_within most ms
+call_words_counted most o ms few h = counted most (flat (product of_places ms)) o ms (product_flat ms) few h
 
 -- ---- refusals
 

@@ -31,12 +31,12 @@ abbrev leaves_by : List OpenScope → Bool
 leaves_by scopes = can_leave (record { tables = []; counter = record { live = 0; limit = 0 }; scopes = scopes })
 
 -- so the scope may be left
-pub ended_leaves : (l m : LedgerState) → scope_exit l ≡ record { answer = Ok tt; after = m } → can_leave m.handles ≡ true
-ended_leaves l m e = empty_leaves m.handles (ended_empty l m e)
+pub call_ended_leaves : (l m : LedgerState) → scope_exit l ≡ record { answer = Ok tt; after = m } → can_leave m.handles ≡ true
+call_ended_leaves l m e = empty_leaves m.handles (ended_empty l m e)
 
 -- also once handles were lifted that keep the scopes
 pub lifted_leaves : (l ended m : LedgerState) → scope_exit l ≡ record { answer = Ok tt; after = ended } → m.handles.scopes ≡ ended.handles.scopes → can_leave m.handles ≡ true
-lifted_leaves l ended m ends same = ap leaves_by same ∙ ended_leaves l ended ends
+lifted_leaves l ended m ends same = ap leaves_by same ∙ call_ended_leaves l ended ends
 
 -- ---- refusals of the end
 

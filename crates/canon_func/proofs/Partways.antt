@@ -70,8 +70,8 @@ module _ {T : Type 0} (its : AskForm T) (sound : AskSound its) (lawful : AskLawf
   abbrev FirstSteps : List LedgerStep
   FirstSteps = host_asked_steps its before.store callee asked words from.bytes before.ledger
 
-  abbrev Stopped : Type 0
-  Stopped = HostPartway its answers_so callee fuel index words from.bytes before e after.ledger
+  abbrev PartwayStopped : Type 0
+  PartwayStopped = HostPartway its answers_so callee fuel index words from.bytes before e after.ledger
 
   abbrev Called : its.Params → LedgerState → LedgerState → Type 0
   Called = HostCalled its answers_so callee fuel index words from.bytes before asked
@@ -92,20 +92,20 @@ module _ {T : Type 0} (its : AskForm T) (sound : AskSound its) (lawful : AskLawf
       (leaves_partway (stop_of f) (leave ended) after.ledger (its.gives callee asked results) (sound.ungiven callee asked at from to results low answers trap (leave ended) after.ledger f lowers))))
 
   after_lifting : (params : its.Params) (lifted : LedgerState) → its.lifts before.store callee fuel asked words from.bytes (enter before.ledger) (Ok params) lifted → Through before.ledger FirstSteps lifted
-      → StopsCalled its answers_so callee fuel asked index words from to answers trap before after e params lifted → Stopped
+      → StopsCalled its answers_so callee fuel asked index words from to answers trap before after e params lifted → PartwayStopped
   after_lifting params lifted lift first (inl (short, left, same, quiet)) = (asked, is, inl (whole_first lifted first left))
   after_lifting params lifted lift first (inr (inl (why, told, steps, gave, quiet))) = (asked, is, inr (inl (params, lifted, why, after.state, told, record { lifts = lift; first = first; steps = steps }, gave)))
   after_lifting params lifted lift first (inr (inr (results, called, steps, gave, given))) =
       (asked, is, inr (inr (params, results, lifted, called, after.state, record { lifts = lift; first = first; steps = steps }, gave, given_partway results called given)))
 
   called_partway : (params : its.Params) (lifted : LedgerState) → its.lifts before.store callee fuel asked words from.bytes (enter before.ledger) (Ok params) lifted
-      → StopsCalled its answers_so callee fuel asked index words from to answers trap before after e params lifted → Stopped
+      → StopsCalled its answers_so callee fuel asked index words from to answers trap before after e params lifted → PartwayStopped
   called_partway params lifted lift stops =
       let taken = lawful.taken before.store callee fuel asked words from.bytes (enter before.ledger) lifted params lift in
       let first : Through before.ledger FirstSteps lifted = (0, refl, leaves_through (enter before.ledger) lifted (its.parts before.store callee asked words from.bytes) taken.0 taken.1) in
       after_lifting params lifted lift first stops
 
-  host_partway : StopsAt its answers_so callee fuel asked index words from to answers trap before after e → (after.ledger ≡ before.ledger) ⊎ Stopped
+  host_partway : StopsAt its answers_so callee fuel asked index words from to answers trap before after e → (after.ledger ≡ before.ledger) ⊎ PartwayStopped
   host_partway (inl (why, left, same, quiet)) = inl left
   host_partway (inr (inl (f, told, lift, same, quiet))) =
       let unlifted = sound.unlifted before.store callee fuel asked words from.bytes (enter before.ledger) after.ledger f lift in

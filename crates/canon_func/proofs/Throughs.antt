@@ -10,7 +10,7 @@ use Rattle.canon_ledger.proofs.LedgerLemmas.{compose}
 use Rattle.canon_leaves.proofs.Through.{leaves_through}
 use Rattle.canon_leaves.specs.Parts.{LeavesTake, Part}
 use Rattle.canon_leaves.specs.Steps.{leaves_steps}
-use Rattle.canon_func.proofs.Leaving.{ended_leaves}
+use Rattle.canon_func.proofs.Leaving.{call_ended_leaves}
 use Rattle.canon_host.specs.Forms.{IsLawful}
 use Rattle.canon_host.specs.HostSide.{Answering, Giving, HostSide}
 use Rattle.canon_func.specs.AskForms.{AskForm, ask_at}
@@ -47,7 +47,7 @@ pub ended_is : (l ended : LedgerState) → asked_exit l ≡ record { answer = Ok
 ended_is l ended ends = sym (ap (λ (d : Done (Unit {0})). d.after) ends)
 
 pub ended_can_leave : (l ended : LedgerState) → asked_exit l ≡ record { answer = Ok tt; after = ended } → can_leave ended.handles ≡ true
-ended_can_leave l ended ends = ended_leaves l ended ends
+ended_can_leave l ended ends = call_ended_leaves l ended ends
 
 module _ {T : Type 0} (its : AskForm T) (sound : AskSound its) (lawful : AskLawful its) (answers_so : Answering T) (callee : Callee) (fuel : ℕ) where
   pub form_through : (t : AskTurn) (l n : HostSide T) → IsHostServedBy its answers_so callee fuel t l n → HostThrough its answers_so callee fuel t l n

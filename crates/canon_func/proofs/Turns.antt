@@ -9,7 +9,7 @@ use Rattle.canon_memory.specs.Guest.{Goes, Mark, Moment, Seen}
 use Rattle.canon_memory.specs.Journal.{step_event, trap_event}
 use Rattle.canon_ledger.specs.Ledger.{Done, LedgerState}
 use Rattle.canon_ledger.specs.declared.fault.ResourceFault.{ResourceFault}
-use Rattle.canon_lowering.proofs.Lowerings.{goes_then, marks_append}
+use Rattle.canon_lowering.proofs.Lowerings.{goes_then, lowering_marks_append}
 use Rattle.canon_lowering.specs.Lowering.{Answer, events_of, marks_of}
 use Rattle.canon_context.specs.declared.fault.Fault.TheVariants as fault
 use Rattle.canon_host.specs.HostSide.{Giving, HostSide}
@@ -41,13 +41,13 @@ answers_append (t ∷ ts) us = ap (λ xs. t.answers ++ xs) (answers_append ts us
 abbrev pub rest_of_turn : AskTurn → List Event → List Event
 rest_of_turn t events = events_of t.answers None ++ event.Resume t.resumed_words t.resumed_memory ∷ events
 
-pub events_append : (ts us : List AskTurn) → events_in (ts ++ us) ≡ events_in ts ++ events_in us
-events_append [] us = refl
-events_append (t ∷ ts) us = ap (λ es. event.Ask t.index t.words t.memory ∷ es)
-    (ap (λ es. rest_of_turn t es) (events_append ts us) ∙ sym (append_assoc (events_of t.answers None) (event.Resume t.resumed_words t.resumed_memory ∷ events_in ts) (events_in us)))
+pub call_events_append : (ts us : List AskTurn) → events_in (ts ++ us) ≡ events_in ts ++ events_in us
+call_events_append [] us = refl
+call_events_append (t ∷ ts) us = ap (λ es. event.Ask t.index t.words t.memory ∷ es)
+    (ap (λ es. rest_of_turn t es) (call_events_append ts us) ∙ sym (append_assoc (events_of t.answers None) (event.Resume t.resumed_words t.resumed_memory ∷ events_in ts) (events_in us)))
 
 pub events_more : (ts us : List AskTurn) (tail : List Event) → events_in (ts ++ us) ++ tail ≡ events_in ts ++ (events_in us ++ tail)
-events_more ts us tail = ap (λ es. es ++ tail) (events_append ts us) ∙ append_assoc (events_in ts) (events_in us) tail
+events_more ts us tail = ap (λ es. es ++ tail) (call_events_append ts us) ∙ append_assoc (events_in ts) (events_in us) tail
 
 -- a fact of each of them
 each_real : (P : Event → Type 0) → ((o s a n p : ℕ) → P (event.Realloc o s a n p)) → (xs : List Answer) → Each P (events_of xs None)
@@ -139,7 +139,7 @@ module _ {T : Type 0} (gives : Giving T) (callee : Callee) where
         let after_ask : last_len (last_len (length before.bytes) (events_in ts)) (events_in (t ∷ [])) ≡ length t.resumed_memory = last_len_answers (length t.memory) t.answers (event.Resume t.resumed_words t.resumed_memory ∷ []) in
         record {
           serves = served_more fuel ts t host served left h.serves is;
-          last = ap (λ es. last_len (length before.bytes) es) (events_append ts (t ∷ [])) ∙ (len_then (length before.bytes) (events_in ts) (events_in (t ∷ [])) ∙ after_ask);
+          last = ap (λ es. last_len (length before.bytes) es) (call_events_append ts (t ∷ [])) ∙ (len_then (length before.bytes) (events_in ts) (events_in (t ∷ [])) ∙ after_ask);
           grows = λ es last g. subst (λ xs. Grows (length before.bytes) xs last) (sym (events_more ts (t ∷ []) es))
               (h.grows (events_in (t ∷ []) ++ es) last (
                 longer,
@@ -177,7 +177,7 @@ module _ {T : Type 0} (gives : Giving T) (callee : Callee) (limits : Limits) (Li
 
   -- the marks of the turns and of one more
   marks_more : (ts : List AskTurn) (t : AskTurn) → marks_of (answers_in ts) ++ marks_of t.answers ≡ marks_of (answers_in (ts ++ t ∷ []))
-  marks_more ts t = sym (marks_append (answers_in ts) t.answers) ∙ ap marks_of (ap (λ xs. answers_in ts ++ xs) (sym (append-nil t.answers)) ∙ sym (answers_append ts (t ∷ [])))
+  marks_more ts t = sym (lowering_marks_append (answers_in ts) t.answers) ∙ ap marks_of (ap (λ xs. answers_in ts ++ xs) (sym (append-nil t.answers)) ∙ sym (answers_append ts (t ∷ [])))
 
   -- after one more event of an ask
   turn_lived : (ts : List AskTurn) (t : AskTurn) (last : Event) (es : List Event) → es ≡ rest_of_turn t (last ∷ []) → Lives (legs_in start ts ++ record { events = since_last start ts ++ event.Ask t.index t.words t.memory ∷ []; live = t.live } ∷ []) es

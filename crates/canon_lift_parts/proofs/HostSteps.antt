@@ -23,7 +23,7 @@ use Rattle.canon_reading.specs.HostHandles.{HeldLifts, RepLifts, held_reading}
 use Rattle.canon_reading.specs.Reading.{Lifts, NamedBy, Setting}
 use Rattle.canon_reading.specs.Spots.{HasRoom, Spot, handle_in}
 use Rattle.canon_reading.specs.Ways.{rep_parts}
-use Rattle.canon_lift_parts.proofs.HandleSteps.{blames_none, is_refusal, same_leaf, stops_so, stopped_steps, took_steps}
+use Rattle.canon_lift_parts.proofs.HandleSteps.{blames_none, is_refusal, same_leaf, stops_so, stopped_steps, lift_took_steps}
 
 did_of : (d : Done ℕ) (r : Result ℕ ResourceFault) (l n : LedgerState) → DidSurely d r n → Did d r l n
 did_of d (Ok a) l n h = (sym h.0, h.1)
@@ -39,7 +39,7 @@ module _ (i : Instance) (l n : LedgerState) (table ty index : ℕ) (r : Result �
 
 -- what was done to the ledger
 pub rep_steps : (i : Instance) (l n : LedgerState) (leaf : Leaf) (r : Result ℕ ResourceFault) → LeafMoves l n (rep_parts i leaf) r → IsAfterSteps l n
-rep_steps i l n leaf (Ok h) takes = took_steps l n (rep_parts i leaf) h takes
+rep_steps i l n leaf (Ok h) takes = lift_took_steps l n (rep_parts i leaf) h takes
 rep_steps i l n leaf (Err e) stops = stopped_steps l n (rep_parts i leaf) (refusal_of e) stops
 
 pub rep_refused : (i : Instance) (l n : LedgerState) (leaf : Leaf) (e : ResourceFault) → LeafMoves l n (rep_parts i leaf) (Err e) → RepLifts i l n leaf (Err (resource_fault e))

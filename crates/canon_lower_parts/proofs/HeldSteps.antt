@@ -1,7 +1,7 @@
 -- Resources that the host holds, on their way through the ledger.
 use Rattle.std.proofs.Common.{◌≡◌, ◌∙◌, ◌∷◌, ◌⊎◌, Bool, Err, List, None, Ok, Option, Result, [], ap, false, if◌then◌else◌, inl, inr, refl, subst, sym, true, zero, ℕ}
 use Rattle.canon_handles.specs.Step.{and_then}
-use Rattle.canon_leaves.proofs.Moves.{moves_both, moves_one, stopped}
+use Rattle.canon_leaves.proofs.Moves.{moves_both, moves_one, leaf_stopped}
 use Rattle.canon_leaves.specs.Parts.{LeafMoves, Part, Stops, TakesParts, borrow_parts, do_part, host_own, is_defined_here, is_of_type, lend_host, lend_inserted, lower_parts, own_in, passed, refusal_of, refuse, table_for, tell}
 use Rattle.canon_handles.specs.declared.handle.TypedResource.TheVariants.{Component, Host}
 use Rattle.canon_ledger.specs.Handles as handles
@@ -116,7 +116,7 @@ module _ (i : Instance) (r : ℕ) (kind : ResourceType) (rep : ℕ) (l n : Ledge
       fresh q (lent_after rep l m x inserted (lent_in (is_defined_here i r) (table_for i r) r) n q (subst (λ (ps : List Part). LeafMoves m n ps q) (lent_parts (is_defined_here i r) (table_for i r) r x) here))
 
   pub lent_not : (f : ResourceFault) → Did (given l (host_resource_lower_own l rep None None)) (Err f) l n → Moved i r kind rep l n false st n (Err f)
-  lent_not f did = fresh (Err f) (λ last. inr (inr (rep, refl, stopped rep (host_own None None) (lend_inserted ∷ lent_in (is_defined_here i r) (table_for i r) r) l n f (one did))))
+  lent_not f did = fresh (Err f) (λ last. inr (inr (rep, refl, leaf_stopped rep (host_own None None) (lend_inserted ∷ lent_in (is_defined_here i r) (table_for i r) r) l n f (one did))))
     where
       one : Did (given l (host_resource_lower_own l rep None None)) (Err f) l n → Did (host_resource_lower_own l rep None None) (Err f) l n
       one (inl d) = inl (given_not (host_resource_lower_own l rep None None).answer l.host.generation f d.0, d.1)

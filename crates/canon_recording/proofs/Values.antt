@@ -29,8 +29,8 @@ spelled_once s v xs ys (t, h, is) (u, g, is2) = image_bytes s t u xs ys is is2 (
 
 -- ---- a value of the type has no fault
 
-pub no_fault : (s : Shape) (v : Val) (e : Fault) → IsTypeFault e → BlamesValue utf8 s v e → ¬ IsValueOf s v
-no_fault s v e told blames (t, has) =
+pub recorded_no_fault : (s : Shape) (v : Val) (e : Fault) → IsTypeFault e → BlamesValue utf8 s v e → ¬ IsValueOf s v
+recorded_no_fault s v e told blames (t, has) =
     let (how, j, kind, fails) = failing s v e told blames in
     failure_excludes how (member [] s no_members) (v ∷ []) j (tree t no_trees) kind (inl fails) (v, [], t, no_trees, refl, refl, has, (refl, refl))
 
@@ -49,9 +49,9 @@ value_sound s = sized_sound (SpellsValue false s) (spelled_once s) 8
 pub typed_sound : (t : TypeTable) (ty : InterfaceType) → IsFormat (typed false t ty)
 typed_sound t ty = value_sound (shape_of t ty)
 
-pub values_sound : (ms : Members) → IsFormat (values false ms)
-values_sound no_members = nothing_sound
-values_sound (member name s ms) = before_sound (value false s) (values false ms) (value_sound s) (values_sound ms)
+pub recorded_values_sound : (ms : Members) → IsFormat (values false ms)
+recorded_values_sound no_members = nothing_sound
+recorded_values_sound (member name s ms) = before_sound (value false s) (values false ms) (value_sound s) (recorded_values_sound ms)
 
 -- what is said of one of the values
 pub record IsGivenAt (t : TypeTable) (ty : InterfaceType) (v : Val) : Type 0 where

@@ -57,14 +57,14 @@ pub pair_given : (d a b : Data) (x y : Literal) → Some (a, b) ≡ two d → va
 pair_given d a b x y e first second =
     pair_is d a b e ∙ (ap (option_and_then (λ x. option_map (λ y. (x, y)) (value_of b))) first ∙ ap (option_map (λ y. (x, y))) second)
 
-pub key_refused : (e : ScriptError) (d a b : Data) → Some (a, b) ≡ two d → Gives {X = Val} literal_view (Err e) (value_of a) → Gives {X = Val × Val} pair_view (Err e) (pair_of d)
-key_refused refused.BadScript d a b is h = pair_is d a b is ∙ ap (option_and_then (λ x. option_map (λ y. (x, y)) (value_of b))) h
-key_refused refused.OutOfMemory d a b is h = tt
+pub script_key_refused : (e : ScriptError) (d a b : Data) → Some (a, b) ≡ two d → Gives {X = Val} literal_view (Err e) (value_of a) → Gives {X = Val × Val} pair_view (Err e) (pair_of d)
+script_key_refused refused.BadScript d a b is h = pair_is d a b is ∙ ap (option_and_then (λ x. option_map (λ y. (x, y)) (value_of b))) h
+script_key_refused refused.OutOfMemory d a b is h = tt
 
-pub value_refused : (e : ScriptError) (d a b : Data) (x : Literal) → Some (a, b) ≡ two d → value_of a ≡ Some x → Gives {X = Val} literal_view (Err e) (value_of b) → Gives {X = Val × Val} pair_view (Err e) (pair_of d)
-value_refused refused.BadScript d a b x is first h =
+pub script_value_refused : (e : ScriptError) (d a b : Data) (x : Literal) → Some (a, b) ≡ two d → value_of a ≡ Some x → Gives {X = Val} literal_view (Err e) (value_of b) → Gives {X = Val × Val} pair_view (Err e) (pair_of d)
+script_value_refused refused.BadScript d a b x is first h =
     pair_is d a b is ∙ (ap (option_and_then (λ x. option_map (λ y. (x, y)) (value_of b))) first ∙ ap (option_map (λ y. (x, y))) h)
-value_refused refused.OutOfMemory d a b x is first h = tt
+script_value_refused refused.OutOfMemory d a b x is first h = tt
 
 -- ---- cases
 

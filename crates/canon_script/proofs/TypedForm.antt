@@ -9,11 +9,11 @@ use Rattle.canon_literals.specs.Literals.{Literal, Literals, Payload, literals_v
 use Rattle.canon_script.specs.Typed.{IsForm, AreReadBack, TypedValues, a_number, a_text, alone, both_literals, each_literal, flag_from, flag_in, flag_payload, list_items_in, long_in, number_in, string_and_long_in, pair_literal, signature_number, string_in, the_numbers, the_pairs, truth_in, tuple_in, two_in, typed_literals, typed_values}
 
 -- a row of another length has no two members
-pub two_of_none : (vs : List Val) → length vs ≢ 2 → two_in (literals_of (literals_view vs)) ≡ None
-two_of_none [] h = refl
-two_of_none (v ∷ []) h = refl
-two_of_none (v ∷ w ∷ []) h = absurd (h refl)
-two_of_none (v ∷ w ∷ x ∷ vs) h = refl
+pub script_two_of_none : (vs : List Val) → length vs ≢ 2 → two_in (literals_of (literals_view vs)) ≡ None
+script_two_of_none [] h = refl
+script_two_of_none (v ∷ []) h = refl
+script_two_of_none (v ∷ w ∷ []) h = absurd (h refl)
+script_two_of_none (v ∷ w ∷ x ∷ vs) h = refl
 
 -- ---- what is read has these literals
 

@@ -54,10 +54,10 @@ high_byte (c ∷ cs) k h = ⊎_elim
     (λ g. cond-false (nat_lt c 256) (all_latin1 cs) false (le-ltb c 256 g))
     (cases_lt c 256)
 
-pub low_bytes : (cs : List ℕ) → ((k : ℕ) → get_or (encode_utf8_all cs) k 0 < 196) → all_latin1 cs ≡ true
-low_bytes [] h = refl
-low_bytes (c ∷ cs) h = ⊎_elim
-    (λ l. cond-true (nat_lt c 256) (all_latin1 cs) false (lt-ltb c 256 l) ∙ low_bytes cs (λ k. later c cs k h))
+pub string_low_bytes : (cs : List ℕ) → ((k : ℕ) → get_or (encode_utf8_all cs) k 0 < 196) → all_latin1 cs ≡ true
+string_low_bytes [] h = refl
+string_low_bytes (c ∷ cs) h = ⊎_elim
+    (λ l. cond-true (nat_lt c 256) (all_latin1 cs) false (lt-ltb c 256 l) ∙ string_low_bytes cs (λ k. later c cs k h))
     (λ g. absurd (omega (arith, h 0, high_first c (encode_utf8_all cs) g)))
     (cases_lt c 256)
   where

@@ -25,7 +25,7 @@ use Rattle.canon_context.specs.declared.fault.Fault.TheVariants as fault
 use Rattle.canon_val.specs.declared.val.Val.{Val}
 use Rattle.canon_value_parts.proofs.LoadCases.{payload_nameless, variant_charges, variant_depth}
 use Rattle.canon_value_parts.proofs.LeavesAt.{payload_flat_leaves}
-use Rattle.canon_context.proofs.Told.{told_by}
+use Rattle.canon_context.proofs.Told.{core_told_by}
 use Rattle.canon_value_parts.proofs.Values.{have_count}
 
 case_words : (cs : Cases) (i : ℕ) → members_flat (case_members cs i) ≤ cases_flat cs
@@ -36,9 +36,9 @@ case_words (bare name cs) (suc i) = case_words cs i
 case_words (payload name s cs) zero = omega arith
 case_words (payload name s cs) (suc i) = omega (arith, case_words cs i)
 
-pub variant_words : (s : Shape) (tag : ℕ) → IsVariant s → 1 + members_flat (case_members (variant_cases s) tag) ≤ flat s
+pub value_variant_words : (s : Shape) (tag : ℕ) → IsVariant s → 1 + members_flat (case_members (variant_cases s) tag) ≤ flat s
 unfolding flat
-variant_words s tag is = omega (arith, ap flat is.1, case_words (variant_cases s) tag)
+value_variant_words s tag is = omega (arith, ap flat is.1, case_words (variant_cases s) tag)
 
 pub variant_word : (s : Shape) → IsVariant s → 1 ≤ flat s
 unfolding flat
@@ -95,7 +95,7 @@ module _ (enc : Encoding) (m : Memory) (ws : List ℕ) where
     pub payload_told : (before mid : ℕ) → before ≡ mid + member_count these * val_cost → (e : Fault)
         → LiftBlames (ToldAt (MemberFlatFault enc m ws these (i + 1))) (mid < names_length these + members_flat_reach enc m ws these (i + 1)) e → LiftBlames (ToldAt (FlatFault enc m ws s i)) (before < flat_reach enc m ws s i) e
     payload_told before mid charged e h =
-        told_by (MemberFlatFault enc m ws these (i + 1)) (FlatFault enc m ws s i) _ _ case_blames
+        core_told_by (MemberFlatFault enc m ws these (i + 1)) (FlatFault enc m ws s i) _ _ case_blames
         (λ (less : mid < names_length these + members_flat_reach enc m ws these (i + 1)). case_low before (omega (arith, less, charged, payload_nameless (variant_cases s) tag))) e h
 
     module _ (there : tag < case_count (variant_cases s)) where
@@ -140,7 +140,7 @@ case_weighs_words enc m ws s i tag is read t c h =
       refused = payload_told enc m ws s i tag is read;
       shallow = variant_depth s tag is;
       leaves = payload_flat_leaves m ws s i tag is read;
-      room = variant_words s tag is;
+      room = value_variant_words s tag is;
       count = λ to mid late vs (ts, reps, have, spent, moved). have_count true (case_members (variant_cases s) tag) vs ts have;
       nameless = λ to before mid late vs charged lifted. flat_name_unpaid enc m ws s i tag is read h.there to before mid late vs charged lifted;
       lifted = λ to before mid late end after vs charged lifted. case_lifted enc m ws s i tag is read h.there to before mid late vs charged lifted end after;

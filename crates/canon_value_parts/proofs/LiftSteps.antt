@@ -26,7 +26,7 @@ use Rattle.canon_context.specs.declared.fault.Fault.{Fault}
 use Rattle.canon_context.specs.declared.fault.Fault.TheVariants as fault
 use Rattle.canon_val.specs.declared.val.Val.{Val}
 use Rattle.canon_val.specs.declared.val.Val.TheVariants as val
-use Rattle.canon_context.proofs.Told.{blamed_by, text_told, told_by}
+use Rattle.canon_context.proofs.Told.{blamed_by, text_told, core_told_by}
 use Rattle.canon_plan.proofs.ScalarTypes.{plain_scalar}
 use Rattle.canon_value_parts.proofs.ResourcesOf.{scalar_has_none, text_has_none}
 use Rattle.canon_value_parts.specs.Resources.{resources}
@@ -45,9 +45,9 @@ pub text_words : (s : Shape) → s ≡ string → flat s ≡ 2
 unfolding flat
 text_words s e = ap flat e
 
-pub fixed_words : (s element : Shape) (n : ℕ) → s ≡ fixed n element → flat s ≡ n * flat element
+pub value_fixed_words : (s element : Shape) (n : ℕ) → s ≡ fixed n element → flat s ≡ n * flat element
 unfolding flat
-fixed_words s element n e = ap flat e
+value_fixed_words s element n e = ap flat e
 
 module _ (enc : Encoding) (m : Memory) (ws : List ℕ) where
   -- ---- scalars
@@ -108,7 +108,7 @@ module _ (enc : Encoding) (m : Memory) (ws : List ℕ) where
     unfolding flat_reach
     part_later name ms less e charged h =
         let reach : members_flat_reach enc m ws ms mid ≡ members_flat_reach enc m ws ms (from + flat s) = ap (members_flat_reach enc m ws ms) one.1 in
-        told_by (MemberFlatFault enc m ws ms mid) (MemberFlatFault enc m ws (member name s ms) from) _ _ (λ k x f. inr (subst (λ i. MemberFlatFault enc m ws ms i k x) one.1 f))
+        core_told_by (MemberFlatFault enc m ws ms mid) (MemberFlatFault enc m ws (member name s ms) from) _ _ (λ k x f. inr (subst (λ i. MemberFlatFault enc m ws ms i k x) one.1 f))
         (λ low. omega (arith, low, charged, reach, reach_spent s from mid before left v one)) e h
 
     pub name_unpaid : (name : Name) (ms : Members) → left < length name → PartsLiftTo enc m ws from from before before (member name s ms) (Err fault.HostcallFuelExhausted)
@@ -119,7 +119,7 @@ module _ (enc : Encoding) (m : Memory) (ws : List ℕ) where
 
   pub part_first : (name : Name) (s : Shape) (ms : Members) (from before : ℕ) (e : Fault) → LiftsTo enc m ws from from before before s (Err e) → PartsLiftTo enc m ws from from before before (member name s ms) (Err e)
   unfolding flat_reach
-  part_first name s ms from before e h = told_by (FlatFault enc m ws s from) (MemberFlatFault enc m ws (member name s ms) from) _ _ (λ k x f. inl f) (λ low. omega (arith, low)) e h
+  part_first name s ms from before e h = core_told_by (FlatFault enc m ws s from) (MemberFlatFault enc m ws (member name s ms) from) _ _ (λ k x f. inl f) (λ low. omega (arith, low)) e h
 
   -- ---- parameters or results in a row
 
@@ -133,7 +133,7 @@ module _ (enc : Encoding) (m : Memory) (ws : List ℕ) where
       → LiftBlames (ToldAt (ValuesFault enc m ws most ms)) (before < values_reach enc m ws most ms) e
   results_refused most ms before e near h =
       let reach : values_reach enc m ws most ms ≡ members_flat_reach enc m ws ms 0 = cond-true (nat_le (members_flat ms) most) _ _ (le-leb _ _ near) in
-      told_by (MemberFlatFault enc m ws ms 0) (ValuesFault enc m ws most ms) _ _ (λ k x f. inl (near, f)) (λ low. omega (arith, low, reach)) e h
+      core_told_by (MemberFlatFault enc m ws ms 0) (ValuesFault enc m ws most ms) _ _ (λ k x f. inl (near, f)) (λ low. omega (arith, low, reach)) e h
 
   pub results_ok : (most : ℕ) (ms : Members) (to before after : ℕ) (r : Result (Vec Val Global) Fault) → members_flat ms ≤ most → length ws ≡ members_flat ms → MembersLiftTo enc m ws 0 to before after ms r
       → IfOk r (λ values. AreValues most enc m ms ws before after values.items)

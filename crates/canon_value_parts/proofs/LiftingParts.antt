@@ -20,7 +20,7 @@ use Rattle.canon_context.specs.declared.fault.Fault.{Fault}
 use Rattle.canon_context.specs.declared.fault.Fault.TheVariants as fault
 use Rattle.canon_val.specs.declared.val.Val.{Val}
 use Rattle.canon_value_parts.proofs.LeavesAt.{fixed_flat_leaves}
-use Rattle.canon_context.proofs.Told.{told_by}
+use Rattle.canon_context.proofs.Told.{core_told_by}
 use Rattle.canon_value_parts.proofs.LoadingParts.{copies_cost, copies_nameless}
 use Rattle.canon_plan.proofs.TypeKinds.{no_length}
 use Rattle.canon_plan.proofs.Lookups.{copies_count}
@@ -93,12 +93,12 @@ module _ (enc : Encoding) (m : Memory) (ws : List ℕ) where
   pub parts_told : (s : Shape) (these : Members) (i before mid : ℕ) → WeighsWords s these i → before ≡ mid + member_count these * val_cost → (e : Fault)
       → LiftBlames (ToldAt (MemberFlatFault enc m ws these i)) (mid < names_length these + members_flat_reach enc m ws these i) e → LiftBlames (ToldAt (FlatFault enc m ws s i)) (before < flat_reach enc m ws s i) e
   parts_told s these i before mid w charged e h =
-      told_by (MemberFlatFault enc m ws these i) (FlatFault enc m ws s i) _ _ w.blames (λ (low : mid < names_length these + members_flat_reach enc m ws these i). w.low before (omega (arith, low, charged))) e h
+      core_told_by (MemberFlatFault enc m ws these i) (FlatFault enc m ws s i) _ _ w.blames (λ (low : mid < names_length these + members_flat_reach enc m ws these i). w.low before (omega (arith, low, charged))) e h
 
   -- a tuple's members, as results
   pub unnamed_lifted : (t : TypeTable) (types : List InterfaceType) (from to before after : ℕ) (r : Result (Vec Val Global) Fault)
       → PartsLiftTo enc m ws from to before after (members_of t types) r → MembersLiftTo enc m ws from to before after (members_of t types) r
   unnamed_lifted t types from to before after (Ok values) (ts, reps, have, spent, moved) = (ts, reps, have, omega (arith, spent, no_length t types), moved)
   unnamed_lifted t types from to before after (Err e) h =
-      told_by (MemberFlatFault enc m ws (members_of t types) from) (MemberFlatFault enc m ws (members_of t types) from) _ _ (λ k x f. f)
+      core_told_by (MemberFlatFault enc m ws (members_of t types) from) (MemberFlatFault enc m ws (members_of t types) from) _ _ (λ k x f. f)
       (λ (low : before < names_length (members_of t types) + members_flat_reach enc m ws (members_of t types) from). omega (arith, low, no_length t types)) e h

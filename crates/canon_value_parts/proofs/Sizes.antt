@@ -13,7 +13,7 @@ use Rattle.canon_val.specs.Value.{IsCase, IsFixed, IsPairs, IsProduct, pair_plac
 use Rattle.canon_val.specs.declared.val.Val.{Val}
 use Rattle.canon_val.specs.declared.val.Val.TheVariants as val
 use Rattle.canon_value_parts.proofs.Cases.{one_case}
-use Rattle.canon_value_parts.proofs.Contents.{fixed_values, items_same, same_text}
+use Rattle.canon_value_parts.proofs.Contents.{fixed_values, items_same, value_same_text}
 use Rattle.canon_value_parts.proofs.MapsAndFlags.{one_pairs}
 use Rattle.canon_value_parts.proofs.PairRows.{pairs_failed}
 use Rattle.canon_value_parts.proofs.Values.{product_values}
@@ -35,7 +35,7 @@ flags_small enc names v = record { texts = λ n k f. f.1; lists = λ n k f. f.1 
 
 pub text_small : (enc : Encoding) (s : String Global) → ((n : ℕ) → ¬ IsTooLong enc (string_bytes s) n) → IsSmall enc string (val.String s)
 text_small enc s fits = record {
-  texts = λ n k (first, (r, is, long)). fits n (subst (λ (x : String Global). IsTooLong enc (string_bytes x) n) (sym (same_text s r is)) long);
+  texts = λ n k (first, (r, is, long)). fits n (subst (λ (x : String Global). IsTooLong enc (string_bytes x) n) (sym (value_same_text s r is)) long);
   lists = λ n k f. f.1;
 }
 

@@ -6,7 +6,7 @@ use Rattle.canon_val.specs.declared.val.Val.TheVariants as val
 use Rattle.canon_literals.specs.Literals.{Literal, enum, fields_view, fixed, flags, list, literal_view, literals_of, literals_view, option, pair_view, pairs, literal_pairs, pairs_view, payload_view, text, tuple}
 use Rattle.canon_script.specs.Values.{optional_of, pair_of, pairs_in, value_by, value_of, values_of}
 use Rattle.canon_script.specs.declared.kinds.ValueKind.TheVariants as kind
-use Rattle.canon_script.proofs.Cases.{case_given, case_refused, first_in_two, key_refused, option_by, outcome_by, pair_given, payload_within, result_reads, value_refused, variant_by, variant_reads}
+use Rattle.canon_script.proofs.Cases.{case_given, case_refused, first_in_two, script_key_refused, option_by, outcome_by, pair_given, payload_within, result_reads, script_value_refused, variant_by, variant_reads}
 use Rattle.canon_script.proofs.Members.{array_end, array_refused, array_step, enum_by, field_step, fixed_by, flags_by, in_array, in_form, in_two, list_by, made_of, map_by, map_grown, no_value, record_end, record_refused, scalar_is, text_by, tuple_by, value_is}
 use Rattle.canon_literals.proofs.Views.{literal-Enum, literal-FixedLengthList, literal-Flags, literal-List, literal-Map, literal-Option, literal-Record, literal-String, literal-Tuple}
 use Rattle.canon_script.proofs.values.+values.Goals as goal
@@ -158,7 +158,7 @@ pub pair_of-value_of-requires-2 : goal.pair_of-value_of-requires-2
 pair_of-value_of-requires-2 t c = (omega (arith, in_two (view c.args.v.now) (view c.in-Some.key.now) (view c.in-Some.value.now) c.in-Some.ensures), tt)
 
 pub pair_of-returns-in-Err : goal.pair_of-returns-in-Err
-pair_of-returns-in-Err t c = key_refused c.in-Err.e (view c.args.v.now) (view c.in-Some.key.now) (view c.in-Some.value.now) c.in-Some.ensures c.in-Err.ensures
+pair_of-returns-in-Err t c = script_key_refused c.in-Err.e (view c.args.v.now) (view c.in-Some.key.now) (view c.in-Some.value.now) c.in-Some.ensures c.in-Err.ensures
 
 pub pair_of-returns-in-Ok-value_of : goal.pair_of-returns-in-Ok-value_of
 pair_of-returns-in-Ok-value_of t c =
@@ -166,7 +166,7 @@ pair_of-returns-in-Ok-value_of t c =
 
 pub pair_of-returns-in-Err-value_of : goal.pair_of-returns-in-Err-value_of
 pair_of-returns-in-Err-value_of t c =
-    value_refused c.in-Err-value_of.e (view c.args.v.now) (view c.in-Some.key.now) (view c.in-Some.value.now) _ c.in-Some.ensures c.in-Ok.ensures c.in-Err-value_of.ensures
+    script_value_refused c.in-Err-value_of.e (view c.args.v.now) (view c.in-Some.key.now) (view c.in-Some.value.now) _ c.in-Some.ensures c.in-Ok.ensures c.in-Err-value_of.ensures
 
 pub variant_of-payload_of-requires : goal.variant_of-payload_of-requires
 variant_of-payload_of-requires t c = (omega (arith, payload_within (view c.args.v.now) _ c.in-Some.name.now c.in-Some.ensures), tt)
