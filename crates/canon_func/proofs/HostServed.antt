@@ -33,7 +33,7 @@ use Rattle.canon_host.specs.declared.error.HostError.TheVariants as host
 use Rattle.canon_func.specs.AskForms.{AskForm}
 use Rattle.canon_func.specs.AskValues.{asked_params, asked_results}
 use Rattle.canon_func.specs.Call.{OnAnswered}
-use Rattle.canon_func.specs.HostAsks.{RefusalCounted, HostStopsBy, IsHostAsk, NothingAsked, StopsAt, StopsGiven, asked_error, asked_exit, called_on, host_error, stopped_error}
+use Rattle.canon_func.specs.HostAsks.{RefusalCounted, HostStopsBy, IsHostAsk, NothingAsked, StopsAtAsk, StopsGiven, asked_error, asked_exit, called_on, host_error, stopped_error}
 use Rattle.canon_func.specs.Steps.{HostAskedBy, RisesAt, Serving}
 use Rattle.canon_func.specs.Stores.{Callee, export_callee}
 use Rattle.canon_func.specs.declared.error.Error.{Error}
@@ -63,7 +63,7 @@ module _ {T G P S : Type 0} (its : AskForm T) (sound : AskSound its) (seen : G �
   abbrev after : HostSide T
   after = host_side b log2 refusals2
 
-  -- the core call_before, with other data and another ledger
+  -- the core before, with other data and another ledger
   abbrev with_host : T → LedgerState → Parts T G
   with_host s l = record a { state = s; ledger = l }
 
@@ -101,7 +101,7 @@ module _ {T G P S : Type 0} (its : AskForm T) (sound : AskSound its) (seen : G �
   Stops answers trap e = HostStopsBy its answers_so callee a.fuel asked index words (moment_of seen a) (moment_of seen b) answers trap call_before after e
 
   abbrev At : List Answer → Option Trap → Error → Type 0
-  At answers trap e = StopsAt its answers_so callee a.fuel asked index words (moment_of seen a) (moment_of seen b) answers trap call_before after e
+  At answers trap e = StopsAtAsk its answers_so callee a.fuel asked index words (moment_of seen a) (moment_of seen b) answers trap call_before after e
 
   called_core : (s : T) (l : LedgerState) (lifted called : Parts T G) → lifted ≡ record (with_host s l) { ledger = lifted.ledger } → called ≡ record lifted { state = called.state; ledger = called.ledger } → called ≡ with_host called.state called.ledger
   called_core s l lifted called first second = second ∙ ap (λ (k : Parts T G). record k { state = called.state; ledger = called.ledger }) first

@@ -11,7 +11,7 @@ use Rattle.canon_context.specs.declared.host.HostStop.TheVariants as stop
 use Rattle.canon_host.specs.HostSide.{Answering, HostSide}
 use Rattle.canon_host.specs.declared.asked.Asked.{Asked}
 use Rattle.canon_func.specs.AskForms.{AskForm}
-use Rattle.canon_func.specs.HostAsks.{HostStopsBy, StopsAt, StopsGiven, asked_error, stopped_error}
+use Rattle.canon_func.specs.HostAsks.{HostStopsBy, StopsAtAsk, StopsGiven, asked_error, stopped_error}
 use Rattle.canon_func.specs.Stores.{Callee}
 use Rattle.canon_func.specs.declared.error.Error.{Error}
 use Rattle.canon_func.specs.declared.error.Error.TheVariants as error
@@ -61,7 +61,7 @@ module _ {T : Type 0} (its : AskForm T) (sound : AskSound its) (answers_so : Ans
   Given e results called = StopsGiven its answers_so callee fuel asked index words from to answers trap before after e results called
 
   abbrev At : Error → Type 0
-  At e = StopsAt its answers_so callee fuel asked index words from to answers trap before after e
+  At e = StopsAtAsk its answers_so callee fuel asked index words from to answers trap before after e
 
   abbrev Stops : Error → Type 0
   Stops e = HostStopsBy its answers_so callee fuel asked index words from to answers trap before after e

@@ -42,7 +42,7 @@ use Rattle.canon_func.specs.declared.error.Error.TheVariants as error
 pub params_are : (t u : TypeTable) (i : ℕ) (f : TypeFunc) → u ≡ t → slice_get u.funcs i ≡ Some f → tuple_members t f.params ≡ params_in t (slice_get t.funcs i)
 params_are t u i f same found = sym (ap (params_in t) (ap (λ v. slice_get v.funcs i) (sym same) ∙ found))
 
--- words call_written over as many
+-- words written over as many
 pub call_written : (words dst : List ℕ) (n : ℕ) → n ≡ length dst → take n (dst ++ drop (length dst) words) ≡ dst
 call_written words dst n e = ap (λ k. take k (dst ++ drop (length dst) words)) e ∙ take-append_seam dst (drop (length dst) words)
 

@@ -17,7 +17,7 @@ use Rattle.canon_func.specs.AskForms.{AskForm, ask_at}
 use Rattle.canon_func.specs.Asks.{AreServed}
 use Rattle.canon_func.specs.Call.{Concludes, HandlesPassOf, dynamic, dynamic_results}
 use Rattle.canon_func.specs.HostAsks.{IsHostServed, IsHostServedBy, asked_exit}
-use Rattle.canon_func.specs.Laws.{AskThrough, AsksThrough, CallIsThrough, CallThrough, HostThrough, PassesThrough, last_steps}
+use Rattle.canon_func.specs.Laws.{TurnThrough, AsksThrough, CallIsThrough, CallThrough, HostThrough, PassesThrough, last_steps}
 use Rattle.canon_func.specs.Passing.{Arguments, ReturnedValues}
 use Rattle.canon_func.specs.Runs.{AskTurn, Each, OnReturn}
 use Rattle.canon_func.specs.Stores.{Callee}
@@ -64,7 +64,7 @@ module _ {T : Type 0} (its : AskForm T) (sound : AskSound its) (lawful : AskLawf
       }
 
 module _ {T : Type 0} (gives : Giving T) (lawful : (n : ℕ) → IsLawful (gives.form n)) (callee : Callee) (fuel : ℕ) where
-  pub host_through : (t : AskTurn) (l n : HostSide T) → IsHostServed gives callee fuel t l n → AskThrough gives callee fuel t l n
+  pub host_through : (t : AskTurn) (l n : HostSide T) → IsHostServed gives callee fuel t l n → TurnThrough gives callee fuel t l n
   host_through t l n h = inr (form_through (ask_at gives t.index) (form_sound (gives.form t.index)) (form_lawful (gives.form t.index) (lawful t.index)) gives.answers callee fuel t l n h)
 
   pub turns_through : (turns : List AskTurn) (l n : HostSide T) → AreServed gives callee fuel turns l n → AsksThrough gives callee fuel turns l n

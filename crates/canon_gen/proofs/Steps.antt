@@ -1,4 +1,4 @@
--- One more of what is drawn, and one less that is gen_left.
+-- One more of what is drawn, and one less that is left.
 use Rattle.std.proofs.Common.{◌≡◌, ◌∙◌, ◌++◌, ◌-◌, ◌+◌, ◌<◌, ℕ, suc, List, [], ◌∷◌, ap, append_assoc, arith, map, sym}
 use Rattle.std.proofs.lemmas.List.{map-append}
 use Rattle.std.specs.Prelude.{encode_utf8}
@@ -29,7 +29,7 @@ module _ (n i : ℕ) (lt : i < n) where
   pub after_texts_step : (x y last : ℕ) → y ≡ after_text 8 x → after_texts (n - i) x ≡ last → after_texts (n - (i + 1)) y ≡ last
   after_texts_step x y last dy h = ap (after_texts gen_left) dy ∙ (sym (ap (λ k. after_texts k x) (less n i lt)) ∙ h)
 
-  -- a value was added, which is the first of those that were gen_left
+  -- a value was added, which is the first of those that were left
   value_step : (v : Val) (done more : List Val) (front : Literal) (rest all whole : List Literal) → literal_view v ≡ front → more ≡ done ++ v ∷ [] → all ≡ front ∷ rest
       → literals_view done ++ all ≡ whole → literals_view more ++ rest ≡ whole
   value_step v done more front rest all whole dv dm da h =

@@ -33,7 +33,7 @@ use Rattle.canon_val.specs.declared.val.Val.{Val}
 use Rattle.canon_val.specs.declared.val.Val.TheVariants as val
 use Rattle.canon_value_parts.proofs.Values.{have_count}
 use Rattle.canon_host.specs.Asked.{RestStays, row_words}
-use Rattle.canon_host.specs.Serves.{Answers, AnswersBy, AskValues, Calling, CallsFunction, CallsBlank, Concludes, ConcludesBy, EndsAsk, AnswersInRow, LiftsAsked, LoweringRelation, LowersGiven, Serves, ServesBy, ServesEntered, ServesEnteredBy, Steps, Values, blank, value_steps, params_and_results}
+use Rattle.canon_host.specs.Serves.{Answers, AnswersBy, AskValues, Calling, CallsFunction, CallsBlank, ConcludesAsk, ConcludesBy, EndsAsk, AnswersInRow, LiftsAsked, LoweringRelation, LowersGiven, Serves, ServesBy, ServesEntered, ServesEnteredBy, Steps, Values, blank, value_steps, params_and_results}
 use Rattle.canon_host.specs.declared.asked.Asked.{Asked}
 use Rattle.canon_host.specs.declared.error.HostError.{HostError}
 use Rattle.canon_lowering.specs.Stages.{Stage}
@@ -44,7 +44,7 @@ use Rattle.canon_host.specs.declared.error.HostError.TheVariants as error
 take_all : {A : Type 0} (xs : List A) → take (length xs) xs ≡ xs
 take_all xs = ap (take (length xs)) (sym (append-nil xs)) ∙ take-append_seam xs []
 
--- the items ask_past some
+-- the items past some
 pub ask_past : {A : Type 0} (n : ℕ) (xs nv : List A) → xs ≡ nv → take (length xs - n) (drop n xs) ≡ drop n nv
 ask_past n xs nv is = ap (λ m. take m (drop n xs)) (sym (length-drop n xs)) ∙ (take_all (drop n xs) ∙ ap (drop n) is)
 
@@ -147,14 +147,14 @@ module _ {F T G : Type 0} (g : Closure F (HostView T) Val (Result (Unit {0}) Hos
     split : nv ≡ params ++ drop n nv
     split = sym (take-append-drop n nv) ∙ ap (λ xs. xs ++ drop n nv) (hp ∙ front)
 
-    pub answered_ok : (final : List Val) → final ≡ nv → Concludes seen moves asked made shown words (Ok tt) after words2
+    pub answered_ok : (final : List Val) → final ≡ nv → ConcludesAsk seen moves asked made shown words (Ok tt) after words2
         → (told : AskValues) × (final ≡ told.params ++ told.results) × Answers (CallsBlank g f asked) seen moves asked before params words (Ok told) after words2
-    answered_ok final is h = (params_and_results params (drop n nv), is ∙ split, (made, refl, calls, subst (λ xs. Concludes seen moves asked made xs words (Ok tt) after words2) hs h))
+    answered_ok final is h = (params_and_results params (drop n nv), is ∙ split, (made, refl, calls, subst (λ xs. ConcludesAsk seen moves asked made xs words (Ok tt) after words2) hs h))
 
-    pub answered_err : (x : Fault) → Concludes seen moves asked made shown words (Err x) after words2 → Answers (CallsBlank g f asked) seen moves asked before params words (Err (error.Fault x)) after words2
-    answered_err x h = inr (inr (drop n nv, made, x, refl, calls, subst (λ xs. Concludes seen moves asked made xs words (Err x) after words2) hs h))
+    pub answered_err : (x : Fault) → ConcludesAsk seen moves asked made shown words (Err x) after words2 → Answers (CallsBlank g f asked) seen moves asked before params words (Err (error.Fault x)) after words2
+    answered_err x h = inr (inr (drop n nv, made, x, refl, calls, subst (λ xs. ConcludesAsk seen moves asked made xs words (Err x) after words2) hs h))
 
--- ---- the ask_whole ask
+-- ---- the whole ask
 
 module _ {T G A P R S : Type 0} (how : Steps T G A P R S) (asked : Asked) where
   pub entered_by : (before lifted after : Parts T G) (words words2 : List ℕ) (params : A) (r : Result (Values P R) HostError) → how.lifts before words (Ok params) lifted
@@ -196,7 +196,7 @@ found_at Is f f2 asked ty options made after words2 words3 o ef found ety eopt h
 
 -- nothing after the call changes them
 pub concluded_state : {T G : Type 0} (seen : G → Seen) (moves : GuestIn G → List Event → GuestIn G → Type 0) (asked : Asked) (before after : Parts T G) (results : List Val) (words words2 : List ℕ) (r : Result (Unit {0}) Fault)
-    → Concludes seen moves asked before results words r after words2 → after.state ≡ before.state
+    → ConcludesAsk seen moves asked before results words r after words2 → after.state ≡ before.state
 concluded_state {T} {G} seen moves asked before after results words words2 (Ok x) h = ap (λ (k : Parts T G). k.state) h.4.same ∙ ap (λ (k : Parts T G). k.state) h.3.1
 concluded_state {T} {G} seen moves asked before after results words words2 (Err e) (inl (none, same, words_same)) = ap (λ (k : Parts T G). k.state) same
 concluded_state {T} {G} seen moves asked before after results words words2 (Err e) (inr (at, place, inl (x, is, ends, words_same))) = ap (λ (k : Parts T G). k.state) ends.1

@@ -4,7 +4,7 @@ use Rattle.canon_lowering.specs.Copies.{case_members, copies}
 use Rattle.canon_model.specs.Shape.{Cases, Members, Name, ProductKind, Shape, VariantKind, fixed, member, member_count, product, variant}
 use Rattle.canon_model.specs.Text.{utf8}
 use Rattle.canon_value_parts.specs.Fails.{Blames, FailsAt, MemberFails}
-use Rattle.canon_val.specs.Value.{IsCase, IsFixed, IsProduct, all_places, member_names, places}
+use Rattle.canon_val.specs.Value.{IsCase, IsFixedListValue, IsProduct, all_places, member_names, places}
 use Rattle.canon_model.specs.Memory.{cap}
 use Rattle.canon_context.specs.declared.fault.Fault.{Fault}
 use Rattle.canon_val.specs.declared.val.Val.{Val}
@@ -37,7 +37,7 @@ image_count_members place ms names vs from (Ok to) same (_, e) = e
 image_count_members place ms names vs from (Err e) same (inl (is, other)) = absurd (other same)
 image_count_members place ms names vs from (Err e) same (inr b) = b
 
-pub image_fixed_counted : (n : ℕ) (s : Shape) (names : List Name) (vs : List Val) (v : Val) (place : ℕ) (r : Result ℕ Fault) → length vs ≡ n → IsFixed vs v
+pub image_fixed_counted : (n : ℕ) (s : Shape) (names : List Name) (vs : List Val) (v : Val) (place : ℕ) (r : Result ℕ Fault) → length vs ≡ n → IsFixedListValue vs v
     → CountsPlaces (λ how k. MemberFails how (copies n s) vs k) (cap (place + 1)) (all_places vs) r → CountsPlaces (λ how k. FailsAt how (fixed n s) v k) place (places v) r
 image_fixed_counted n s names vs v place (Ok to) count (xs, ev, same) e = omega (arith, e, ap places ev ∙ places_fixed xs, ap all_places same)
 image_fixed_counted n s names vs v place (Err e) count (xs, ev, same) b =

@@ -181,7 +181,7 @@ module _ {D G B : Type 0} (S : RestReading B) (core now : Parts D G) (same : now
       subst (λ n. Lifts (rest_reading S (flat_from ws at) (words_of core)) (setting_in core n) (flat_in ws at) (product of_places (words_of core)) before fuel r after left) eo
       (subst (λ (z : Parts D G). Lifts (rest_reading S (flat_from ws at) (words_of z)) (setting_in z o2) (flat_in ws at) (product of_places (words_of z)) before fuel r after left) same h)
 
--- ---- the lift_whole tuple
+-- ---- the whole tuple
 
 tuple_shape : (all : List (Instance → InterfaceType → Type 0)) (j : Instance) (i : ℕ) (type : InterfaceType) → type ≡ ty.Tuple i → IsTupleOf all j type → shape_of j.types type ≡ product of_places (members_of j.types (table.types_of j.types i))
 tuple_shape all j i type is f =

@@ -1,4 +1,4 @@
--- The lift_pair of a key and a value in memory.
+-- The pair of a key and a value in memory.
 use Rattle.std.proofs.Common.{◌≡◌, ◌≤◌, ◌+◌, ◌*◌, ◌%◌, ◌++◌, ◌∙◌, Bool, Err, List, None, Result, Some, [], ◌∷◌, ap, arith, false, length, refl, subst, sym, ℕ}
 use Rattle.std.proofs.Math.Nat.{zero-mod}
 use Rattle.std.proofs.lemmas.Nat.Gcd.{dvd_of_mod-eq-zero}
@@ -118,7 +118,7 @@ module _ {D G K V : Type 0} (R : Reading K) (S : Reading V) (core : Parts D G) (
   abbrev pair_in : Parts D G → Shape
   pair_in z = tuple (shape_of (component_types z) key ∷ shape_of (component_types z) value ∷ [])
 
-  -- what lifting a lift_pair answered, where only the ledger changed
+  -- what lifting a pair answered, where only the ledger changed
   pub pair_item : (now : Parts D G) (o2 p k step at : ℕ) (before after : LedgerState) (fuel left : ℕ) (r : Result (K × V) Fault) → now ≡ record core { ledger = now.ledger } → o2 ≡ o → step ≡ size false (pair_in core) → at ≡ p + k * step
       → Lifts (pair_reading R S) (setting_in now o2) (stored at) (pair_in now) before fuel r after left → Lifts (pair_reading R S) (setting_in core o) (item_spot (narrow core.memory) (pair_in core) (stored p) k) (pair_in core) before fuel r after left
   pair_item now o2 p k step at before after fuel left r same eo es place h =

@@ -44,6 +44,6 @@ module _ (s u : Shape) where
     pair_stops e h = product_stores L options a b lower_pair of_places lower_both at (FirstAnd Has (FirstAnd Has2 NoTrees)) (gs ++ (fs ++ [])) (Err e) refl room
         (members_stop L options a b s (member [] u no_members) 0 at Has (FirstAnd Has2 NoTrees) gs (fs ++ []) e (subst (λ (n : ℕ). TypedStores L.seen L.moves options a b s n Has gs (Err e)) first_place h))
 
--- where a value begins in a lower_pair
+-- where a value begins in a pair
 pub second_place : (s u : Shape) → offset false (unnamed_members (s ∷ u ∷ [])) 1 ≡ begins false (ends false 0 s) u
 second_place s u = refl

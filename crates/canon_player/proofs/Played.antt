@@ -34,7 +34,7 @@ use Rattle.canon_transcript.specs.declared.transcript.Answer.{Answer}
 use Rattle.canon_transcript.specs.declared.transcript.Answer.TheVariants as answer
 use Rattle.canon_transcript.specs.declared.transcript.Head.TheVariants as head
 use Rattle.canon_transcript.specs.declared.transcript.Record.{Record}
-use Rattle.canon_player.specs.Session.{ActsBy, Called, Idle, IsEnd, LeavesSame, LivesBy, State, Tells, Themselves, WasCalled, answer_values, entry_view, host_side_of, answer_outcome, plan_of, plan_with, served_view}
+use Rattle.canon_player.specs.Session.{ActsBy, Called, Idle, IsEnd, LeavesSame, LivesBy, State, Tells, Themselves, WasItemCalled, answer_values, entry_view, host_side_of, answer_outcome, plan_of, plan_with, served_view}
 use Rattle.canon_player.specs.Steps.{CallsOnce}
 use Rattle.canon_player.specs.Session as session
 use Rattle.canon_player.specs.Stores.{ScriptStore, answers_of, callee_at, limits_of, state_of, with_plan}
@@ -149,7 +149,7 @@ Entered args its callee loaded left called = Adding (moment_of journaled loaded.
 -- what became of a call, where it was refused before the guest was entered or not
 abbrev pub Became : {R : Type 0} → Arguments → ReturnedValues R → (R → List Val → Type 0) → Callee → (Allocator → Plan) → ScriptStore → ScriptStore → Record → Option Error → Type 0
 Became args its Told callee plan s left r (Some e) = Idle (state_of s) (state_of left) r (answer.Err e)
-Became args its Told callee plan s left r None = WasCalled args its Told callee (limits_of s) (answers_of s) plan (state_of s) (state_of left) r
+Became args its Told callee plan s left r None = WasItemCalled args its Told callee (limits_of s) (answers_of s) plan (state_of s) (state_of left) r
 
 -- There were so many lines before the call.
 module _ {R : Type 0} (args : Arguments) (its : ReturnedValues R) (Told : R → List Val → Type 0) (callee : Callee) (guest : List Action) (reallocs : List Ordered) (post_trap : Bool)
@@ -181,7 +181,7 @@ module _ {R : Type 0} (args : Arguments) (its : ReturnedValues R) (Told : R → 
       (host_side_of (state_of s)) (host_side_of (state_of left)) called added
 
   was_called : s.trapped ≡ false → Entered args its callee loaded left called → OnOk called (left.trapped ≡ s.trapped) → OnErr called (left.trapped ≡ true)
-      → WasCalled args its Told callee (limits_of s) (answers_of s) plan (state_of s) (state_of left) r
+      → WasItemCalled args its Told callee (limits_of s) (answers_of s) plan (state_of s) (state_of left) r
   was_called free entered runs traps =
       let before = state_of s in
       let after = state_of left in

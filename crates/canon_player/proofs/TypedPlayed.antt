@@ -26,7 +26,7 @@ use Rattle.canon_func.specs.Typed.{FitsParams, FitsResults, done_by, export_opti
 use Rattle.canon_func.specs.declared.error.Error.{Error}
 use Rattle.canon_func.specs.declared.error.Error.TheVariants as error
 use Rattle.canon_transcript.specs.declared.transcript.Record.{Record}
-use Rattle.canon_player.specs.Session.{HasSignature, Printed, State, Tells, TypedBy, TypedCalled, TypedWith, WasCalled, WasTyped, entry_view, plan_with, served_view}
+use Rattle.canon_player.specs.Session.{HasSignature, Printed, State, Tells, TypedBy, TypedCalled, TypedWith, WasItemCalled, WasTyped, entry_view, plan_with, served_view}
 use Rattle.canon_player.specs.Options.{options_number}
 use Rattle.canon_player.specs.Signatures.{Passing, Returning, Signature}
 use Rattle.canon_player.specs.Stores.{HasItsTypes, ScriptStore, answers_of, callee_at, limits_of, state_of, with_plan}
@@ -71,7 +71,7 @@ module _ {P R : Type 0} (passing : Passing P) (returning : Returning R) (func : 
   abbrev player_callee : Callee
   player_callee = callee_at s.core.component func
 
-  -- what is passed to a player_callee, whose types these are
+  -- what is passed to a callee, whose types these are
   abbrev passed : Instance → Callee → Arguments
   passed types d = typed_args (passing.walks params) (passing.gives types (params_shape d) params) d
 
@@ -83,7 +83,7 @@ module _ {P R : Type 0} (passing : Passing P) (returning : Returning R) (func : 
       → TypedCalled passing returning func player_callee (limits_of s) (answers_of s) plan params (state_of s) (state_of left) r why
   told_so options id (Some e) h = h
   told_so options id None h =
-      subst₂ (λ n m. WasCalled (passed player_callee.types player_callee) (typed_results returning.reading n m player_callee) (Printed passing returning) player_callee (limits_of s) (answers_of s) plan (state_of s) (state_of left) r) options id h
+      subst₂ (λ n m. WasItemCalled (passed player_callee.types player_callee) (typed_results returning.reading n m player_callee) (Printed passing returning) player_callee (limits_of s) (answers_of s) plan (state_of s) (state_of left) r) options id h
 
   pub typed_is : s.core.guest.events ≡ [] → HasItsTypes s → export_options (slice_get s.core.component.exports.items func) ≡ options_number func
       → before ≡ with_plan s (plan s.core.guest.guest.plan.allocator) → f.export ≡ func → state_of final ≡ state_of left

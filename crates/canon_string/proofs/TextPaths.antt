@@ -149,7 +149,7 @@ module _ {T G : Type 0} (L : GuestLaws G) (options : ℕ) (a : Parts T G) (sourc
       pub narrow_unfitted : (d : Parts T G) (e : Fault) → most_bytes compact n cs < 2 ^ 31 → FitsTo L.seen L.moves (after b m) d 2 p n written (Err e) → PutsText L.seen L.moves options a d source (Err e)
       narrow_unfitted d e short fits = text_unfitted L options a source cs spells compact form (after b m) d 2 (anew 2 n ∷ []) p n written cs e narrow_begun (narrow_asks short) fits
 
-    -- what is string_left is a text
+    -- what is left is a text
     abbrev string_left : List ℕ
     string_left = take (n - read) (drop read source)
 
@@ -181,7 +181,7 @@ module _ {T G : Type 0} (L : GuestLaws G) (options : ℕ) (a : Parts T G) (sourc
         wide_long : length wide ≡ 2 * k
         wide_long = length-wide cs ∙ ap (λ (x : ℕ). 2 * x) (sym wide_units)
 
-        -- where the string_front is still there
+        -- where the front is still there
         there : bytes_at (narrow c.memory) q (length string_front) ≡ string_front → bytes_at (narrow m2) q (length wide) ≡ wide
         there known =
             let first : take written (bytes_at (narrow zs) q (2 * n)) ≡ string_front =

@@ -1,4 +1,4 @@
--- Blocks in the place of the transcript_first that is looked for.
+-- Blocks in the place of the first that is looked for.
 use Rattle.std.proofs.Common.{◌≡◌, ◌<◌, ◌≤◌, ◌+◌, ℕ, suc, Bool, true, false, cond, not, List, [], ◌∷◌, ◌++◌, length, take, drop, None, Some, nat_lt, refl, ap, sym, ◌∙◌, arith, append-nil, set, eqb}
 use Rattle.std.proofs.lemmas.Bool.{eqb-false, eqb-true, ltb-false, ltb-true}
 use Rattle.std.proofs.lemmas.List.{drop-set, take-append-drop, take-set, take_all}
@@ -35,7 +35,7 @@ put_absent start size new bs e =
     put_first start size new bs ∙ (ap (λ xs. xs ++ (new ++ drop (suc n) bs)) (take_all n bs past)
     ∙ (ap (λ xs. bs ++ (new ++ xs)) (drop_of_length-le bs further) ∙ ap (λ xs. bs ++ xs) (append-nil new)))
 
--- the place of the transcript_first, and what stands around it
+-- the place of the first, and what stands around it
 record Place (start size i : ℕ) (new bs : List Block) : Type 0 where
   inside : i < length bs
   is : put_block start size new bs ≡ take i bs ++ (new ++ drop (i + 1) bs)

@@ -1,4 +1,4 @@
--- Texts and printings in a transcript_row, with a separator between them, and the printing of a value by those of its members.
+-- Texts and printings in a row, with a separator between them, and the printing of a value by those of its members.
 use Rattle.std.proofs.Common.{◌≡◌, ℕ, Bool, true, false, if◌then◌else◌, List, [], ◌∷◌, ◌++◌, map, refl, ap, sym, ◌∙◌, Vec, String, append-nil, subst}
 use Rattle.std.proofs.lemmas.Simd.{map-map}
 use Rattle.std.specs.Prelude.{OnOk, Result, codes}
@@ -29,7 +29,7 @@ pub row_begins : {X : Type 0} (by : ℕ) (f : X → List ℕ) (xs : List X) (tex
     → text2 ++ transcript_row by f [] xs ≡ text ++ before ++ join_with_byte by (map f xs)
 row_begins by f xs text text2 before e = ap (λ s. s ++ transcript_row by f [] xs) e ∙ ap (λ s. text ++ before ++ s) (row_joined by f xs)
 
--- what is transcript_left of a transcript_row: its first stands alone, and each other after a comma
+-- what is left of a row: its first stands alone, and each other after a comma
 abbrev pub transcript_left : Bool → List Printing → Printing
 transcript_left true fs = comma_separated fs
 transcript_left false fs = each_after (codes ",") fs

@@ -15,7 +15,7 @@ use Rattle.canon_types.specs.Depth.{deepest, depth, variant_cases}
 use Rattle.canon_types.specs.Table.{TypeTable}
 use Rattle.std.specs.Prelude.{slice_index}
 use Rattle.canon_plan.specs.CasePlan.{IsCaseSlots, case_name_cost, name_charge}
-use Rattle.canon_value_parts.specs.Lifts.{AreTaken, LiftsTo}
+use Rattle.canon_value_parts.specs.Lifts.{AreValuesTaken, LiftsTo}
 use Rattle.canon_context.specs.Told.{LiftBlames, ToldAt}
 use Rattle.canon_value_parts.specs.Plan.{IsCaseRebuilt}
 use Rattle.canon_plan.specs.Plan.{IsVariant, shapes_of}
@@ -105,7 +105,7 @@ module _ (enc : Encoding) (m : Memory) (ws : List ℕ) where
           subst (λ (x : Shape). RepFlatAt false enc m ws i x (case_tree tag ts)) (sym is.1)
           (subst (λ (d : ℕ). CaseFlat (Inside m) false enc m ws cs d d (i + 1) (i + 1 + cases_flat cs) (case_tree tag ts)) read (case_in_words cs tag tag (i + 1) (i + 1 + cases_flat cs) ts there reps), λ strict. cc)
 
-      module _ (to before mid late : ℕ) (vs : List Val) (charged : before ≡ mid + member_count these * val_cost) (lifted : AreTaken enc m ws (i + 1) to mid late these vs) where
+      module _ (to before mid late : ℕ) (vs : List Val) (charged : before ≡ mid + member_count these * val_cost) (lifted : AreValuesTaken enc m ws (i + 1) to mid late these vs) where
         -- the name isn't paid
         pub flat_name_unpaid : late < name_charge s tag → before < flat_reach enc m ws s i
         flat_name_unpaid less =
@@ -127,9 +127,9 @@ pub record WeighsCaseWords (enc : Encoding) (m : Memory) (ws : List ℕ) (s : Sh
   pub shallow : 4 * deepest ms + 1 < 4 * depth s - 1
   pub leaves : flat_leaves m ws s i ≡ members_flat_leaves m ws ms (i + 1)
   pub room : 1 + members_flat ms ≤ flat s
-  pub count : (to mid late : ℕ) (vs : List Val) → AreTaken enc m ws (i + 1) to mid late ms vs → length vs ≡ member_count (case_members (variant_cases s) tag)
-  pub nameless : (to before mid late : ℕ) (vs : List Val) → before ≡ mid + member_count ms * val_cost → AreTaken enc m ws (i + 1) to mid late ms vs → late < name_charge s tag → before < flat_reach enc m ws s i
-  pub lifted : (to before mid late end after : ℕ) (vs : List Val) → before ≡ mid + member_count ms * val_cost → AreTaken enc m ws (i + 1) to mid late ms vs → late ≡ after + name_charge s tag → end ≡ i + flat s
+  pub count : (to mid late : ℕ) (vs : List Val) → AreValuesTaken enc m ws (i + 1) to mid late ms vs → length vs ≡ member_count (case_members (variant_cases s) tag)
+  pub nameless : (to before mid late : ℕ) (vs : List Val) → before ≡ mid + member_count ms * val_cost → AreValuesTaken enc m ws (i + 1) to mid late ms vs → late < name_charge s tag → before < flat_reach enc m ws s i
+  pub lifted : (to before mid late end after : ℕ) (vs : List Val) → before ≡ mid + member_count ms * val_cost → AreValuesTaken enc m ws (i + 1) to mid late ms vs → late ≡ after + name_charge s tag → end ≡ i + flat s
       → (r : Result Val Fault) → IfOk r (IsCaseRebuilt s tag vs) → IfErr r (λ e. e ≡ fault.OutOfMemory) → LiftsTo enc m ws i end before after s r
 
 pub case_weighs_words : (enc : Encoding) (m : Memory) (ws : List ℕ) (s : Shape) (i tag : ℕ) → IsVariant s → tag ≡ low (slice_index ws i) → (t : TypeTable) (c : CaseSlots) → IsCaseSlots t s tag c

@@ -17,7 +17,7 @@ use Rattle.canon_model.specs.Text.{Encoding}
 use Rattle.canon_model.specs.Tree.{no_trees, text, tree}
 use Rattle.canon_types.specs.declared.types.InterfaceType.{InterfaceType}
 use Rattle.canon_types.specs.Table.{plain_shape}
-use Rattle.canon_value_parts.specs.Lifts.{AreLifted, AreTaken, AreValues, PartsLiftTo, IsOfWord, IsOfWords, LiftsTo, MembersLiftTo}
+use Rattle.canon_value_parts.specs.Lifts.{AreLifted, AreValuesTaken, AreValues, PartsLiftTo, IsOfWord, IsOfWords, LiftsTo, MembersLiftTo}
 use Rattle.canon_string.specs.Loading.{IsTextLoaded}
 use Rattle.canon_context.specs.Told.{Exactly, IsPlace, LiftBlames, ToldAt, place_of}
 use Rattle.canon_context.specs.declared.fault.At.{At}
@@ -84,13 +84,13 @@ module _ (enc : Encoding) (m : Memory) (ws : List ℕ) where
   reach_spent : (s : Shape) (from to before left : ℕ) (v : Val) → LiftsTo enc m ws from to before left s (Ok v) → before ≡ left + flat_reach enc m ws s from
   reach_spent s from to before left v ((t, rep, has, spent), words) = omega (arith, spent, reach_is_the_cost.flat false enc m ws from s t rep)
 
-  pub parts_none : (from fuel : ℕ) → AreTaken enc m ws from from fuel fuel no_members []
+  pub parts_none : (from fuel : ℕ) → AreValuesTaken enc m ws from from fuel fuel no_members []
   unfolding flat cost
   parts_none from fuel = (no_trees, refl, (refl, refl), omega arith, omega arith)
 
   -- The first one was lifted, up to word `mid`, and `left` is the fuel that is left.
   module _ (s : Shape) (from mid before left : ℕ) (v : Val) (one : LiftsTo enc m ws from mid before left s (Ok v)) where
-    pub part_before : (name : Name) (ms : Members) (to less after : ℕ) (vs : List Val) → left ≡ less + length name → AreTaken enc m ws mid to less after ms vs → AreTaken enc m ws from to before after (member name s ms) (v ∷ vs)
+    pub part_before : (name : Name) (ms : Members) (to less after : ℕ) (vs : List Val) → left ≡ less + length name → AreValuesTaken enc m ws mid to less after ms vs → AreValuesTaken enc m ws from to before after (member name s ms) (v ∷ vs)
     unfolding flat cost
     part_before name ms to less after vs charged (ts, reps, have, spent, words) =
         let ((t, rep, has, taken), moved) = one in (

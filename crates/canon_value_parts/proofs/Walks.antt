@@ -29,7 +29,7 @@ use Rattle.canon_value_parts.specs.Fails.{Blames, Failure, FailsAt, MemberFails,
 use Rattle.canon_context.specs.Lowers.{ending_of, fault_ending}
 use Rattle.canon_context.specs.Quiet.{has_block, have_block}
 use Rattle.canon_value_parts.specs.Stores.{PlacesCounted, FieldsCount, PartsStoreTo, PlacesTo, StoresTo}
-use Rattle.canon_val.specs.Value.{EachHas, HasTree, HaveTrees, IsFixed, IsProduct, all_places, member_names, no_names, places, HasTreeAs, HaveTreesAs}
+use Rattle.canon_val.specs.Value.{EachHas, HasTree, HaveTrees, IsFixedListValue, IsProduct, all_places, member_names, no_names, places, HasTreeAs, HaveTreesAs}
 use Rattle.canon_value_parts.specs.Viewed.{HasMembers}
 use Rattle.canon_plan.specs.Plan.{LiesAs}
 use Rattle.canon_value_parts.specs.Words.{IsWordOf}
@@ -96,7 +96,7 @@ copies_names zero s (v ∷ vs) e = absurd (omega (arith, e))
 copies_names (suc n) s [] e = absurd (omega (arith, e))
 copies_names (suc n) s (v ∷ vs) e = ap (λ ns. [] ∷ ns) (copies_names n s vs (omega (arith, e)))
 
-pub fixed_counted : (enc : Encoding) (n : ℕ) (s : Shape) (names : List Name) (vs : List Val) (v : Val) (place : ℕ) (r : Result ℕ Fault) → length vs ≡ n → IsFixed vs v
+pub fixed_counted : (enc : Encoding) (n : ℕ) (s : Shape) (names : List Name) (vs : List Val) (v : Val) (place : ℕ) (r : Result ℕ Fault) → length vs ≡ n → IsFixedListValue vs v
     → PlacesCounted enc (λ how k. MemberFails how (copies n s) vs k) (cap (place + 1)) (all_places vs) r
     → PlacesCounted enc (λ how k. FailsAt how (fixed n s) v k) place (places v) r
 fixed_counted enc n s names vs v place (Ok to) count (xs, ev, same) (e, small) = (omega (arith, e, ap places ev ∙ places_fixed xs, ap all_places same), fixed_small enc n s vs v count (xs, ev, same) small)
@@ -114,10 +114,10 @@ product_back k ms names vs v p t (ws, ts, q, et, have) = (
   subst (λ (u : Tree). HaveTrees ms vs (trees_of u)) (sym et) (subst (λ (xs : List Val). HaveTrees ms xs ts) (product_values k (member_names ms) names ws vs v q p) have),
 )
 
-pub fixed_is : (n : ℕ) (s : Shape) (names : List Name) (vs : List Val) (v : Val) → length vs ≡ n → IsFixed vs v → (ts : Trees) → MemberNamed (copies n s) names vs ts → HasTree (fixed n s) v (parts ts) × (tree_count ts ≡ n)
+pub fixed_is : (n : ℕ) (s : Shape) (names : List Name) (vs : List Val) (v : Val) → length vs ≡ n → IsFixedListValue vs v → (ts : Trees) → MemberNamed (copies n s) names vs ts → HasTree (fixed n s) v (parts ts) × (tree_count ts ≡ n)
 fixed_is n s names vs v enough p ts (_, have) = let (l, each) = copies_have false n s vs ts have in ((vs, ts, p, enough, refl, each), each_count (λ w u. HasTree s w u) vs ts each ∙ enough)
 
-pub fixed_back : (n : ℕ) (s : Shape) (names : List Name) (vs : List Val) (v : Val) → names ≡ no_names vs → length vs ≡ n → IsFixed vs v → (t : Tree) → HasTree (fixed n s) v t → MemberNamed (copies n s) names vs (trees_of t)
+pub fixed_back : (n : ℕ) (s : Shape) (names : List Name) (vs : List Val) (v : Val) → names ≡ no_names vs → length vs ≡ n → IsFixedListValue vs v → (t : Tree) → HasTree (fixed n s) v t → MemberNamed (copies n s) names vs (trees_of t)
 fixed_back n s names vs v en enough p t (ws, ts, q, l, et, each) = (
   en ∙ copies_names n s vs enough,
   subst (λ (u : Tree). HaveTrees (copies n s) vs (trees_of u)) (sym et) (have_copies n s vs ts enough (subst (λ (ys : List Val). EachHas (λ w u. HasTree s w u) ys ts) (fixed_values ws vs v q p) each)),

@@ -1,7 +1,7 @@
 use Rattle.std.proofs.Common.{Option, Some, map, option_and_then, ap, arith, refl, string_bytes, subst, sym, ◌∙◌}
 use Rattle.serde_json.specs.Find.{as_array, as_str}
 use Rattle.serde_json.specs.View.{view}
-use Rattle.canon_json.specs.Json.{Gives, each_of}
+use Rattle.canon_json.specs.Json.{ReadsAs, each_of}
 use Rattle.canon_val.specs.declared.val.Val.TheVariants as val
 use Rattle.canon_literals.specs.Literals.{Literal, enum, fields_view, fixed, flags, list, literal_view, literals_of, literals_view, option, pair_view, pairs, literal_pairs, pairs_view, payload_view, text, tuple}
 use Rattle.canon_script.specs.Values.{optional_of, pair_of, pairs_in, value_by, value_of, values_of}
@@ -58,7 +58,7 @@ pairs_of-returns t c =
     array_end pairs_in (view c.args.v.now) c.in-Some.items.now.items c.deref-item-items.result.now c.loop-item.item-index (pairs_view c.loop-item.pairs.items) refl c.in-Some.ensures c.deref-item-items.ensures.value c.loop-item-test.false c.loop-item.invariant
 
 pub value_of-returns-in-Some : goal.value_of-returns-in-Some
-value_of-returns-in-Some t c = subst (λ (o : Option Literal). Gives literal_view c.value_by.result o) (sym (value_is (view c.args.v.now) (view c.in-Some.form.now) c.in-Some.kind c.in-Some.ensures)) c.value_by.ensures
+value_of-returns-in-Some t c = subst (λ (o : Option Literal). ReadsAs literal_view c.value_by.result o) (sym (value_is (view c.args.v.now) (view c.in-Some.form.now) c.in-Some.kind c.in-Some.ensures)) c.value_by.ensures
 
 pub value_of-returns-in-None : goal.value_of-returns-in-None
 value_of-returns-in-None t c = no_value (view c.args.v.now) c.in-None.ensures
@@ -69,7 +69,7 @@ value_of-value_by-requires t c = (omega (arith, in_form (view c.args.v.now) (vie
 pub value_by-returns-in_default : goal.value_by-returns-in_default
 value_by-returns-in_default t c =
     let other = c.in_default in
-    subst (λ (o : Option Literal). Gives literal_view c.scalar_of.result o)
+    subst (λ (o : Option Literal). ReadsAs literal_view c.scalar_of.result o)
     (scalar_is (view c.args.form.now) c.args.kind (record {
       no_text = other.not-String;
       no_list = other.not-List;

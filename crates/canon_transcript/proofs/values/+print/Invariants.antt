@@ -4,7 +4,7 @@ use Rattle.canon_transcript.specs.Text.{field_printing, comma_separated, page, p
 use Rattle.canon_transcript.proofs.Rows.{transcript_left}
 use Rattle.canon_transcript.proofs.values.+print.Given as goal
 
--- the page so far, after the printing of what is transcript_left, is the whole
+-- the page so far, after the printing of what is left, is the whole
 abbrev pub invariant-print_record-loop-name : goal.invariant-print_record-loop-name
 invariant-print_record-loop-name l =
     transcript_left l.is_first (map field_printing (drop l.name-index l.fields)) (page (string_bytes l.text) l.next) ≡ comma_separated (map field_printing l.fields) (write (codes "{") (page (string_bytes l.fn.text) l.fn.next))
