@@ -22,7 +22,7 @@ ghost use Rattle.canon_lift.specs.Views.{ListFits};
 ghost use Rattle.canon_model.specs.Memory.{bytes_at, cap};
 
 use crate::Lift;
-use canon_bytes::load_u32;
+use canon_bytes::{ends_inside, load_u32};
 use canon_context::{At, Core, Fault, LiftContext, MemoryView};
 use canon_lift_parts::{is_row, word_at, word_u32};
 use canon_memory::ValRaw;
@@ -57,7 +57,7 @@ pub(crate) fn test_range<T: ComponentType, U, G>(
     ensures tested { (s : Shape) → HasLayout abi.now s → RangeTested (setting_in cx.old.core.now cx.old.options) s (cap T.host_bytes) pointer count at cx.old.fuel result cx.new.fuel }
     ensures same { cx.new ≡ record cx.old { fuel = cx.new.fuel } }
 {
-    if pointer + count * u64::from(abi.size32) > cx.memory().len() as u64 {
+    if !ends_inside(cx.memory(), pointer, count, abi.size32) {
         return Err(Fault::PointerOutOfBounds(at));
     }
     match cx.consume_fuel_array(count, T::host_size()) {
@@ -136,8 +136,8 @@ impl<T: ComponentType> WasmList<T> {
                 view.memory(),
                 self.pointer,
                 self.count,
-                u64::from(abi.size32),
-                u64::from(abi.align32),
+                abi.size32,
+                abi.align32,
             )
         } else {
             false
@@ -161,8 +161,8 @@ impl<T: ComponentType> WasmList<T> {
                 core.memory().as_slice(),
                 self.pointer,
                 self.count,
-                u64::from(abi.size32),
-                u64::from(abi.align32),
+                abi.size32,
+                abi.align32,
             )
         } else {
             false

@@ -10,6 +10,7 @@ ghost use Rattle.canon_text.specs.Decoding.{cow_text};
 ghost use Rattle.canon_string.specs.Loading.{IsTextLoaded};
 ghost use Rattle.canon_context.specs.Told.{Exactly, IsNoRefusal, LiftBlames, place_of};
 
+use canon_bytes::ends_inside;
 use canon_context::{At, Fault, Source, charge};
 use canon_text::{CowStr, DecodeError, UTF16_TAG, decode_latin1, decode_utf8, decode_utf16};
 use canon_types::StringEncoding;
@@ -65,7 +66,7 @@ fn charged_bytes<'a>(
     if pointer % align != 0 {
         return Err(Fault::PointerMisaligned(at));
     }
-    if pointer + count > memory.len() as u64 {
+    if !ends_inside(memory, pointer, count, 1) {
         return Err(Fault::PointerOutOfBounds(at));
     }
     charge(fuel, count)?;
