@@ -58,12 +58,12 @@ load_members-requires-clause-inside c =
     omega (arith, by_size, ends, members_end-le-size false of_places (tuple_members c.args.source.now.types.now c.args.ty))
 
 -- where the members were loaded from
-record IsThere (c : After-load_members) : Type 0 where
+record AreValuesThere (c : After-load_members) : Type 0 where
   is : c.from-at.result ≡ low (slice_index c.args.src.now 0)
   aligned : c.from-at.result % members_align false (tuple_members c.args.source.now.types.now c.args.ty) ≡ 0
   inside : c.from-at.result + size false (product of_places (tuple_members c.args.source.now.types.now c.args.ty)) ≤ length c.args.source.now.memory.now
 
-there : (c : After-load_members) → shape_of c.args.source.now.types.now (ty.Tuple c.args.ty) ≡ product of_places (tuple_members c.args.source.now.types.now c.args.ty) → IsThere c
+there : (c : After-load_members) → shape_of c.args.source.now.types.now (ty.Tuple c.args.ty) ≡ product of_places (tuple_members c.args.source.now.types.now c.args.ty) → AreValuesThere c
 there c form =
     let found : c.index-src-0.result ≡ slice_index c.args.src.now 0 = c.index-src-0.is ∙ get_or_default c.args.src.now 0 _ 0 (omega (arith, c.requires.word)) in
     let ends : c.from-at.result + 1 * c.tuple-tuple.result.now.abi.size32 ≤ length c.args.source.now.memory.now = leb-true _ _ (sym c.ends_inside.ensures ∙ c.if-not-ends_inside.false) in
