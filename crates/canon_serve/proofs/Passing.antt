@@ -1,11 +1,11 @@
--- Messages that are the first of all.
+-- Messages that are a strict prefix of all.
 use Rattle.std.proofs.Common.{List, Option, [], refl, ◌∷◌}
 use Rattle.canon_relay.specs.Channel.{AddsMessages, Message}
 use Rattle.canon_relay.specs.Relay.{PassesMessages, adds_both}
-use Rattle.canon_serve.specs.Messages.{IsFirstOf}
+use Rattle.canon_serve.specs.Messages.{IsStrictPrefix}
 
-pub cut_before : (a b : Option (List Message)) (all : List Message) → AddsMessages a b [] → PassesMessages a b (IsFirstOf all)
-cut_before a b all none = ([], none, (all, refl))
+pub cut_before : (a b : Option (List Message)) (one : Message) (rest : List Message) → AddsMessages a b [] → PassesMessages a b (IsStrictPrefix (one ∷ rest))
+cut_before a b one rest none = ([], none, (one, rest, refl))
 
-pub cut_after : (a b c : Option (List Message)) (one : Message) (rest : List Message) → AddsMessages a b (one ∷ []) → AddsMessages b c [] → PassesMessages a c (IsFirstOf (one ∷ rest))
-cut_after a b c one rest first none = (one ∷ [], adds_both a b c (one ∷ []) [] first none, (rest, refl))
+pub cut_after : (a b c : Option (List Message)) (one next : Message) (rest : List Message) → AddsMessages a b (one ∷ []) → AddsMessages b c [] → PassesMessages a c (IsStrictPrefix (one ∷ next ∷ rest))
+cut_after a b c one next rest first none = (one ∷ [], adds_both a b c (one ∷ []) [] first none, (next, rest, refl))

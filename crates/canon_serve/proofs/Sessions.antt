@@ -9,7 +9,7 @@ use Rattle.canon_relay.specs.Channel.{AddsMessages, Message}
 use Rattle.canon_relay.specs.Relay.{PassesMessages, adds_both, adds_none}
 use Rattle.canon_serve.specs.Begins.{HasComponent, HasNoComponent, IsBegun}
 use Rattle.canon_serve.specs.Carries.{CarriesOutCommand, EngineStore}
-use Rattle.canon_serve.specs.Messages.{HearsCommand, HearsNone, IsFirstOf, answer_messages}
+use Rattle.canon_serve.specs.Messages.{HearsCommand, HearsNone, IsStrictPrefix, answer_messages}
 use Rattle.canon_serve.specs.Sessions.{CommandTurn, CutsCommand, EndsAtOnce, EndsSession, EndsUnbegun, GoesOnAfter, IsFirstAnswer, IsFirstTurn, IsSession, IsUnheardEnd, ServesAll, ServesOne, ServesTurn, ServesTurns, ServesUntil, ToldOrCut, command_messages, one_turn_messages}
 use Rattle.canon_serve.specs.declared.answer.Answer.{Answer}
 use Rattle.canon_serve.specs.declared.answer.Answer.TheVariants as answer
@@ -113,7 +113,7 @@ module _ (a b c : Option (List Message)) (asked : Command) (answered : Answer) (
   turn = record { asked = asked; heard = heard.0; answered = answered }
 
   -- an answer was told in part
-  pub cut_first : PassesMessages b c (IsFirstOf (answer_messages answered)) → PassesMessages a c (EndsAtOnce end.Broken)
+  pub cut_first : PassesMessages b c (IsStrictPrefix (answer_messages answered)) → PassesMessages a c (EndsAtOnce end.Broken)
   cut_first cut = (
     heard.0 ++ cut.0,
     adds_both a b c heard.0 cut.0 heard.1 cut.1,

@@ -1,5 +1,5 @@
 -- How commands and answers are spelled, and which messages they are.
-use Rattle.std.specs.Prelude.{List, [], length, nat_eq, ◌++◌, ◌∷◌, ◌≡◌, ◌≤◌, ◌⊎◌, ℕ}
+use Rattle.std.specs.Prelude.{List, [], length, nat_eq, ◌++◌, ◌∷◌, ◌≡◌, ◌≤◌, ◌<◌, ◌⊎◌, ℕ}
 use Rattle.canon_relay.specs.Channel.{Message, heard, told}
 use Rattle.canon_relay.specs.Wire.{number_at, numbers_bytes}
 use Rattle.canon_serve.specs.Errors.{error_numbers}
@@ -40,13 +40,13 @@ pub record HearsCommand (asked : Command) (messages : List Message) : Type 0 whe
   pub few : length bytes ≤ 16777216
   pub is : IsCommand (number_at head 0) (number_at head 8) bytes asked
 
--- no command was heard: at most its first 32 bytes
+-- no command was heard: nothing, or the first 32 bytes of one that has more
 abbrev pub HearsNone : List Message → Type 0
-HearsNone messages = (messages ≡ []) ⊎ ((head : List ℕ) × (length head ≡ 32) × (messages ≡ heard head ∷ []))
+HearsNone messages = (messages ≡ []) ⊎ ((head : List ℕ) × (length head ≡ 32) × (0 < number_at head 24) × (messages ≡ heard head ∷ []))
 
--- these messages are the first of all
-abbrev pub IsFirstOf : List Message → List Message → Type 0
-IsFirstOf all messages = (rest : List Message) × (all ≡ messages ++ rest)
+-- these messages are a strict prefix of all: one more would have followed
+abbrev pub IsStrictPrefix : List Message → List Message → Type 0
+IsStrictPrefix all messages = (next : Message) × (rest : List Message) × (all ≡ messages ++ next ∷ rest)
 
 -- ---- an answer
 

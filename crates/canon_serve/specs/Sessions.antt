@@ -7,7 +7,7 @@ use Rattle.canon_relay.specs.Channel.{AddsMessages, Message}
 use Rattle.canon_relay.specs.Relay.{PassesMessages}
 use Rattle.canon_serve.specs.Begins.{HasComponent, HasNoComponent, IsBegun}
 use Rattle.canon_serve.specs.Carries.{AnswersShort, CarriesOutCommand, EngineStore}
-use Rattle.canon_serve.specs.Messages.{HearsCommand, HearsNone, IsFirstOf, answer_messages}
+use Rattle.canon_serve.specs.Messages.{HearsCommand, HearsNone, IsStrictPrefix, answer_messages}
 use Rattle.canon_serve.specs.declared.answer.Answer.{Answer}
 use Rattle.canon_serve.specs.declared.answer.Answer.TheVariants as answer
 use Rattle.canon_serve.specs.declared.answer.Senseless.{Senseless}
@@ -61,13 +61,13 @@ module _ {E H : Type 0} (log : E → Option (List Message)) where
 
   -- ---- the end
 
-  -- a command was heard and carried out, and the first messages of its answer were told
+  -- a command was heard and carried out, and its answer was told, but not whole
   pub record IsCutAnswer (store : EngineStore E H) (messages : List Message) : Type 0 where
     pub turn : CommandTurn
     pub next : EngineStore E H
     pub serves : ServesTurn turn store next
     pub part : List Message
-    pub first : IsFirstOf (answer_messages turn.answered) part
+    pub first : IsStrictPrefix (answer_messages turn.answered) part
     pub are : messages ≡ turn.heard ++ part
 
   -- a command was heard, and memory ran out as it was carried out
@@ -80,7 +80,7 @@ module _ {E H : Type 0} (log : E → Option (List Message)) where
 
   -- By how it ended: which answer wasn't told whole, or that there is none for want of memory.
   abbrev pub CutsCommand : End → Command → EngineStore E H → EngineStore E H → Option (List Message) → Option (List Message) → Type 0
-  CutsCommand end.Broken asked store store2 log1 log2 = (a : Answer) × CarriesOutCommand log asked store store2 a × PassesMessages log1 log2 (IsFirstOf (answer_messages a))
+  CutsCommand end.Broken asked store store2 log1 log2 = (a : Answer) × CarriesOutCommand log asked store store2 a × PassesMessages log1 log2 (IsStrictPrefix (answer_messages a))
   CutsCommand end.OutOfMemory asked store store2 log1 log2 = AnswersShort log asked store store2 × (log2 ≡ log1)
   CutsCommand _ asked store store2 log1 log2 = ⊥
 
@@ -117,18 +117,18 @@ pub record IsFirstTurn (IsKind : Answer → Type 0) (messages : List Message) : 
   pub kind : IsKind turn.answered
   pub are : messages ≡ one_turn_messages turn
 
--- it was heard, and the first messages of an answer were told
+-- it was heard, and an answer was told, but not whole
 pub record IsCutFirst (messages : List Message) : Type 0 where
   pub turn : CommandTurn
   pub heard : HearsCommand turn.asked turn.heard
   pub answered : IsFirstAnswer turn.asked turn.answered
   pub part : List Message
-  pub first : IsFirstOf (answer_messages turn.answered) part
+  pub first : IsStrictPrefix (answer_messages turn.answered) part
   pub are : messages ≡ turn.heard ++ part
 
--- An answer was told, and the session ended so; or only its first messages were, as the channel failed.
+-- An answer was told, and the session ended so; or it was told, but not whole, as the channel failed.
 abbrev pub ToldOrCut : Answer → End → Option (List Message) → Option (List Message) → End → Type 0
-ToldOrCut a why log1 log2 result = ((result ≡ why) × AddsMessages log1 log2 (answer_messages a)) ⊎ ((result ≡ end.Broken) × PassesMessages log1 log2 (IsFirstOf (answer_messages a)))
+ToldOrCut a why log1 log2 result = ((result ≡ why) × AddsMessages log1 log2 (answer_messages a)) ⊎ ((result ≡ end.Broken) × PassesMessages log1 log2 (IsStrictPrefix (answer_messages a)))
 
 -- how a session ends that has no store, by the cause
 abbrev pub EndsUnbegun : NoStore → Option (List Message) → Option (List Message) → End → Type 0

@@ -4,7 +4,7 @@ ghost use Rattle.std.specs.Prelude.{◌≡◌, ◌++◌, ◌∷◌, [], IfOk, Is
 ghost use Rattle.canon_relay.specs.Channel.{AddsMessages, told};
 ghost use Rattle.canon_relay.specs.Relay.{PassesMessages, adds_none};
 ghost use Rattle.canon_relay.specs.Wire.{numbers_bytes};
-ghost use Rattle.canon_serve.specs.Messages.{IsFirstOf, answer_bytes, answer_messages, answer_numbers, senseless_numbers, told_bytes};
+ghost use Rattle.canon_serve.specs.Messages.{IsStrictPrefix, answer_bytes, answer_messages, answer_numbers, senseless_numbers, told_bytes};
 
 use crate::errors::error_numbers;
 use canon_func::Error;
@@ -96,7 +96,7 @@ fn head_of(alloc: Global, answer: &Answer, len: u64) -> Result<Vec<u8>, AllocErr
 /// Tells the caller what came of a command. Answers whether it was told whole.
 pub(crate) fn tell_answer<P: Channel>(alloc: Global, caller: &mut P, answer: &Answer) -> bool
     ensures told { IsTrue result → AddsMessages (P.log caller.old) (P.log caller.new) (answer_messages answer.now) }
-    ensures cut { IsFalse result → PassesMessages (P.log caller.old) (P.log caller.new) (IsFirstOf (answer_messages answer.now)) }
+    ensures cut { IsFalse result → PassesMessages (P.log caller.old) (P.log caller.new) (IsStrictPrefix (answer_messages answer.now)) }
 {
     let bytes = bytes_of(answer);
     match head_of(alloc, answer, bytes.len() as u64) {
@@ -108,7 +108,7 @@ pub(crate) fn tell_answer<P: Channel>(alloc: Global, caller: &mut P, answer: &An
 /// Tells the numbers of an answer and its bytes.
 fn tell_both<P: Channel>(caller: &mut P, head: &[u8], bytes: &[u8]) -> bool
     ensures told { IsTrue result → AddsMessages (P.log caller.old) (P.log caller.new) (told head.now ∷ told_bytes bytes.now) }
-    ensures cut { IsFalse result → PassesMessages (P.log caller.old) (P.log caller.new) (IsFirstOf (told head.now ∷ told_bytes bytes.now)) }
+    ensures cut { IsFalse result → PassesMessages (P.log caller.old) (P.log caller.new) (IsStrictPrefix (told head.now ∷ told_bytes bytes.now)) }
 {
     if !caller.tell(head) {
         return false;

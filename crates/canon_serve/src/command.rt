@@ -1,6 +1,6 @@
 //! What the caller asks for, and how it is heard.
 
-ghost use Rattle.std.specs.Prelude.{◌≡◌, ◌≤◌, ◌^◌, ◌∷◌, [], IfOk, OnErr, length};
+ghost use Rattle.std.specs.Prelude.{◌≡◌, ◌≤◌, ◌<◌, ◌^◌, ◌∷◌, [], IfOk, OnErr, length};
 ghost use Rattle.canon_relay.specs.Channel.{AddsMessages};
 ghost use Rattle.canon_relay.specs.Relay.{PassesMessages, adds_none};
 ghost use Rattle.canon_serve.specs.Messages.{HearsCommand, HearsNone, IsCommand, heard_bytes};
@@ -77,14 +77,18 @@ pub(crate) fn hear_bytes<P: Channel>(
 ) -> Result<Vec<u8>, Unheard>
     ensures heard { IfOk result (λ bytes. AddsMessages (P.log caller.old) (P.log caller.new) (heard_bytes bytes.items) × (length bytes.items ≡ len) × (len ≤ 16777216)) }
     ensures none { OnErr result (AddsMessages (P.log caller.old) (P.log caller.new) []) }
+    ensures some { OnErr result (0 < len) }
 {
+    if len == 0 {
+        return Ok(Vec::new(alloc));
+    }
     if len > MAX_BYTES {
         return Err(Unheard::Broken);
     }
     let Ok(mut bytes) = Vec::from_elem(alloc, 0u8, len as usize) else {
         return Err(Unheard::OutOfMemory);
     };
-    if len > 0 && !caller.hear(&mut bytes) {
+    if !caller.hear(&mut bytes) {
         return Err(Unheard::Broken);
     }
     Ok(bytes)
