@@ -1,3 +1,4 @@
+pub mod Answering
 pub mod Blocks
 pub mod Exchanges
 pub mod Moves

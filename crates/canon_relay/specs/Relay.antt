@@ -1,5 +1,5 @@
 -- What a guest behind a channel does, and what passes over the channel meanwhile.
-use Rattle.std.specs.Prelude.{Err, List, None, Ok, Option, Result, Some, [], false, length, replicate, suc, zero, ℕ, ◌++◌, ◌∷◌, ◌≡◌, ◌≤◌}
+use Rattle.std.specs.Prelude.{Err, List, None, Ok, Option, Result, Some, [], false, length, replicate, suc, zero, ℕ, ◌++◌, ◌∷◌, ◌≡◌, ◌≤◌, ◌<◌, ◌^◌, ◌⊎◌}
 use Rattle.std.proofs.Common.{ap, refl, subst, sym, ◌∙◌}
 use Rattle.std.proofs.lemmas.List.{append-nil, append_assoc}
 use Rattle.canon_memory.specs.Guest.{GuestIn, Mark, Seen}
@@ -39,11 +39,15 @@ abbrev pub IsAsGivenBack : ℕ → List ℕ → List ℕ → Type 0
 IsAsGivenBack zero ran after = after ≡ ran
 IsAsGivenBack (suc n) ran after = Unit {0}
 
--- A demand of these bytes was told, memory was lent and given back, a reply of a kind was heard, which has 168 bytes, and a memory that is to be
--- longer by it was lent again.
+-- The messages of one exchange: a demand of these bytes is told, memory is lent and given back, a reply is heard, and a memory that is to be longer by it
+-- is lent again.
+abbrev pub exchange_messages : List ℕ → List ℕ → List ℕ → List ℕ → List ℕ → List Message
+exchange_messages asked before ran reply after = told asked ∷ lent before ran ∷ heard reply ∷ lent_again (reply_grown reply) ran after
+
+-- They passed, and the reply is of this kind and has 168 bytes.
 pub record Replied (kind : ℕ) (asked before after reply : List ℕ) (messages : List Message) : Type 0 where
   pub ran : List ℕ
-  pub passed : messages ≡ told asked ∷ lent before ran ∷ heard reply ∷ lent_again (reply_grown reply) ran after
+  pub passed : messages ≡ exchange_messages asked before ran reply after
   pub left : IsAsGivenBack (reply_grown reply) ran after
   pub kind_is : reply_kind reply ≡ kind
   pub sized : length reply ≡ 168
@@ -65,20 +69,61 @@ RepliesBlock d before after at = Replies 0 d [] before after (λ reply. (reply_n
 abbrev pub RepliesDone : Demand → List ℕ → List ℕ → List ℕ → List Message → Type 0
 RepliesDone d words before after = Replies 0 d words before after (λ reply. Unit {0})
 
+-- ---- no reply
+
+-- What passed where a demand has no answer: the first messages of an exchange, and where all of them passed, the reply is refused. So the channel
+-- failed, or memory didn't grow, or the reply is one that is refused.
+pub record StopsExchange (asked before : List ℕ) (Refused : List ℕ → Type 0) (messages : List Message) : Type 0 where
+  pub ran : List ℕ
+  pub reply : List ℕ
+  pub after : List ℕ
+  pub rest : List Message
+  pub part : exchange_messages asked before ran reply after ≡ messages ++ rest
+  pub refused : rest ≡ [] → Refused reply
+
+-- a reply that is neither a return nor an ask
+abbrev pub IsNoReply : List ℕ → Type 0
+IsNoReply reply = 1 < reply_kind reply
+
+-- one that has more words than there is room for, or asks for an import by more than 32 bits
+abbrev pub IsNoStep : List ℕ → Type 0
+IsNoStep reply = IsNoReply reply ⊎ ((17 < reply_count reply) ⊎ ((reply_kind reply ≡ 1) × (2 ^ 32 ≤ reply_number reply)))
+
+-- one that is no return, or has words, or an address of more than 32 bits
+abbrev pub IsNoBlock : List ℕ → Type 0
+IsNoBlock reply = (0 < reply_kind reply) ⊎ ((0 < reply_count reply) ⊎ (2 ^ 32 ≤ reply_number reply))
+
+abbrev pub IsNotDone : List ℕ → Type 0
+IsNotDone reply = 0 < reply_kind reply
+
+abbrev pub AnyReply : List ℕ → Type 0
+AnyReply reply = Unit {0}
+
 -- ---- an answer of the guest
 
 -- an exposed log has messages more, of which this is so
 abbrev pub PassesMessages : Option (List Message) → Option (List Message) → (List Message → Type 0) → Type 0
 PassesMessages log log2 P = (messages : List Message) × AddsMessages log log2 messages × P messages
 
--- whichever
-abbrev pub AnyMessages : List Message → Type 0
-AnyMessages messages = Unit {0}
+-- What passed before a fault. For want of memory any reply may be left.
+abbrev pub Stops : Option (List Message) → Option (List Message) → List ℕ → List ℕ → (List ℕ → Type 0) → GuestFault → Type 0
+Stops log log2 asked before Refused fault.Trap = PassesMessages log log2 (StopsExchange asked before Refused)
+Stops log log2 asked before Refused fault.OutOfMemory = PassesMessages log log2 (StopsExchange asked before AnyReply)
 
--- What passed by the answer. A trap may come at any time: the channel failed, or the reply was one, or none.
-abbrev pub OnReply : {T : Type 0} → Option (List Message) → Option (List Message) → (T → List Message → Type 0) → Result T GuestFault → Type 0
-OnReply log log2 P (Ok x) = PassesMessages log log2 (P x)
-OnReply log log2 P (Err e) = PassesMessages log log2 AnyMessages
+-- what passed by the answer to a demand of these bytes, over this memory
+abbrev pub OnReply : {T : Type 0} → Option (List Message) → Option (List Message) → List ℕ → List ℕ → (List ℕ → Type 0) → (T → List Message → Type 0) → Result T GuestFault → Type 0
+OnReply log log2 asked before Refused P (Ok x) = PassesMessages log log2 (P x)
+OnReply log log2 asked before Refused P (Err e) = Stops log log2 asked before Refused e
+
+-- of a start or a resume, of a `realloc`, and of what returns nothing
+abbrev pub OnStep : Option (List Message) → Option (List Message) → Demand → List ℕ → List ℕ → List ℕ → Result Step GuestFault → Type 0
+OnStep log log2 d words before after r = OnReply log log2 (demand_bytes d (length before) words) before IsNoStep (RepliesStep d words before after) r
+
+abbrev pub OnBlock : Option (List Message) → Option (List Message) → Demand → List ℕ → List ℕ → Result ℕ GuestFault → Type 0
+OnBlock log log2 d before after r = OnReply log log2 (demand_bytes d (length before) []) before IsNoBlock (RepliesBlock d before after) r
+
+abbrev pub OnDone : Option (List Message) → Option (List Message) → Demand → List ℕ → List ℕ → List ℕ → Result (Unit {0}) GuestFault → Type 0
+OnDone log log2 d words before after r = OnReply log log2 (demand_bytes d (length before) words) before IsNotDone (λ x. RepliesDone d words before after) r
 
 -- ---- events and messages
 
@@ -86,13 +131,13 @@ OnReply log log2 P (Err e) = PassesMessages log log2 AnyMessages
 abbrev pub TellsStep : Demand → List ℕ → List ℕ → List Event → List Message → Type 0
 TellsStep d words before (event.Return results after ∷ []) messages = RepliesStep d words before after (step.Return results) messages
 TellsStep d words before (event.Ask index asked after ∷ []) messages = RepliesStep d words before after (step.Import index asked) messages
-TellsStep d words before (event.Trap asked len ∷ []) messages = Unit {0}
+TellsStep d words before (event.Trap asked len ∷ []) messages = StopsExchange (demand_bytes d (length before) words) before IsNoStep messages
 TellsStep d words before _ messages = ⊥
 
 -- what it ended itself
 abbrev pub TellsEnd : Demand → List ℕ → List Event → List Message → Type 0
 TellsEnd d words [] messages = (before after : List ℕ) × RepliesDone d words before after messages
-TellsEnd d words (event.Trap asked len ∷ []) messages = Unit {0}
+TellsEnd d words (event.Trap asked len ∷ []) messages = (before : List ℕ) × (length before ≡ len) × StopsExchange (demand_bytes d (length before) words) before IsNotDone messages
 TellsEnd d words _ messages = ⊥
 
 -- The messages of one call of a guest are those of its events: the demand is what the guest was asked, and the reply what it did.
@@ -102,7 +147,8 @@ TellsEvents (event.Resume words before ∷ rest) messages = TellsStep demand.Res
 TellsEvents (event.Realloc old old_size align new_size answer ∷ []) messages = (before after : List ℕ) × RepliesBlock (demand.Realloc old old_size align new_size) before after answer messages
 TellsEvents (event.Post func words ∷ rest) messages = TellsEnd (demand.PostReturn func) words rest messages
 TellsEvents (event.Dtor func rep ∷ rest) messages = TellsEnd (demand.Dtor func rep) [] rest messages
-TellsEvents (event.Trap asked len ∷ []) messages = Unit {0}
+TellsEvents (event.Trap (Some (old, old_size, align, new_size)) len ∷ []) messages =
+    (before : List ℕ) × (length before ≡ len) × StopsExchange (demand_bytes (demand.Realloc old old_size align new_size) (length before) []) before IsNoBlock messages
 TellsEvents _ messages = ⊥
 
 -- one call of a guest: its events, and the messages that passed

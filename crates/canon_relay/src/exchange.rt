@@ -1,9 +1,9 @@
 //! One exchange with an engine: a demand is told, memory is lent, and the reply is heard.
 
-ghost use Rattle.std.specs.Prelude.{◌≡◌, ◌≤◌, ◌++◌, ◌∷◌, [], IfOk, IfSome, IsNone, OnErr, OnOk, length, replicate};
+ghost use Rattle.std.specs.Prelude.{◌≡◌, ◌≤◌, ◌<◌, ◌++◌, ◌∷◌, [], IfErr, IfOk, IfNone, IfSome, OnErr, OnOk, length, replicate};
 ghost use Rattle.canon_relay.specs.Channel.{AddsMessages, heard, lent, told};
 ghost use Rattle.canon_relay.specs.Ends.{end_kind};
-ghost use Rattle.canon_relay.specs.Relay.{AnyMessages, IsAsGivenBack, PassesMessages, Replied, lent_again};
+ghost use Rattle.canon_relay.specs.Relay.{IsAsGivenBack, IsNoReply, PassesMessages, Replied, Stops, StopsExchange, adds_none, lent_again};
 ghost use Rattle.canon_relay.specs.Wire.{reply_kind};
 
 use crate::Channel;
@@ -27,7 +27,7 @@ pub(crate) fn exchange<C: Channel>(
     ensures longer { length memory.old.bytes ≤ length memory.new.bytes }
     ensures width { memory.new.wide ≡ memory.old.wide }
     ensures replied { IfOk result (λ r. PassesMessages (C.log channel.old) (C.log channel.new) (Replied (end_kind r.0) asked.now memory.old.bytes memory.new.bytes r.1)) }
-    ensures passed { OnErr result (PassesMessages (C.log channel.old) (C.log channel.new) AnyMessages) }
+    ensures stops { IfErr result (Stops (C.log channel.old) (C.log channel.new) asked.now memory.old.bytes IsNoReply) }
 {
     let Some(reply) = pass(channel, asked, memory) else {
         return Err(GuestFault::Trap);
@@ -46,7 +46,7 @@ fn pass<C: Channel>(channel: &mut C, asked: &[u8], memory: &mut Memory) -> Optio
     ensures length { length memory.new.bytes ≡ length memory.old.bytes }
     ensures width { memory.new.wide ≡ memory.old.wide }
     ensures replied { IfSome result (λ reply. AddsMessages (C.log channel.old) (C.log channel.new) (told asked.now ∷ lent memory.old.bytes memory.new.bytes ∷ heard reply ∷ []) × (length reply ≡ 168)) }
-    ensures passed { IsNone result → PassesMessages (C.log channel.old) (C.log channel.new) AnyMessages }
+    ensures stops { IfNone result (PassesMessages (C.log channel.old) (C.log channel.new) (StopsExchange asked.now memory.old.bytes (λ reply. ⊥))) }
 {
     let mut reply = [0u8; REPLY_BYTES];
     if !channel.tell(asked) {
@@ -66,7 +66,8 @@ fn lengthen<C: Channel>(channel: &mut C, memory: &mut Memory, by: u64) -> Result
     ensures longer { length memory.old.bytes ≤ length memory.new.bytes }
     ensures width { memory.new.wide ≡ memory.old.wide }
     ensures lent { OnOk result (AddsMessages (C.log channel.old) (C.log channel.new) (lent_again by memory.old.bytes memory.new.bytes) × IsAsGivenBack by memory.old.bytes memory.new.bytes) }
-    ensures passed { OnErr result (PassesMessages (C.log channel.old) (C.log channel.new) AnyMessages) }
+    ensures none { OnErr result (AddsMessages (C.log channel.old) (C.log channel.new) []) }
+    ensures some { OnErr result (0 < by) }
 {
     if by == 0 {
         return Ok(());
@@ -95,7 +96,8 @@ fn grow(memory: &mut Memory, by: u64) -> Result<(), GuestFault>
 /// How the engine ended, unless it trapped.
 fn end_of(reply: &[u8]) -> Result<End, GuestFault>
     requires { length reply.now ≡ 168 }
-    ensures { IfOk result (λ end. reply_kind reply.now ≡ end_kind end) }
+    ensures ok { IfOk result (λ end. reply_kind reply.now ≡ end_kind end) }
+    ensures trap { IfErr result (λ fault. fault ≡ GuestFault.Trap → IsNoReply reply.now) }
 {
     match kind_of(reply) {
         0 => Ok(End::Return),

@@ -1,9 +1,9 @@
 //! The guest behind a channel. It may lie in all that it answers.
 
-ghost use Rattle.std.specs.Prelude.{◌≡◌, ◌≤◌, ◌<◌, ◌^◌, [], IfOk, OnErr, length};
+ghost use Rattle.std.specs.Prelude.{◌≡◌, ◌≤◌, ◌<◌, ◌^◌, [], IfErr, IfOk, OnErr, length};
 ghost use Rattle.std.proofs.Common.{refl};
-ghost use Rattle.canon_relay.specs.Ends.{IsStepOf, end_kind};
-ghost use Rattle.canon_relay.specs.Relay.{AnyMessages, OnReply, PassesMessages, RelayMoves, Relaying, Replied, RepliesBlock, RepliesDone, RepliesStep, says_both, says_nothing};
+ghost use Rattle.canon_relay.specs.Ends.{BlockRefused, IsStepOf, StepRefused, end_kind};
+ghost use Rattle.canon_relay.specs.Relay.{IsNoReply, OnBlock, OnDone, OnStep, PassesMessages, RelayMoves, Relaying, Replied, Stops, adds_none, says_both, says_nothing};
 ghost use Rattle.canon_relay.specs.Wire.{demand_bytes, reply_count, reply_number, reply_words};
 
 use crate::counts::Counts;
@@ -85,7 +85,7 @@ impl<C: Channel> Relay<C> {
         ensures longer { length memory.old.bytes ≤ length memory.new.bytes }
         ensures width { memory.new.wide ≡ memory.old.wide }
         ensures counts { self.new.counts ≡ self.old.counts }
-        ensures relays { OnReply (C.log self.old.channel) (C.log self.new.channel) (λ x. RepliesDone Demand.Instantiate [] memory.old.bytes memory.new.bytes) result }
+        ensures relays { OnDone (C.log self.old.channel) (C.log self.new.channel) Demand.Instantiate [] memory.old.bytes memory.new.bytes result }
     {
         self.finish(memory, Demand::Instantiate, &[])
     }
@@ -101,7 +101,7 @@ impl<C: Channel> Relay<C> {
         ensures width { memory.new.wide ≡ memory.old.wide }
         ensures counts { self.new.counts ≡ self.old.counts }
         ensures replied { IfOk result (λ r. PassesMessages (C.log self.old.channel) (C.log self.new.channel) (Replied (end_kind r.0) (demand_bytes demand (length memory.old.bytes) words.now) memory.old.bytes memory.new.bytes r.1)) }
-        ensures passed { OnErr result (PassesMessages (C.log self.old.channel) (C.log self.new.channel) AnyMessages) }
+        ensures stops { IfErr result (Stops (C.log self.old.channel) (C.log self.new.channel) (demand_bytes demand (length memory.old.bytes) words.now) memory.old.bytes IsNoReply) }
     {
         let Ok(asked) = bytes_of(self.alloc, demand, memory.len(), words) else {
             return Err(GuestFault::OutOfMemory);
@@ -119,7 +119,7 @@ impl<C: Channel> Relay<C> {
         ensures longer { length memory.old.bytes ≤ length memory.new.bytes }
         ensures width { memory.new.wide ≡ memory.old.wide }
         ensures counts { self.new.counts ≡ self.old.counts }
-        ensures relays { OnReply (C.log self.old.channel) (C.log self.new.channel) (RepliesStep demand words.now memory.old.bytes memory.new.bytes) result }
+        ensures relays { OnStep (C.log self.old.channel) (C.log self.new.channel) demand words.now memory.old.bytes memory.new.bytes result }
     {
         let (end, reply) = self.ask(memory, demand, words)?;
         step_of(self.alloc, end, &reply)
@@ -135,7 +135,7 @@ impl<C: Channel> Relay<C> {
         ensures longer { length memory.old.bytes ≤ length memory.new.bytes }
         ensures width { memory.new.wide ≡ memory.old.wide }
         ensures counts { self.new.counts ≡ self.old.counts }
-        ensures relays { OnReply (C.log self.old.channel) (C.log self.new.channel) (λ x. RepliesDone demand words.now memory.old.bytes memory.new.bytes) result }
+        ensures relays { OnDone (C.log self.old.channel) (C.log self.new.channel) demand words.now memory.old.bytes memory.new.bytes result }
     {
         let (end, _reply) = self.ask(memory, demand, words)?;
         match end {
@@ -150,7 +150,7 @@ impl<C: Channel> Relay<C> {
         ensures width { memory.new.wide ≡ memory.old.wide }
         ensures counts { self.new.counts ≡ self.old.counts }
         ensures narrow { IfOk result (λ at. at < 2 ^ 32) }
-        ensures relays { OnReply (C.log self.old.channel) (C.log self.new.channel) (RepliesBlock demand memory.old.bytes memory.new.bytes) result }
+        ensures relays { OnBlock (C.log self.old.channel) (C.log self.new.channel) demand memory.old.bytes memory.new.bytes result }
     {
         let (end, reply) = self.ask(memory, demand, &[])?;
         block_of(end, &reply)
@@ -160,7 +160,8 @@ impl<C: Channel> Relay<C> {
 /// What a reply to a start or a resume says that the guest did.
 fn step_of(alloc: Global, end: End, reply: &[u8]) -> Result<Step, GuestFault>
     requires { length reply.now ≡ 168 }
-    ensures { IfOk result (IsStepOf end reply.now) }
+    ensures ok { IfOk result (IsStepOf end reply.now) }
+    ensures trap { IfErr result (λ fault. fault ≡ GuestFault.Trap → StepRefused end reply.now) }
 {
     let words = words_in(alloc, reply)?;
     match end {
@@ -171,7 +172,8 @@ fn step_of(alloc: Global, end: End, reply: &[u8]) -> Result<Step, GuestFault>
 
 /// An ask of the import of this number.
 fn import_of(index: u64, words: Words) -> Result<Step, GuestFault>
-    ensures { IfOk result (λ step. step ≡ Step.Import index words) }
+    ensures ok { IfOk result (λ step. step ≡ Step.Import index words) }
+    ensures trap { OnErr result (2 ^ 32 ≤ index) }
 {
     if index > 0xffff_ffff {
         return Err(GuestFault::Trap);
@@ -185,7 +187,8 @@ fn import_of(index: u64, words: Words) -> Result<Step, GuestFault>
 /// The address of the block that a reply to a realloc gives.
 fn block_of(end: End, reply: &[u8]) -> Result<u64, GuestFault>
     requires { length reply.now ≡ 168 }
-    ensures { IfOk result (λ at. (end ≡ End.Return) × (reply_number reply.now ≡ at) × (reply_count reply.now ≡ 0) × (at < 2 ^ 32)) }
+    ensures ok { IfOk result (λ at. (end ≡ End.Return) × (reply_number reply.now ≡ at) × (reply_count reply.now ≡ 0) × (at < 2 ^ 32)) }
+    ensures trap { IfErr result (λ _. BlockRefused end reply.now) }
 {
     let at = number_of(reply);
     if end != End::Return || count_of(reply) != 0 || at > 0xffff_ffff {
@@ -197,7 +200,8 @@ fn block_of(end: End, reply: &[u8]) -> Result<u64, GuestFault>
 /// The words of a reply, which traps where it says that it has more than there is room for.
 fn words_in(alloc: Global, reply: &[u8]) -> Result<Words, GuestFault>
     requires { length reply.now ≡ 168 }
-    ensures { IfOk result (λ words. (words ≡ reply_words reply.now) × (reply_count reply.now ≤ 17)) }
+    ensures ok { IfOk result (λ words. (words ≡ reply_words reply.now) × (reply_count reply.now ≤ 17)) }
+    ensures trap { IfErr result (λ fault. fault ≡ GuestFault.Trap → 17 < reply_count reply.now) }
 {
     if count_of(reply) > MAX_WORDS {
         return Err(GuestFault::Trap);
@@ -213,7 +217,7 @@ impl<C: Channel> Guest for Relay<C> {
     ghost use Rattle.canon_memory.specs.Guest.{Goes, HasCause, OnAnswer, Reallocates, guest_in, moment};
     ghost use Rattle.canon_memory.specs.Journal.{dtor_events, post_events, realloc_events};
     ghost use Rattle.canon_memory.specs.Realloc.{call};
-    ghost use Rattle.canon_relay.specs.Relay.{OnReply, RelayMoves, RepliesBlock, RepliesDone, relay_seen, says_both, says_nothing};
+    ghost use Rattle.canon_relay.specs.Relay.{OnBlock, OnDone, RelayMoves, relay_seen, says_both, says_nothing};
 
     ghost seen = { λ g. relay_seen g };
 
@@ -260,7 +264,7 @@ impl<C: Channel> Guest for Relay<C> {
         ensures width { memory.new.wide ≡ memory.old.wide }
         ensures does { Reallocates (moment (relay_seen self.old) memory.old.bytes) (moment (relay_seen self.new) memory.new.bytes) (call old old_size align new_size) result }
         ensures moves { OnAnswer result (RelayMoves C.log (guest_in self.old memory.old) (realloc_events (call old old_size align new_size) memory.old.bytes result) (guest_in self.new memory.new)) }
-        ensures relays { OnReply (C.log self.old.channel) (C.log self.new.channel) (RepliesBlock (Demand.Realloc old old_size align new_size) memory.old.bytes memory.new.bytes) result }
+        ensures relays { OnBlock (C.log self.old.channel) (C.log self.new.channel) (Demand.Realloc old old_size align new_size) memory.old.bytes memory.new.bytes result }
     {
         if self.counts.blocks == u64::MAX {
             return Err(self.count(GuestFault::Trap));
@@ -291,7 +295,7 @@ impl<C: Channel> Guest for Relay<C> {
         ensures moves { OnAnswer result (RelayMoves C.log (guest_in self.old memory.old) (post_events func words.now memory.old.bytes result) (guest_in self.new memory.new)) }
         ensures leaves { OnOk result (Unit {0}) }
         ensures cause { HasCause (relay_seen self.old) (relay_seen self.new) result }
-        ensures relays { OnReply (C.log self.old.channel) (C.log self.new.channel) (λ x. RepliesDone (Demand.PostReturn func) words.now memory.old.bytes memory.new.bytes) result }
+        ensures relays { OnDone (C.log self.old.channel) (C.log self.new.channel) (Demand.PostReturn func) words.now memory.old.bytes memory.new.bytes result }
     {
         match self.finish(memory, Demand::PostReturn { func }, words) {
             Ok(()) => Ok(()),
@@ -305,7 +309,7 @@ impl<C: Channel> Guest for Relay<C> {
         ensures moves { OnAnswer result (RelayMoves C.log (guest_in self.old memory.old) (dtor_events func rep memory.old.bytes result) (guest_in self.new memory.new)) }
         ensures leaves { OnOk result (Unit {0}) }
         ensures cause { HasCause (relay_seen self.old) (relay_seen self.new) result }
-        ensures relays { OnReply (C.log self.old.channel) (C.log self.new.channel) (λ x. RepliesDone (Demand.Dtor func rep) [] memory.old.bytes memory.new.bytes) result }
+        ensures relays { OnDone (C.log self.old.channel) (C.log self.new.channel) (Demand.Dtor func rep) [] memory.old.bytes memory.new.bytes result }
     {
         match self.finish(memory, Demand::Dtor { func, rep }, &[]) {
             Ok(()) => Ok(()),

@@ -1,4 +1,5 @@
 use Rattle.std.proofs.Common.{Err, Ok}
+use Rattle.canon_relay.proofs.Exchanges.{stops_same}
 use Rattle.canon_relay.proofs.Moves.{resume_converses}
 use Rattle.canon_relay.proofs.relay.RelayGuest.resume.Goals as goal
 
@@ -6,4 +7,4 @@ pub returns-in-Ok-clause-moves : goal.returns-in-Ok-clause-moves
 returns-in-Ok-clause-moves g c = resume_converses _ _ c.args.words.now c.args.memory.now.bytes c.run.new.memory.bytes (Ok c.in-Ok.step) c.in-Ok.ensures.relays
 
 pub returns-in-Err-clause-moves : goal.returns-in-Err-clause-moves
-returns-in-Err-clause-moves g c = rw c.count.ensures.channel (resume_converses _ _ c.args.words.now c.args.memory.now.bytes c.run.new.memory.bytes (Err c.count.result) c.in-Err.ensures.relays)
+returns-in-Err-clause-moves g c = rw c.count.ensures.channel (resume_converses _ _ c.args.words.now c.args.memory.now.bytes c.run.new.memory.bytes (Err c.count.result) (stops_same _ _ _ _ _ _ _ c.count.ensures.same c.in-Err.ensures.relays))
