@@ -31,6 +31,7 @@ use Rattle.canon_model.specs.Tree.{Tree, Trees, parts}
 use Rattle.canon_types.specs.Instance.{Instance}
 use Rattle.canon_types.specs.Table.{shape_of}
 use Rattle.canon_types.specs.declared.types.InterfaceType.{InterfaceType}
+use Rattle.canon_context.specs.declared.fault.At.{At as Place}
 
 remaining : (e : Fault) → LiftBlames (λ k x. ⊥) ⊥ e → Remains e
 remaining fault.OutOfMemory h = inl refl

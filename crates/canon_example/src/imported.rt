@@ -8,10 +8,11 @@ ghost use Rattle.canon_context.specs.Host.{Keeps};
 ghost use Rattle.canon_host.specs.Asked.{HasRoomFor};
 ghost use Rattle.canon_host.specs.Forms.{MayGiveValues};
 ghost use Rattle.canon_host.specs.HostSide.{gives_unlogged};
-ghost use Rattle.canon_host.specs.Imports.{CountsOnce, ServesImport};
-ghost use Rattle.canon_example.specs.Imported.{ServedBy};
+ghost use Rattle.canon_host.specs.Imports.{CountsOnce, ServedBy, ServesImport};
 
-use canon_host::{DynamicHostFn, HostCx, HostError, HostFunc, HostStop, HostView, Imports};
+use canon_host::{
+    DynamicHostFn, HostCx, HostError, HostFunc, HostStop, HostView, Imports, serve_values_import,
+};
 use canon_memory::{Guest, ValRaw};
 use canon_types::TypeFunc;
 use canon_value::Val;
@@ -38,8 +39,7 @@ impl<
     ghost use Rattle.canon_host.specs.Asked.{HasRoomFor};
     ghost use Rattle.canon_host.specs.Forms.{MayGiveValues};
     ghost use Rattle.canon_host.specs.HostSide.{gives_unlogged};
-    ghost use Rattle.canon_host.specs.Imports.{CountsOnce, ServesImport};
-    ghost use Rattle.canon_example.specs.Imported.{ServedBy};
+    ghost use Rattle.canon_host.specs.Imports.{CountsOnce, ServedBy, ServesImport};
 
     type Plan = F;
 
@@ -77,43 +77,8 @@ impl<
         ensures same { cx.exit.0.now ≡ record cx.entry.core.now { state = cx.exit.0.now.state; guest = cx.exit.0.now.guest; memory = cx.exit.0.now.memory; ledger = cx.exit.0.now.ledger } }
     {
         // A component with several functions has a field for each, and `n` says which import is asked for.
-        serve_by(&self.func, &mut self.refusals, alloc, n, cx, storage)
+        serve_values_import(&self.func, &mut self.refusals, alloc, n, cx, storage)
     }
 
     ghost lawful = { λ plan n. tt {0} };
-}
-
-/// Serves one ask by a function, and counts a refusal.
-fn serve_by<
-    T,
-    G: Guest,
-    F: Fn(&mut HostView<'_, '_, T>, &TypeFunc, &[Val], &mut [Val]) -> Result<(), HostStop>,
->(
-    func: &HostFunc<DynamicHostFn<F>>,
-    refusals: &mut u64,
-    alloc: Global,
-    n: u32,
-    cx: HostCx<'_, T, G>,
-    storage: &mut [ValRaw],
-) -> Result<(), HostError>
-    requires ready { Keeps F.Fn func.now }
-    requires func { HasFunc (component_types cx.core.now) cx.ty }
-    requires options { HasOptions cx.core.now.component cx.options }
-    requires room { HasRoomFor (component_types cx.core.now) cx.ty storage.old }
-    ensures served { IfSome (slice_get (component_types cx.entry.core.now).funcs cx.entry.ty) (λ t. ServedBy F.Fn func.now G.seen G.moves (record { ty = cx.entry.ty; func = t; options = cx.entry.options }) cx.entry.core.now storage.old result cx.exit.0.now storage.new) }
-    ensures counts { CountsOnce result refusals.old refusals.new }
-    ensures refusals { refusals.old ≤ refusals.new }
-    ensures serves { IfSome (slice_get (component_types cx.entry.core.now).funcs cx.entry.ty)
-        (λ t. ServesImport (gives_unlogged (MayGiveValues F.Fn func.now)) None n G.seen G.moves (record { ty = cx.entry.ty; func = t; options = cx.entry.options }) None refusals.old
-        refusals.new cx.entry.core.now storage.old result cx.exit.0.now storage.new) }
-    ensures same { cx.exit.0.now ≡ record cx.entry.core.now { state = cx.exit.0.now.state; guest = cx.exit.0.now.guest; memory = cx.exit.0.now.memory; ledger = cx.exit.0.now.ledger } }
-{
-    match func.entrypoint(alloc, cx, storage) {
-        Ok(_values) => Ok(()),
-        Err(HostError::Refused) => {
-            *refusals = refusals.saturating_add(1);
-            Err(HostError::Refused)
-        }
-        Err(HostError::Fault(fault)) => Err(HostError::Fault(fault)),
-    }
 }

@@ -17,7 +17,7 @@ use Rattle.canon_model.specs.Memory.{cap}
 use Rattle.canon_val.specs.declared.val.Val.{Val}
 use Rattle.canon_host.specs.Forms.{HostFuncForm, InView, IsOfOthers, IsOfThese, MayGiveValues, RustTypes, TypedAnswering, ValuesAnswering, in_view, outcome, over_types, over_values}
 use Rattle.canon_host.specs.HostSide.{Answering, LoggedEntry, Giving, entry, gives_values}
-use Rattle.canon_host.specs.Serves.{AskValues, Serves, ServesBy, Steps, Values, value_steps}
+use Rattle.canon_host.specs.Serves.{AskValues, CallsBlank, Serves, ServesBy, Steps, Values, value_steps}
 use Rattle.canon_host.specs.ServesTyped.{LiftsTyped, ServesTyped, typed_steps_by}
 use Rattle.canon_host.specs.declared.asked.Asked.{Asked}
 use Rattle.canon_host.specs.declared.error.HostError.{HostError}
@@ -99,6 +99,12 @@ abbrev pub ServedByTyped : {F T G P R : Type 0} → StaticClosure F (HostView T)
 ServedByTyped g f types seen moves asked before words result after words2 =
     ((result ≡ Err error.Refused) × IsOfOthers types before.component.types asked.func × (after ≡ before) × (words2 ≡ words))
     ⊎ (IsOfThese types before.component.types asked.func × ServesTyped g f types.reading types.walks types.gives seen moves asked before words result after words2)
+
+-- This closure over values serves the ask. Which values crossed isn't kept.
+abbrev pub ServedBy : {F T G : Type 0} → Closure F (HostView T) Val (Result (Unit {0}) HostStop) → F → (G → Seen) → (GuestIn G → List Event → GuestIn G → Type 0) → Asked
+    → Parts T G → List ℕ → Result (Unit {0}) HostError → Parts T G → List ℕ → Type 0
+ServedBy g f seen moves asked before words (Ok x) after words2 = (told : AskValues) × Serves (CallsBlank g f asked) seen moves asked before words (Ok told) after words2
+ServedBy g f seen moves asked before words (Err e) after words2 = Serves (CallsBlank g f asked) seen moves asked before words (Err e) after words2
 
 -- how a function over Rust types is served, that may answer so
 module _ {T G P R : Type 0} (types : RustTypes P R) (May : TypedAnswering T P R) (log : Option (List LoggedEntry)) (seen : G → Seen) (moves : GuestIn G → List Event → GuestIn G → Type 0) (asked : Asked) where

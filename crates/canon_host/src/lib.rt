@@ -12,6 +12,7 @@ mod serve;
 mod serve_typed;
 mod static_host;
 mod typed_import;
+mod values_import;
 
 pub use asked::{
     Asked, HostCx, asked_of, asked_words, first_words, param_count, storage_for, storage_words,
@@ -25,3 +26,4 @@ pub use laws::{typed_answers_are_represented, typed_ask_is_steps, typed_asks_are
 pub use no_imports::NoImports;
 pub use static_host::StaticHostFn;
 pub use typed_import::serve_typed_import;
+pub use values_import::serve_values_import;

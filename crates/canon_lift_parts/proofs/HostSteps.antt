@@ -24,6 +24,7 @@ use Rattle.canon_reading.specs.Reading.{Lifts, NamedBy, Setting}
 use Rattle.canon_reading.specs.Spots.{HasRoom, Spot, handle_in}
 use Rattle.canon_reading.specs.Ways.{rep_parts}
 use Rattle.canon_lift_parts.proofs.HandleSteps.{blames_none, is_refusal, same_leaf, stops_so, stopped_steps, lift_took_steps}
+use Rattle.canon_handles.specs.declared.handle.TypedResourceIndex.TheVariants.{Component as ComponentIndex}
 
 did_of : (d : Done ℕ) (r : Result ℕ ResourceFault) (l n : LedgerState) → DidSurely d r n → Did d r l n
 did_of d (Ok a) l n h = (sym h.0, h.1)

@@ -204,7 +204,7 @@ fn give_own<R: HeldResource, D, G>(
 
 /// Lends a handle; a borrow gives its representation. One that is in no table is put into the host's first. Refuses
 /// `ResourceTypeMismatch` and `HostConsumed`, in this order.
-#[tactic(auto, using(crate::proofs::Lending::placed))]
+#[tactic(auto, using(crate::proofs::Lending::lower_placed))]
 fn lend<R: HeldResource, D, G>(
     resource: &mut R,
     core: &mut Core<D, G>,

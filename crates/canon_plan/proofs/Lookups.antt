@@ -7,7 +7,7 @@ use Rattle.canon_types.specs.declared.types.InterfaceType.{InterfaceType}
 use Rattle.canon_types.specs.declared.types.RecordField.{RecordField}
 use Rattle.canon_types.specs.Depth.{deepest, depth, product_members}
 use Rattle.canon_types.specs.Keeps.{field_members, fields_type}
-use Rattle.canon_types.specs.Table.{Knows, TypeTable, members_of, parts, shape_of, tuple_members, IsDefined, TupleType, FixedListType, ListType}
+use Rattle.canon_types.specs.Table.{Knows, TypeTable, members_of, parts, shape_of, tuple_members, IsDefined, TupleType, FixedListType, ListType, types_of as tuple_types_of}
 use Rattle.canon_model.proofs.Layouts.{members_end-le}
 use Rattle.canon_model.specs.Layout.{align, align_to, begins, ends, members_end, size}
 use Rattle.canon_abi.specs.Abi.{HasLayout}

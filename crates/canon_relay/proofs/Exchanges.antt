@@ -5,7 +5,7 @@ use Rattle.canon_memory.specs.declared.error.GuestFault.{GuestFault}
 use Rattle.canon_memory.specs.declared.error.GuestFault.TheVariants as fault
 use Rattle.canon_relay.specs.Channel.{AddsMessages, Message, heard, lent, told}
 use Rattle.canon_relay.specs.Ends.{BlockRefused, StepRefused, end_kind}
-use Rattle.canon_relay.specs.Relay.{AnyReply, IsAsGivenBack, IsNoBlock, IsNoReply, IsNoStep, IsNotDone, PassesMessages, Replied, Stops, StopsExchange, adds_both, adds_none, exchange_messages, lent_again}
+use Rattle.canon_relay.specs.Relay.{AnyReply, IsAsGivenBack, IsNoBlockReply, IsNoReply, IsNoStepReply, IsNoDoneReply, PassesMessages, Replied, StopsDemand, StopsExchange, adds_both, adds_none, exchange_messages, lent_again}
 use Rattle.canon_relay.specs.Wire.{reply_grown, reply_kind}
 use Rattle.canon_relay.specs.declared.exchange.End.{End}
 
@@ -68,62 +68,62 @@ module _ (a c : Option (List Message)) (asked before : List ℕ) where
   weaker : (R R2 : List ℕ → Type 0) → ((reply : List ℕ) → R reply → R2 reply) → PassesMessages a c (StopsExchange asked before R) → PassesMessages a c (StopsExchange asked before R2)
   weaker R R2 f (messages, added, s) = (messages, added, record { ran = s.ran; reply = s.reply; after = s.after; rest = s.rest; part = s.part; refused = λ e. f s.reply (s.refused e) })
 
-  pub stops_weaker : (R R2 : List ℕ → Type 0) (e : GuestFault) → ((reply : List ℕ) → R reply → R2 reply) → Stops a c asked before R e → Stops a c asked before R2 e
+  pub stops_weaker : (R R2 : List ℕ → Type 0) (e : GuestFault) → ((reply : List ℕ) → R reply → R2 reply) → StopsDemand a c asked before R e → StopsDemand a c asked before R2 e
   stops_weaker R R2 fault.Trap f s = weaker R R2 f s
   stops_weaker R R2 fault.OutOfMemory f s = s
 
-  pub stops_same : (R : List ℕ → Type 0) (e e2 : GuestFault) → e2 ≡ e → Stops a c asked before R e → Stops a c asked before R e2
-  stops_same R e e2 same s = subst (Stops a c asked before R) (sym same) s
+  pub stops_same : (R : List ℕ → Type 0) (e e2 : GuestFault) → e2 ≡ e → StopsDemand a c asked before R e → StopsDemand a c asked before R e2
+  stops_same R e e2 same s = subst (StopsDemand a c asked before R) (sym same) s
 
   -- not all messages of the exchange passed
-  pub stops_cut : (R : List ℕ → Type 0) (e : GuestFault) → PassesMessages a c (StopsExchange asked before (λ reply. ⊥)) → Stops a c asked before R e
+  pub stops_cut : (R : List ℕ → Type 0) (e : GuestFault) → PassesMessages a c (StopsExchange asked before (λ reply. ⊥)) → StopsDemand a c asked before R e
   stops_cut R fault.Trap s = weaker (λ reply. ⊥) R (λ reply h. absurd h) s
   stops_cut R fault.OutOfMemory s = weaker (λ reply. ⊥) AnyReply (λ reply h. absurd h) s
 
   -- all did, and the reply is refused
-  pub stops_whole : (R : List ℕ → Type 0) (e : GuestFault) (ran reply after : List ℕ) → AddsMessages a c (exchange_messages asked before ran reply after) → (e ≡ fault.Trap → R reply) → Stops a c asked before R e
+  pub stops_whole : (R : List ℕ → Type 0) (e : GuestFault) (ran reply after : List ℕ) → AddsMessages a c (exchange_messages asked before ran reply after) → (e ≡ fault.Trap → R reply) → StopsDemand a c asked before R e
   stops_whole R fault.Trap ran reply after added h =
       (exchange_messages asked before ran reply after, added, record { ran = ran; reply = reply; after = after; rest = []; part = sym (append-nil _); refused = λ e. h refl })
   stops_whole R fault.OutOfMemory ran reply after added h =
       (exchange_messages asked before ran reply after, added, record { ran = ran; reply = reply; after = after; rest = []; part = sym (append-nil _); refused = λ e. tt })
 
-  pub stops_replied : (R : List ℕ → Type 0) (e : GuestFault) (kind : ℕ) (after reply : List ℕ) → PassesMessages a c (Replied kind asked before after reply) → (e ≡ fault.Trap → R reply) → Stops a c asked before R e
+  pub stops_replied : (R : List ℕ → Type 0) (e : GuestFault) (kind : ℕ) (after reply : List ℕ) → PassesMessages a c (Replied kind asked before after reply) → (e ≡ fault.Trap → R reply) → StopsDemand a c asked before R e
   stops_replied R e kind after reply p h = stops_whole R e p.2.ran reply after (subst (AddsMessages a c) p.2.passed p.1) h
 
 -- it wasn't asked at all
-pub stops_unasked : (a : Option (List Message)) (asked before : List ℕ) (R : List ℕ → Type 0) (e : GuestFault) → Stops a a asked before R e
+pub stops_unasked : (a : Option (List Message)) (asked before : List ℕ) (R : List ℕ → Type 0) (e : GuestFault) → StopsDemand a a asked before R e
 stops_unasked a asked before R e = stops_cut a a asked before R e (untold a a asked before (adds_none a))
 
 -- memory wasn't lent again, where the reply says by how much it is to be longer
 pub stops_unlent : (a b c : Option (List Message)) (n : ℕ) (asked before ran reply : List ℕ) (R : List ℕ → Type 0) (e : GuestFault) → AddsMessages a b (told asked ∷ lent before ran ∷ heard reply ∷ []) → n ≡ reply_grown reply
-    → AddsMessages b c [] → 0 < n → Stops a c asked before R e
+    → AddsMessages b c [] → 0 < n → StopsDemand a c asked before R e
 stops_unlent a b c n asked before ran reply R e first is none some = stops_cut a c asked before R e (unlent_again a b c asked before ran reply first none (subst (λ k. 0 < k) is some))
 
 -- the reply was refused, after memory was lent again where it had to be
 pub stops_refused : (a b c : Option (List Message)) (n : ℕ) (asked before ran reply after : List ℕ) (R : List ℕ → Type 0) (e : GuestFault) → AddsMessages a b (told asked ∷ lent before ran ∷ heard reply ∷ []) → n ≡ reply_grown reply
-    → AddsMessages b c (lent_again n ran after) → (e ≡ fault.Trap → R reply) → Stops a c asked before R e
+    → AddsMessages b c (lent_again n ran after) → (e ≡ fault.Trap → R reply) → StopsDemand a c asked before R e
 stops_refused a b c n asked before ran reply after R e first is second h =
     let grown = subst (λ k. AddsMessages b c (lent_again k ran after)) is second in
     stops_whole a c asked before R e ran reply after (adds_both a b c (told asked ∷ lent before ran ∷ heard reply ∷ []) (lent_again (reply_grown reply) ran after) first grown) h
 
 -- ---- replies that are refused
 
-pub no_step : (ended : End) (reply : List ℕ) → reply_kind reply ≡ end_kind ended → StepRefused ended reply → IsNoStep reply
+pub no_step : (ended : End) (reply : List ℕ) → reply_kind reply ≡ end_kind ended → StepRefused ended reply → IsNoStepReply reply
 no_step ended reply k (inl many) = inr (inl many)
 no_step ended reply k (inr (ask, far)) = inr (inr (k ∙ ap end_kind ask, far))
 
-pub no_block : (ended : End) (reply : List ℕ) → reply_kind reply ≡ end_kind ended → BlockRefused ended reply → IsNoBlock reply
+pub no_block : (ended : End) (reply : List ℕ) → reply_kind reply ≡ end_kind ended → BlockRefused ended reply → IsNoBlockReply reply
 no_block ended reply k (inl ask) = let one : reply_kind reply ≡ 1 = k ∙ ap end_kind ask in inl (omega (arith, one))
 no_block ended reply k (inr h) = inr h
 
-pub not_done : (reply : List ℕ) → reply_kind reply ≡ 1 → IsNotDone reply
+pub not_done : (reply : List ℕ) → reply_kind reply ≡ 1 → IsNoDoneReply reply
 not_done reply k = omega (arith, k)
 
-pub none_done : (reply : List ℕ) → IsNoReply reply → IsNotDone reply
+pub none_done : (reply : List ℕ) → IsNoReply reply → IsNoDoneReply reply
 none_done reply h = omega (arith, h)
 
-pub none_block : (reply : List ℕ) → IsNoReply reply → IsNoBlock reply
+pub none_block : (reply : List ℕ) → IsNoReply reply → IsNoBlockReply reply
 none_block reply h = inl (omega (arith, h))
 
-pub none_step : (reply : List ℕ) → IsNoReply reply → IsNoStep reply
+pub none_step : (reply : List ℕ) → IsNoReply reply → IsNoStepReply reply
 none_step reply h = inl h

@@ -86,15 +86,15 @@ abbrev pub IsNoReply : List ℕ → Type 0
 IsNoReply reply = 1 < reply_kind reply
 
 -- one that has more words than there is room for, or asks for an import by more than 32 bits
-abbrev pub IsNoStep : List ℕ → Type 0
-IsNoStep reply = IsNoReply reply ⊎ ((17 < reply_count reply) ⊎ ((reply_kind reply ≡ 1) × (2 ^ 32 ≤ reply_number reply)))
+abbrev pub IsNoStepReply : List ℕ → Type 0
+IsNoStepReply reply = IsNoReply reply ⊎ ((17 < reply_count reply) ⊎ ((reply_kind reply ≡ 1) × (2 ^ 32 ≤ reply_number reply)))
 
 -- one that is no return, or has words, or an address of more than 32 bits
-abbrev pub IsNoBlock : List ℕ → Type 0
-IsNoBlock reply = (0 < reply_kind reply) ⊎ ((0 < reply_count reply) ⊎ (2 ^ 32 ≤ reply_number reply))
+abbrev pub IsNoBlockReply : List ℕ → Type 0
+IsNoBlockReply reply = (0 < reply_kind reply) ⊎ ((0 < reply_count reply) ⊎ (2 ^ 32 ≤ reply_number reply))
 
-abbrev pub IsNotDone : List ℕ → Type 0
-IsNotDone reply = 0 < reply_kind reply
+abbrev pub IsNoDoneReply : List ℕ → Type 0
+IsNoDoneReply reply = 0 < reply_kind reply
 
 abbrev pub AnyReply : List ℕ → Type 0
 AnyReply reply = Unit {0}
@@ -106,24 +106,24 @@ abbrev pub PassesMessages : Option (List Message) → Option (List Message) → 
 PassesMessages log log2 P = (messages : List Message) × AddsMessages log log2 messages × P messages
 
 -- What passed before a fault. For want of memory any reply may be left.
-abbrev pub Stops : Option (List Message) → Option (List Message) → List ℕ → List ℕ → (List ℕ → Type 0) → GuestFault → Type 0
-Stops log log2 asked before Refused fault.Trap = PassesMessages log log2 (StopsExchange asked before Refused)
-Stops log log2 asked before Refused fault.OutOfMemory = PassesMessages log log2 (StopsExchange asked before AnyReply)
+abbrev pub StopsDemand : Option (List Message) → Option (List Message) → List ℕ → List ℕ → (List ℕ → Type 0) → GuestFault → Type 0
+StopsDemand log log2 asked before Refused fault.Trap = PassesMessages log log2 (StopsExchange asked before Refused)
+StopsDemand log log2 asked before Refused fault.OutOfMemory = PassesMessages log log2 (StopsExchange asked before AnyReply)
 
 -- what passed by the answer to a demand of these bytes, over this memory
 abbrev pub OnReply : {T : Type 0} → Option (List Message) → Option (List Message) → List ℕ → List ℕ → (List ℕ → Type 0) → (T → List Message → Type 0) → Result T GuestFault → Type 0
 OnReply log log2 asked before Refused P (Ok x) = PassesMessages log log2 (P x)
-OnReply log log2 asked before Refused P (Err e) = Stops log log2 asked before Refused e
+OnReply log log2 asked before Refused P (Err e) = StopsDemand log log2 asked before Refused e
 
 -- of a start or a resume, of a `realloc`, and of what returns nothing
 abbrev pub OnStep : Option (List Message) → Option (List Message) → Demand → List ℕ → List ℕ → List ℕ → Result Step GuestFault → Type 0
-OnStep log log2 d words before after r = OnReply log log2 (demand_bytes d (length before) words) before IsNoStep (RepliesStep d words before after) r
+OnStep log log2 d words before after r = OnReply log log2 (demand_bytes d (length before) words) before IsNoStepReply (RepliesStep d words before after) r
 
 abbrev pub OnBlock : Option (List Message) → Option (List Message) → Demand → List ℕ → List ℕ → Result ℕ GuestFault → Type 0
-OnBlock log log2 d before after r = OnReply log log2 (demand_bytes d (length before) []) before IsNoBlock (RepliesBlock d before after) r
+OnBlock log log2 d before after r = OnReply log log2 (demand_bytes d (length before) []) before IsNoBlockReply (RepliesBlock d before after) r
 
 abbrev pub OnDone : Option (List Message) → Option (List Message) → Demand → List ℕ → List ℕ → List ℕ → Result (Unit {0}) GuestFault → Type 0
-OnDone log log2 d words before after r = OnReply log log2 (demand_bytes d (length before) words) before IsNotDone (λ x. RepliesDone d words before after) r
+OnDone log log2 d words before after r = OnReply log log2 (demand_bytes d (length before) words) before IsNoDoneReply (λ x. RepliesDone d words before after) r
 
 -- ---- events and messages
 
@@ -131,13 +131,13 @@ OnDone log log2 d words before after r = OnReply log log2 (demand_bytes d (lengt
 abbrev pub TellsStep : Demand → List ℕ → List ℕ → List Event → List Message → Type 0
 TellsStep d words before (event.Return results after ∷ []) messages = RepliesStep d words before after (step.Return results) messages
 TellsStep d words before (event.Ask index asked after ∷ []) messages = RepliesStep d words before after (step.Import index asked) messages
-TellsStep d words before (event.Trap asked len ∷ []) messages = StopsExchange (demand_bytes d (length before) words) before IsNoStep messages
+TellsStep d words before (event.Trap asked len ∷ []) messages = StopsExchange (demand_bytes d (length before) words) before IsNoStepReply messages
 TellsStep d words before _ messages = ⊥
 
 -- what it ended itself
 abbrev pub TellsEnd : Demand → List ℕ → List Event → List Message → Type 0
 TellsEnd d words [] messages = (before after : List ℕ) × RepliesDone d words before after messages
-TellsEnd d words (event.Trap asked len ∷ []) messages = (before : List ℕ) × (length before ≡ len) × StopsExchange (demand_bytes d (length before) words) before IsNotDone messages
+TellsEnd d words (event.Trap asked len ∷ []) messages = (before : List ℕ) × (length before ≡ len) × StopsExchange (demand_bytes d (length before) words) before IsNoDoneReply messages
 TellsEnd d words _ messages = ⊥
 
 -- The messages of one call of a guest are those of its events: the demand is what the guest was asked, and the reply what it did.
@@ -148,7 +148,7 @@ TellsEvents (event.Realloc old old_size align new_size answer ∷ []) messages =
 TellsEvents (event.Post func words ∷ rest) messages = TellsEnd (demand.PostReturn func) words rest messages
 TellsEvents (event.Dtor func rep ∷ rest) messages = TellsEnd (demand.Dtor func rep) [] rest messages
 TellsEvents (event.Trap (Some (old, old_size, align, new_size)) len ∷ []) messages =
-    (before : List ℕ) × (length before ≡ len) × StopsExchange (demand_bytes (demand.Realloc old old_size align new_size) (length before) []) before IsNoBlock messages
+    (before : List ℕ) × (length before ≡ len) × StopsExchange (demand_bytes (demand.Realloc old old_size align new_size) (length before) []) before IsNoBlockReply messages
 TellsEvents _ messages = ⊥
 
 -- one call of a guest: its events, and the messages that passed

@@ -3,7 +3,7 @@
 ghost use Rattle.std.specs.Prelude.{◌≡◌, ◌≤◌, ◌<◌, ◌++◌, ◌∷◌, [], IfErr, IfOk, IfNone, IfSome, OnErr, OnOk, length, replicate};
 ghost use Rattle.canon_relay.specs.Channel.{AddsMessages, heard, lent, told};
 ghost use Rattle.canon_relay.specs.Ends.{end_kind};
-ghost use Rattle.canon_relay.specs.Relay.{IsAsGivenBack, IsNoReply, PassesMessages, Replied, Stops, StopsExchange, adds_none, lent_again};
+ghost use Rattle.canon_relay.specs.Relay.{IsAsGivenBack, IsNoReply, PassesMessages, Replied, StopsDemand, StopsExchange, adds_none, lent_again};
 ghost use Rattle.canon_relay.specs.Wire.{reply_kind};
 
 use crate::Channel;
@@ -27,7 +27,7 @@ pub(crate) fn exchange<C: Channel>(
     ensures longer { length memory.old.bytes ≤ length memory.new.bytes }
     ensures width { memory.new.wide ≡ memory.old.wide }
     ensures replied { IfOk result (λ r. PassesMessages (C.log channel.old) (C.log channel.new) (Replied (end_kind r.0) asked.now memory.old.bytes memory.new.bytes r.1)) }
-    ensures stops { IfErr result (Stops (C.log channel.old) (C.log channel.new) asked.now memory.old.bytes IsNoReply) }
+    ensures stops { IfErr result (StopsDemand (C.log channel.old) (C.log channel.new) asked.now memory.old.bytes IsNoReply) }
 {
     let Some(reply) = pass(channel, asked, memory) else {
         return Err(GuestFault::Trap);

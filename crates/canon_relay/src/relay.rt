@@ -3,7 +3,7 @@
 ghost use Rattle.std.specs.Prelude.{◌≡◌, ◌≤◌, ◌<◌, ◌^◌, [], IfErr, IfOk, OnErr, length};
 ghost use Rattle.std.proofs.Common.{refl};
 ghost use Rattle.canon_relay.specs.Ends.{BlockRefused, IsStepOf, StepRefused, end_kind};
-ghost use Rattle.canon_relay.specs.Relay.{IsNoReply, OnBlock, OnDone, OnStep, PassesMessages, RelayMoves, Relaying, Replied, Stops, adds_none, says_both, says_nothing};
+ghost use Rattle.canon_relay.specs.Relay.{IsNoReply, OnBlock, OnDone, OnStep, PassesMessages, RelayMoves, Relaying, Replied, StopsDemand, adds_none, says_both, says_nothing};
 ghost use Rattle.canon_relay.specs.Wire.{demand_bytes, reply_count, reply_number, reply_words};
 
 use crate::counts::Counts;
@@ -101,7 +101,7 @@ impl<C: Channel> Relay<C> {
         ensures width { memory.new.wide ≡ memory.old.wide }
         ensures counts { self.new.counts ≡ self.old.counts }
         ensures replied { IfOk result (λ r. PassesMessages (C.log self.old.channel) (C.log self.new.channel) (Replied (end_kind r.0) (demand_bytes demand (length memory.old.bytes) words.now) memory.old.bytes memory.new.bytes r.1)) }
-        ensures stops { IfErr result (Stops (C.log self.old.channel) (C.log self.new.channel) (demand_bytes demand (length memory.old.bytes) words.now) memory.old.bytes IsNoReply) }
+        ensures stops { IfErr result (StopsDemand (C.log self.old.channel) (C.log self.new.channel) (demand_bytes demand (length memory.old.bytes) words.now) memory.old.bytes IsNoReply) }
     {
         let Ok(asked) = bytes_of(self.alloc, demand, memory.len(), words) else {
             return Err(GuestFault::OutOfMemory);

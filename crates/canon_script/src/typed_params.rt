@@ -218,7 +218,7 @@ fn two_in(value: &Val) -> Option<(&Val, &Val)>
     }
 }
 
-#[tactic(auto, using(crate::proofs::TypedForm::two_of_none))]
+#[tactic(auto, using(crate::proofs::TypedForm::script_two_of_none))]
 /// The values of a row of two.
 fn two_of(values: &[Val]) -> Option<(&Val, &Val)>
     ensures { option_map (λ p. (literal_view p.0.now, literal_view p.1.now)) result ≡ spec.two_in (literals_of (literals_view values.now)) }

@@ -44,6 +44,7 @@ returns-then-not-ends_inside-clause-lifts g c =
     let found : c.index-src-0.result ≡ slice_index c.args.src.now 0 = c.index-src-0.is ∙ get_or_default c.args.src.now 0 _ 0 (omega (arith, c.requires.word)) in
     let there : c.from-at.result ≡ low (slice_index c.args.src.now 0) = c.from-at.ensures ∙ (c.get_u32.ensures ∙ ap low found) in
     let by_size : c.tuple.result.now.abi.size32 ≡ size false (product of_places ms) = tuple_size _ _ _ c.tuple.ensures.abi is in
-    let outside : length c.memory.result.now < c.from-at.result + 1 * c.tuple.result.now.abi.size32 = leb-false _ _ (sym c.ends_inside.ensures ∙ c.if-not-ends_inside.true) in
+    let outside : length c.memory.result.now < c.from-at.result + 1 * c.tuple.result.now.abi.size32 =
+    leb-false _ _ (sym c.ends_inside.ensures ∙ c.if-not-ends_inside.true) in
     area_outside g.V.Lift.reading (setting_in core c.args.cx.now.options) c.args.src.now (product of_places ms) core.ledger c.args.cx.now.fuel c.from-at.result there
     (subst (λ (n : ℕ). c.from-at.result % n ≡ 0) (c.from.ensures ∙ tuple_align _ _ _ c.tuple.ensures.abi is) c.if-at-from-ne0.false) (λ inside. omega (arith, inside, by_size, outside, ap length c.memory.ensures))

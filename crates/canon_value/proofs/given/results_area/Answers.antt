@@ -44,7 +44,8 @@ returns-then-not-ends_inside-clause-err g c =
     let bytes = c.args.core.now.memory in
     let aligned = subst (λ (p : ℕ). p % members_align false (tuple_members (component_types c.args.core.now) c.args.ty) ≡ 0) h.is (subst (λ (n : ℕ). c.from-at.result % n ≡ 0) h.by_align c.if-at-from-ne0.false) in
     let count : length c.as_slice.result.now ≡ length bytes = ap length (c.as_slice.ensures ∙ c.memory.ensures.memory) in
-    let outside : length c.as_slice.result.now < c.from-at.result + 1 * c.tuple-tuple.result.now.abi.size32 = leb-false _ _ (sym c.ends_inside.ensures ∙ c.if-not-ends_inside.true) in
+    let outside : length c.as_slice.result.now < c.from-at.result + 1 * c.tuple-tuple.result.now.abi.size32 =
+    leb-false _ _ (sym c.ends_inside.ensures ∙ c.if-not-ends_inside.true) in
     inr (refl, aligned, omega (arith, outside, h.is, h.by_size, count))
 
 pub returns-clause-ok : goal.returns-clause-ok
@@ -52,5 +53,6 @@ returns-clause-ok g c =
     let h = read g (goal.at.returns-clause-ok g c).After-from in
     let bytes = c.args.core.now.memory in
     let count : length c.as_slice.result.now ≡ length bytes = ap length (c.as_slice.ensures ∙ c.memory.ensures.memory) in
-    let ends : c.from-at.result + 1 * c.tuple-tuple.result.now.abi.size32 ≤ length c.as_slice.result.now = leb-true _ _ (sym c.ends_inside.ensures ∙ c.if-not-ends_inside.false) in
+    let ends : c.from-at.result + 1 * c.tuple-tuple.result.now.abi.size32 ≤ length c.as_slice.result.now =
+    leb-true _ _ (sym c.ends_inside.ensures ∙ c.if-not-ends_inside.false) in
     (h.is, subst (λ (n : ℕ). c.from-at.result % n ≡ 0) h.by_align c.if-at-from-ne0.false, omega (arith, ends, h.by_size, count))

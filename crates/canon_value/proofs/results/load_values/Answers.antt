@@ -42,7 +42,8 @@ returns-then-not-ends_inside-clause-err c = λ most far.
     let is : c.from-at.result ≡ low (slice_index c.args.src.now 0) = c.from-at.ensures ∙ (c.get_u32.ensures ∙ ap low found) in
     let by_align : c.from.result ≡ members_align false ms = c.from.ensures ∙ tuple_align _ _ _ c.tuple-tuple.ensures.abi form in
     let by_size : c.tuple-tuple.result.now.abi.size32 ≡ size false (product of_places ms) = tuple_size _ _ _ c.tuple-tuple.ensures.abi form in
-    let outside : length c.args.source.now.memory.now < c.from-at.result + 1 * c.tuple-tuple.result.now.abi.size32 = leb-false _ _ (sym c.ends_inside.ensures ∙ c.if-not-ends_inside.true) in
+    let outside : length c.args.source.now.memory.now < c.from-at.result + 1 * c.tuple-tuple.result.now.abi.size32 =
+    leb-false _ _ (sym c.ends_inside.ensures ∙ c.if-not-ends_inside.true) in
     let aligned : low (slice_index c.args.src.now 0) % members_align false ms ≡ 0 =
     subst (λ (p : ℕ). p % members_align false ms ≡ 0) is (subst (λ (n : ℕ). c.from-at.result % n ≡ 0) by_align c.if-at-from-ne0.false) in
     inr (far, inl (inr (record { kind_is = refl; at_is = refl }, aligned, λ inside. omega (arith, inside, is, by_size, outside))))
@@ -54,7 +55,8 @@ load_members-requires-clause-aligned c =
 pub load_members-requires-clause-inside : goal.load_members-requires-clause-inside
 load_members-requires-clause-inside c =
     let by_size = tuple_size _ _ _ c.tuple-tuple.ensures.abi (shape (goal.at.load_members-requires-clause-inside c).After-tuple-tuple) in
-    let ends : c.from-at.result + 1 * c.tuple-tuple.result.now.abi.size32 ≤ length c.args.source.now.memory.now = leb-true _ _ (sym c.ends_inside.ensures ∙ c.if-not-ends_inside.false) in
+    let ends : c.from-at.result + 1 * c.tuple-tuple.result.now.abi.size32 ≤ length c.args.source.now.memory.now =
+    leb-true _ _ (sym c.ends_inside.ensures ∙ c.if-not-ends_inside.false) in
     omega (arith, by_size, ends, members_end-le-size false of_places (tuple_members c.args.source.now.types.now c.args.ty))
 
 -- where the members were loaded from
@@ -66,7 +68,8 @@ record AreValuesThere (c : After-load_members) : Type 0 where
 there : (c : After-load_members) → shape_of c.args.source.now.types.now (ty.Tuple c.args.ty) ≡ product of_places (tuple_members c.args.source.now.types.now c.args.ty) → AreValuesThere c
 there c form =
     let found : c.index-src-0.result ≡ slice_index c.args.src.now 0 = c.index-src-0.is ∙ get_or_default c.args.src.now 0 _ 0 (omega (arith, c.requires.word)) in
-    let ends : c.from-at.result + 1 * c.tuple-tuple.result.now.abi.size32 ≤ length c.args.source.now.memory.now = leb-true _ _ (sym c.ends_inside.ensures ∙ c.if-not-ends_inside.false) in
+    let ends : c.from-at.result + 1 * c.tuple-tuple.result.now.abi.size32 ≤ length c.args.source.now.memory.now =
+    leb-true _ _ (sym c.ends_inside.ensures ∙ c.if-not-ends_inside.false) in
     record {
       is = c.from-at.ensures ∙ (c.get_u32.ensures ∙ ap low found);
       aligned = subst (λ (n : ℕ). c.from-at.result % n ≡ 0) (c.from.ensures ∙ tuple_align _ _ _ c.tuple-tuple.ensures.abi form) c.if-at-from-ne0.false;

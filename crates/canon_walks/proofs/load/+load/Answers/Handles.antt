@@ -83,7 +83,8 @@ load_items-load_parts-requires t0 c =
     let w = row_weighs enc bytes t e c.requires.known n p in
     let shapes = c.slots_of-members.ensures.shapes t in
     let abi = c.element_abi-abi.ensures in
-    let inside : p + n * size false (element_shape s) ≤ length bytes = subst (λ k. p + n * k ≤ length bytes) (abi.size false) (leb-true _ _ (sym c.ends_inside.ensures ∙ c.if-not-ends_inside.false)) in
+    let inside : p + n * size false (element_shape s) ≤ length bytes =
+    subst (λ k. p + n * k ≤ length bytes) (abi.size false) (leb-true _ _ (sym c.ends_inside.ensures ∙ c.if-not-ends_inside.false)) in
     let aligned : p % align false (element_shape s) ≡ 0 = subst (λ k. p % k ≡ 0) (c.from.ensures ∙ (abi.align false)) c.if-pointer-from-ne0.false in
     let these = shapes_of t c.slots_of-members.result in
     let r = row t e c.requires.known n in
@@ -110,7 +111,8 @@ load_items-returns-clause-ok t0 c =
     let w = row_weighs enc bytes t e c.requires.known n p in
     let shapes = c.slots_of-members.ensures.shapes t in
     let abi = c.element_abi-abi.ensures in
-    let inside : p + n * size false (element_shape s) ≤ length bytes = subst (λ k. p + n * k ≤ length bytes) (abi.size false) (leb-true _ _ (sym c.ends_inside.ensures ∙ c.if-not-ends_inside.false)) in
+    let inside : p + n * size false (element_shape s) ≤ length bytes =
+    subst (λ k. p + n * k ≤ length bytes) (abi.size false) (leb-true _ _ (sym c.ends_inside.ensures ∙ c.if-not-ends_inside.false)) in
     let aligned : p % align false (element_shape s) ≡ 0 = subst (λ k. p % k ≡ 0) (c.from.ensures ∙ (abi.align false)) c.if-pointer-from-ne0.false in
     let charged : c.args.fuel.now ≡ c.charge_each.new.fuel + n * element_cost s = c.in_ok-charge_each.ensures ∙ ap (λ k. c.charge_each.new.fuel + n * k) (c.element_cost.ensures t c.requires.known) in
     let mid = c.charge_each.new.fuel in
@@ -131,7 +133,8 @@ load_items-returns-clause-err t0 c =
     let w = row_weighs enc bytes t e c.requires.known n p in
     let shapes = c.slots_of-members.ensures.shapes t in
     let abi = c.element_abi-abi.ensures in
-    let inside : p + n * size false (element_shape s) ≤ length bytes = subst (λ k. p + n * k ≤ length bytes) (abi.size false) (leb-true _ _ (sym c.ends_inside.ensures ∙ c.if-not-ends_inside.false)) in
+    let inside : p + n * size false (element_shape s) ≤ length bytes =
+    subst (λ k. p + n * k ≤ length bytes) (abi.size false) (leb-true _ _ (sym c.ends_inside.ensures ∙ c.if-not-ends_inside.false)) in
     let aligned : p % align false (element_shape s) ≡ 0 = subst (λ k. p % k ≡ 0) (c.from.ensures ∙ (abi.align false)) c.if-pointer-from-ne0.false in
     let charged : c.args.fuel.now ≡ c.charge_each.new.fuel + n * element_cost s = c.in_ok-charge_each.ensures ∙ ap (λ k. c.charge_each.new.fuel + n * k) (c.element_cost.ensures t c.requires.known) in
     let mid = c.charge_each.new.fuel in
@@ -161,7 +164,8 @@ load_items-returns-clause-handles t0 c =
     let p = c.args.pointer in
     let shapes = c.slots_of-members.ensures.shapes t in
     let abi = c.element_abi-abi.ensures in
-    let inside : p + n * size false (element_shape s) ≤ length bytes = subst (λ k. p + n * k ≤ length bytes) (abi.size false) (leb-true _ _ (sym c.ends_inside.ensures ∙ c.if-not-ends_inside.false)) in
+    let inside : p + n * size false (element_shape s) ≤ length bytes =
+    subst (λ k. p + n * k ≤ length bytes) (abi.size false) (leb-true _ _ (sym c.ends_inside.ensures ∙ c.if-not-ends_inside.false)) in
     let aligned : p % align false (element_shape s) ≡ 0 = subst (λ k. p % k ≡ 0) (c.from.ensures ∙ (abi.align false)) c.if-pointer-from-ne0.false in
     subst (λ (ls : List Leaf). LiftsHandles (λ (vs : Vec Val Global). all_resources vs.items) c.args.source.now.instance.now c.args.ledger.now c.load_parts.new.ledger ls c.load_parts.result)
     (ap (λ (x : Members). members_reach_leaves (narrow bytes) x 0 p) shapes ∙ sym (items_leaves bytes t e c.requires.known n p aligned inside)) c.load_parts.ensures.handles

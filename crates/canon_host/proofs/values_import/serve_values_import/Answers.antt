@@ -5,7 +5,7 @@ use Rattle.canon_host.proofs.Importing.{faults, found_import, refuses}
 use Rattle.canon_host.specs.Forms.{MayGiveValues}
 use Rattle.canon_host.specs.HostSide.{gives_unlogged}
 use Rattle.canon_host.proofs.Unlogged.{unlogged}
-use Rattle.canon_example.proofs.imported.serve_by.Goals as goal
+use Rattle.canon_host.proofs.values_import.serve_values_import.Goals as goal
 
 pub returns-in-Ok-clause-serves : goal.returns-in-Ok-clause-serves
 returns-in-Ok-clause-serves g c =
