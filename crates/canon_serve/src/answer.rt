@@ -120,6 +120,7 @@ fn tell_both<P: Channel>(caller: &mut P, head: &[u8], bytes: &[u8]) -> bool
 fn tell_bytes<P: Channel>(caller: &mut P, bytes: &[u8]) -> bool
     ensures told { IsTrue result → AddsMessages (P.log caller.old) (P.log caller.new) (told_bytes bytes.now) }
     ensures cut { IsFalse result → AddsMessages (P.log caller.old) (P.log caller.new) [] }
+    ensures some { IsFalse result → told_bytes bytes.now ≡ told bytes.now ∷ [] }
 {
     if bytes.is_empty() {
         return true;
