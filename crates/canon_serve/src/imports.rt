@@ -4,12 +4,15 @@ ghost use Rattle.std.specs.Prelude.{◌≡◌, ◌≤◌, IfSome, None, slice_ge
 ghost use Rattle.canon_types.specs.Table.{HasFunc};
 ghost use Rattle.canon_context.specs.Component.{HasOptions};
 ghost use Rattle.canon_context.specs.Core.{component_types};
+ghost use Rattle.canon_context.specs.Host.{Keeps};
 ghost use Rattle.canon_host.specs.Asked.{HasRoomFor};
 ghost use Rattle.canon_host.specs.Imports.{ServesImport};
 ghost use Rattle.canon_serve.specs.Imports.{AnyAnswer};
 
 use crate::asking::ask;
-use canon_host::{HostCx, HostError, HostFunc, HostStop, HostView, Imports, serve_values_import};
+use canon_host::{
+    DynamicHostFn, HostCx, HostError, HostFunc, HostStop, HostView, Imports, serve_values_import,
+};
 use canon_memory::{Guest, ValRaw};
 use canon_relay::Channel;
 use canon_types::TypeFunc;
@@ -29,6 +32,32 @@ impl ChannelImports {
     {
         ChannelImports { refusals: 0 }
     }
+}
+
+/// Serves one ask by a function, of whose answers nothing is said.
+fn serve_any<
+    T,
+    G: Guest,
+    F: Fn(&mut HostView<'_, '_, T>, &TypeFunc, &[Val], &mut [Val]) -> Result<(), HostStop>,
+>(
+    func: &HostFunc<DynamicHostFn<F>>,
+    refusals: &mut u64,
+    alloc: Global,
+    n: u32,
+    cx: HostCx<'_, T, G>,
+    storage: &mut [ValRaw],
+) -> Result<(), HostError>
+    requires ready { Keeps F.Fn func.now }
+    requires func { HasFunc (component_types cx.core.now) cx.ty }
+    requires options { HasOptions cx.core.now.component cx.options }
+    requires room { HasRoomFor (component_types cx.core.now) cx.ty storage.old }
+    ensures refusals { refusals.old ≤ refusals.new }
+    ensures serves { IfSome (slice_get (component_types cx.entry.core.now).funcs cx.entry.ty)
+        (λ t. ServesImport AnyAnswer None n G.seen G.moves (record { ty = cx.entry.ty; func = t; options = cx.entry.options }) None refusals.old
+        refusals.new cx.entry.core.now storage.old result cx.exit.0.now storage.new) }
+    ensures same { cx.exit.0.now ≡ record cx.entry.core.now { state = cx.exit.0.now.state; guest = cx.exit.0.now.guest; memory = cx.exit.0.now.memory; ledger = cx.exit.0.now.ledger } }
+{
+    serve_values_import(func, refusals, alloc, n, cx, storage)
 }
 
 impl<H: Channel, G: Guest> Imports<H, G> for ChannelImports {
@@ -84,7 +113,7 @@ impl<H: Channel, G: Guest> Imports<H, G> for ChannelImports {
                 ask(alloc, view.state, n, types, ty, params, slots)
             },
         );
-        serve_values_import(&func, &mut self.refusals, alloc, n, cx, storage)
+        serve_any(&func, &mut self.refusals, alloc, n, cx, storage)
     }
 
     ghost lawful = { λ plan n. tt {0} };
