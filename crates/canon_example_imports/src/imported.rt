@@ -70,7 +70,7 @@ impl<
         requires options { HasOptions cx.core.now.component cx.options }
         requires room { HasRoomFor (component_types cx.core.now) cx.ty storage.old }
         ensures still_ready { Keeps C.Fn self.new.clock × Keeps D.Fn self.new.diary }
-        ensures plan { (self.new.clock, self.new.diary) ≡ (self.old.clock, self.old.diary) }
+        ensures plan { (self.new.clock ≡ self.old.clock) × (self.new.diary ≡ self.old.diary) }
         ensures by_clock { n ≡ 0 → IfSome (slice_get (component_types cx.entry.core.now).funcs cx.entry.ty) (λ t. ServedBy C.Fn self.old.clock G.seen G.moves (record { ty = cx.entry.ty; func = t; options = cx.entry.options }) cx.entry.core.now storage.old result cx.exit.0.now storage.new) }
         ensures by_diary { n ≢ 0 → IfSome (slice_get (component_types cx.entry.core.now).funcs cx.entry.ty) (λ t. ServedBy D.Fn self.old.diary G.seen G.moves (record { ty = cx.entry.ty; func = t; options = cx.entry.options }) cx.entry.core.now storage.old result cx.exit.0.now storage.new) }
         ensures counts { CountsOnce result self.old.refusals self.new.refusals }
