@@ -46,5 +46,5 @@ module _ (a c : Option (List Message)) (d : Demand) (before after reply : List �
   pub block_answered : (ended : End) (r : Result ℕ GuestFault) → PassesMessages a c (Replied (end_kind ended) (demand_bytes d (length before) []) before after reply)
       → IfOk r (λ at. (ended ≡ end.Return) × (reply_number reply ≡ at) × (reply_count reply ≡ 0) × (at < 2 ^ 32)) → IfErr r (λ e. BlockRefused ended reply) → OnBlock a c d before after r
   block_answered ended (Ok at) p (returned, number, none, narrow) err =
-      (p.0, p.1, (reply, subst (λ k. Replied k (demand_bytes d (length before) []) before after reply p.0) (ap end_kind returned) p.2, (number, none)))
+      (p.0, p.1, (reply, subst (λ k. Replied k (demand_bytes d (length before) []) before after reply p.0) (ap end_kind returned) p.2, (number, none, narrow)))
   block_answered ended (Err e) p ok err = stops_replied a c (demand_bytes d (length before) []) before IsNoBlockReply e (end_kind ended) after reply p (λ trap. no_block ended reply p.2.kind_is err)

@@ -26,14 +26,14 @@ module _ (log log2 : Option (List Message)) where
       → OnAnswer r (Converses log log2 (start_events func words before after r))
   start_converses func words before after (Ok (step.Return results)) h = one _ h.0 h.1 h.2
   start_converses func words before after (Ok (step.Import index asked)) h = one _ h.0 h.1 h.2
-  start_converses func words before after (Err fault.Trap) h = one _ h.0 h.1 h.2
+  start_converses func words before after (Err fault.Trap) h = one _ h.0 h.1 (refl, h.2)
   start_converses func words before after (Err fault.OutOfMemory) h = tt
 
   pub resume_converses : (words before after : List ℕ) (r : Result Step GuestFault) → OnStep log log2 demand.Resume words before after r
       → OnAnswer r (Converses log log2 (resume_events words before after r))
   resume_converses words before after (Ok (step.Return results)) h = one _ h.0 h.1 h.2
   resume_converses words before after (Ok (step.Import index asked)) h = one _ h.0 h.1 h.2
-  resume_converses words before after (Err fault.Trap) h = one _ h.0 h.1 h.2
+  resume_converses words before after (Err fault.Trap) h = one _ h.0 h.1 (refl, h.2)
   resume_converses words before after (Err fault.OutOfMemory) h = tt
 
   pub realloc_converses : (c : Call) (before after : List ℕ) (r : Result ℕ GuestFault) → OnBlock log log2 (demand.Realloc c.old c.old_size c.align c.new_size) before after r

@@ -1,5 +1,5 @@
 -- What a guest behind a channel does, and what passes over the channel meanwhile.
-use Rattle.std.specs.Prelude.{Err, List, None, Ok, Option, Result, Some, [], false, length, replicate, suc, zero, ℕ, ◌++◌, ◌∷◌, ◌≡◌, ◌≤◌, ◌<◌, ◌^◌, ◌⊎◌}
+use Rattle.std.specs.Prelude.{Err, List, None, Ok, Option, Result, Some, [], false, length, replicate, suc, zero, ℕ, ◌++◌, ◌∷◌, ◌≡◌, ◌≢◌, ◌≤◌, ◌<◌, ◌^◌, ◌⊎◌}
 use Rattle.std.proofs.Common.{ap, refl, subst, sym, ◌∙◌}
 use Rattle.std.proofs.lemmas.List.{append-nil, append_assoc}
 use Rattle.canon_memory.specs.Guest.{GuestIn, Mark, Seen}
@@ -63,7 +63,7 @@ RepliesStep d words before after (step.Import index asked) = Replies 1 d words b
 
 -- it gave a block
 abbrev pub RepliesBlock : Demand → List ℕ → List ℕ → ℕ → List Message → Type 0
-RepliesBlock d before after at = Replies 0 d [] before after (λ reply. (reply_number reply ≡ at) × (reply_count reply ≡ 0))
+RepliesBlock d before after at = Replies 0 d [] before after (λ reply. (reply_number reply ≡ at) × (reply_count reply ≡ 0) × (at < 2 ^ 32))
 
 -- it did something that returns nothing
 abbrev pub RepliesDone : Demand → List ℕ → List ℕ → List ℕ → List Message → Type 0
@@ -71,30 +71,31 @@ RepliesDone d words before after = Replies 0 d words before after (λ reply. Uni
 
 -- ---- no reply
 
--- What passed where a demand has no answer: the first messages of an exchange, and where all of them passed, the reply is refused. So the channel
--- failed, or memory didn't grow, or the reply is one that is refused.
+-- What passed where a demand has no answer: none, some or all messages of an exchange, and if all, the reply is one that is refused.
 pub record StopsExchange (asked before : List ℕ) (Refused : List ℕ → Type 0) (messages : List Message) : Type 0 where
   pub ran : List ℕ
   pub reply : List ℕ
   pub after : List ℕ
   pub rest : List Message
   pub part : exchange_messages asked before ran reply after ≡ messages ++ rest
+  pub sized : length reply ≡ 168
   pub refused : rest ≡ [] → Refused reply
 
--- a reply that is neither a return nor an ask
+-- a reply that is no return and no ask, and doesn't say that memory ran out
 abbrev pub IsNoReply : List ℕ → Type 0
-IsNoReply reply = 1 < reply_kind reply
+IsNoReply reply = (1 < reply_kind reply) × (reply_kind reply ≢ 3)
 
 -- one that has more words than there is room for, or asks for an import by more than 32 bits
 abbrev pub IsNoStepReply : List ℕ → Type 0
 IsNoStepReply reply = IsNoReply reply ⊎ ((17 < reply_count reply) ⊎ ((reply_kind reply ≡ 1) × (2 ^ 32 ≤ reply_number reply)))
 
--- one that is no return, or has words, or an address of more than 32 bits
-abbrev pub IsNoBlockReply : List ℕ → Type 0
-IsNoBlockReply reply = (0 < reply_kind reply) ⊎ ((0 < reply_count reply) ⊎ (2 ^ 32 ≤ reply_number reply))
-
+-- one that is an ask or none
 abbrev pub IsNoDoneReply : List ℕ → Type 0
-IsNoDoneReply reply = 0 < reply_kind reply
+IsNoDoneReply reply = (reply_kind reply ≡ 1) ⊎ IsNoReply reply
+
+-- or has words, or an address of more than 32 bits
+abbrev pub IsNoBlockReply : List ℕ → Type 0
+IsNoBlockReply reply = IsNoDoneReply reply ⊎ ((0 < reply_count reply) ⊎ (2 ^ 32 ≤ reply_number reply))
 
 abbrev pub AnyReply : List ℕ → Type 0
 AnyReply reply = Unit {0}
@@ -131,13 +132,13 @@ OnDone log log2 d words before after r = OnReply log log2 (demand_bytes d (lengt
 abbrev pub TellsStep : Demand → List ℕ → List ℕ → List Event → List Message → Type 0
 TellsStep d words before (event.Return results after ∷ []) messages = RepliesStep d words before after (step.Return results) messages
 TellsStep d words before (event.Ask index asked after ∷ []) messages = RepliesStep d words before after (step.Import index asked) messages
-TellsStep d words before (event.Trap asked len ∷ []) messages = StopsExchange (demand_bytes d (length before) words) before IsNoStepReply messages
+TellsStep d words before (event.Trap None len ∷ []) messages = (length before ≡ len) × StopsExchange (demand_bytes d (length before) words) before IsNoStepReply messages
 TellsStep d words before _ messages = ⊥
 
 -- what it ended itself
 abbrev pub TellsEnd : Demand → List ℕ → List Event → List Message → Type 0
 TellsEnd d words [] messages = (before after : List ℕ) × RepliesDone d words before after messages
-TellsEnd d words (event.Trap asked len ∷ []) messages = (before : List ℕ) × (length before ≡ len) × StopsExchange (demand_bytes d (length before) words) before IsNoDoneReply messages
+TellsEnd d words (event.Trap None len ∷ []) messages = (before : List ℕ) × (length before ≡ len) × StopsExchange (demand_bytes d (length before) words) before IsNoDoneReply messages
 TellsEnd d words _ messages = ⊥
 
 -- The messages of one call of a guest are those of its events: the demand is what the guest was asked, and the reply what it did.

@@ -215,9 +215,9 @@ fn words_in(alloc: Global, reply: &[u8]) -> Result<Words, GuestFault>
 impl<C: Channel> Guest for Relay<C> {
     ghost use Rattle.std.specs.Prelude.{◌≡◌, ◌<◌, ◌^◌, [], IfOk, IsFalse, OnOk};
     ghost use Rattle.canon_memory.specs.Guest.{Goes, HasCause, OnAnswer, Reallocates, guest_in, moment};
-    ghost use Rattle.canon_memory.specs.Journal.{dtor_events, post_events, realloc_events};
+    ghost use Rattle.canon_memory.specs.Journal.{dtor_events, post_events, realloc_events, resume_events, start_events};
     ghost use Rattle.canon_memory.specs.Realloc.{call};
-    ghost use Rattle.canon_relay.specs.Relay.{OnBlock, OnDone, RelayMoves, relay_seen, says_both, says_nothing};
+    ghost use Rattle.canon_relay.specs.Relay.{OnBlock, OnDone, OnStep, RelayMoves, relay_seen, says_both, says_nothing};
 
     ghost seen = { λ g. relay_seen g };
 
@@ -234,14 +234,26 @@ impl<C: Channel> Guest for Relay<C> {
         memory: &mut Memory,
         func: u32,
         words: &[ValRaw],
-    ) -> Result<Step, GuestFault> {
+    ) -> Result<Step, GuestFault>
+        ensures width { memory.new.wide ≡ memory.old.wide }
+        ensures goes { Goes (moment (relay_seen self.old) memory.old.bytes) (moment (relay_seen self.new) memory.new.bytes) [] (start_events func words.now memory.old.bytes memory.new.bytes result) }
+        ensures moves { OnAnswer result (RelayMoves C.log (guest_in self.old memory.old) (start_events func words.now memory.old.bytes memory.new.bytes result) (guest_in self.new memory.new)) }
+        ensures cause { HasCause (relay_seen self.old) (relay_seen self.new) result }
+        ensures relays { OnStep (C.log self.old.channel) (C.log self.new.channel) (Demand.Start func) words.now memory.old.bytes memory.new.bytes result }
+    {
         match self.run(memory, Demand::Start { func }, words) {
             Ok(step) => Ok(step),
             Err(fault) => Err(self.count(fault)),
         }
     }
 
-    fn resume(&mut self, memory: &mut Memory, words: &[ValRaw]) -> Result<Step, GuestFault> {
+    fn resume(&mut self, memory: &mut Memory, words: &[ValRaw]) -> Result<Step, GuestFault>
+        ensures width { memory.new.wide ≡ memory.old.wide }
+        ensures goes { Goes (moment (relay_seen self.old) memory.old.bytes) (moment (relay_seen self.new) memory.new.bytes) [] (resume_events words.now memory.old.bytes memory.new.bytes result) }
+        ensures moves { OnAnswer result (RelayMoves C.log (guest_in self.old memory.old) (resume_events words.now memory.old.bytes memory.new.bytes result) (guest_in self.new memory.new)) }
+        ensures cause { HasCause (relay_seen self.old) (relay_seen self.new) result }
+        ensures relays { OnStep (C.log self.old.channel) (C.log self.new.channel) Demand.Resume words.now memory.old.bytes memory.new.bytes result }
+    {
         match self.run(memory, Demand::Resume, words) {
             Ok(step) => Ok(step),
             Err(fault) => Err(self.count(fault)),

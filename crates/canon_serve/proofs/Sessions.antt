@@ -142,7 +142,7 @@ pub unbegun : (a b c : Option (List Message)) (all : Bool) (json : Vec ℕ Globa
 unbegun a b c all json no_store.NoComponent result heard none not ended = no_component a b c (command.Begin all json) (answer.Senseless senseless.NoComponent) heard (none refl) senseless.NoComponent refl result ended
 unbegun a b c all json no_store.NotInstantiated result heard none not ended = not_instantiated a b c (command.Begin all json) (answer.Refused (error.Fault fault.GuestTrap)) heard (not refl) refl result ended
 unbegun a b c all json no_store.OutOfMemory result heard none not ended =
-    subst (λ r. PassesMessages a c (EndsAtOnce r)) (sym ended.0) (heard.0, subst (λ l. AddsMessages a l heard.0) (sym ended.1) heard.1, inr (command.Begin all json, heard.2))
+    subst (λ r. PassesMessages a c (EndsAtOnce r)) (sym ended.0) (heard.0, subst (λ l. AddsMessages a l heard.0) (sym ended.1) heard.1, inr (all, json, heard.2))
 
 -- ---- a session
 

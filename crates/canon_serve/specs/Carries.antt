@@ -170,4 +170,6 @@ module _ {E H : Type 0} (log : E → Option (List Message)) where
   -- what a command did for whose answer memory ran out
   abbrev pub AnswersShort : Command → EngineStore E H → EngineStore E H → Type 0
   AnswersShort (command.Call export params) store store2 = CallsShort (export_named store export) params.items store store2
-  AnswersShort asked store store2 = store2 ≡ store
+  AnswersShort command.Live store store2 = store2 ≡ store
+  AnswersShort command.Marks store store2 = store2 ≡ store
+  AnswersShort asked store store2 = ⊥

@@ -146,7 +146,7 @@ IsUnheardEnd _ = ⊥
 abbrev pub EndsAtOnce : End → List Message → Type 0
 EndsAtOnce end.Asked messages = ⊥
 EndsAtOnce end.Broken messages = HearsNone messages ⊎ IsCutFirst messages
-EndsAtOnce end.OutOfMemory messages = HearsNone messages ⊎ ((asked : Command) × HearsCommand asked messages)
+EndsAtOnce end.OutOfMemory messages = HearsNone messages ⊎ ((watches_all : Bool) × (json : Vec ℕ Global) × HearsCommand (command.Begin watches_all json) messages)
 EndsAtOnce end.NoComponent messages = IsFirstTurn (λ a. (why : Senseless) × (a ≡ answer.Senseless why)) messages
 EndsAtOnce end.NotInstantiated messages = IsFirstTurn (λ a. a ≡ answer.Refused (error.Fault fault.GuestTrap)) messages
 
