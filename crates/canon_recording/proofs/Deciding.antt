@@ -74,7 +74,7 @@ stopped c bs to error.TooLong h = absurd h
 
 -- ---- what bytes of a recording tell
 
-each_all : {J A : Type 0} (F : J → Format A) (P : A → Type 0) → ((i : J) (a : A) (xs : List ℕ) → (F i).writes a xs → P a) → (is : List J) (things : List A) (bs : List ℕ) → (for_each F is).writes things bs → All P things
+pub each_all : {J A : Type 0} (F : J → Format A) (P : A → Type 0) → ((i : J) (a : A) (xs : List ℕ) → (F i).writes a xs → P a) → (is : List J) (things : List A) (bs : List ℕ) → (for_each F is).writes things bs → All P things
 each_all F P tells [] things bs (e, h) = subst (All P) (sym e) (All-nil P)
 each_all F P tells (i ∷ is) things bs (x, e, (xs, ys, be, h, g)) = subst (All P) (sym e) (All-cons P x.0 x.1 (tells i x.0 xs h) (each_all F P tells is x.1 ys g))
 

@@ -1,6 +1,8 @@
+pub mod Answering
 pub mod Below
 pub mod BlockKinds
 pub mod Deciding
+pub mod Decoded
 pub mod Playing
 pub mod Rows
 pub mod Sound

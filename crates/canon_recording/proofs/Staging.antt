@@ -4,7 +4,8 @@ use Rattle.std.specs.Prelude.{IsTrue, slice_index_or, if◌then◌else◌, ◌�
 use Rattle.std.proofs.lemmas.Bool.{eqb-false, eqb-true}
 use lib.Pointwise.{pointwise}
 use Rattle.std.specs.Cmp.Lexicographic.{other_text, same_text}
-use Rattle.canon_lowering.specs.Lowering.{Answer, events_of}
+use Rattle.canon_lowering.specs.Lowering.{Answer, Trap, events_of}
+use Rattle.canon_memory.specs.Journal.{asked_trap}
 use Rattle.canon_model.specs.Requests.{Call}
 use Rattle.canon_memory.specs.declared.event.Event.{Event}
 use Rattle.canon_memory.specs.declared.event.Event.TheVariants as event
@@ -61,6 +62,26 @@ module _ (func : ℕ) (post : Option ℕ) where
         where
           realloc_no_start : {ws m : List ℕ} → ¬ (event.Realloc o os align ns answer ≡ event.Start func ws m)
           realloc_no_start e = cc
+
+  -- Requests for blocks before a start are none that trapped, and behind them the run goes on.
+  pub answers_run : (answers : List Answer) (trap : Option Trap) (later : List Event) → IsOneRun func post (events_of answers trap ++ later) → (trap ≡ None) × IsOneRun func post later
+  answers_run [] None later run = (refl, run)
+  answers_run [] (Some t) later run = by_first (run_first (asked_trap t.call t.len) later run)
+    where
+      by_first : (IsRealloc (asked_trap t.call t.len) × IsOneRun func post later) ⊎ ((words memory : List ℕ) × (asked_trap t.call t.len ≡ event.Start func words memory) × RunsOn post later) → (Some t ≡ None) × IsOneRun func post later
+      by_first (inl (r, rest)) = absurd r
+      by_first (inr (words, memory, is, rest)) = absurd (no_start is)
+        where
+          no_start : {ws m : List ℕ} → ¬ (asked_trap t.call t.len ≡ event.Start func ws m)
+          no_start e = cc
+  answers_run (x ∷ xs) trap later run = answers_run xs trap later (realloc_before [] x.call.old x.call.old_size x.call.align x.call.new_size x.at (events_of xs trap ++ later) run)
+
+  pub no_run : ¬ IsOneRun func post []
+  no_run (words, memory, returned, after, r) = by_reallocs r.reallocs r.is
+    where
+      by_reallocs : (reallocs : List Event) → ¬ ([] ≡ reallocs ++ event.Start func words memory ∷ events_in r.turns ++ event.Return returned after ∷ posts post returned)
+      by_reallocs [] e = cc
+      by_reallocs (x ∷ xs) e = cc
 
   start_before : (f : ℕ) (words memory : List ℕ) (events : List Event) → IsOneRun func post (event.Start f words memory ∷ events) → RunsOn post events
   start_before f words memory events h = take_first (run_first (event.Start f words memory) events h)

@@ -2,6 +2,7 @@
 use Rattle.std.specs.Prelude.{All, List, [], false, slice_get, suc, zero, length, ℕ, ⊤, ◌<◌, ◌^◌, ◌≡◌, ◌∷◌}
 use Rattle.canon_model.specs.Shape.{Members, Shape}
 use Rattle.canon_model.specs.Tree.{Tree, Trees}
+use Rattle.canon_memory.specs.declared.event.Event.{Event}
 use Rattle.canon_context.specs.Quiet.{have_block}
 use Rattle.canon_context.specs.declared.component.Component.{Component}
 use Rattle.canon_context.specs.declared.component.Import.{Import}
@@ -48,8 +49,16 @@ pub record IsOfFunction (functions : Functions) (n : ℕ) (given answered : List
   pub params : AreValuesOf (functions.params n) given
   pub results : AreValuesOf (functions.results n) answered
 
+-- the same of their values alone
+abbrev pub ArePassedValues : Functions → ℕ → List Val → List Val → Type 0
+ArePassedValues functions n given answered = AreValuesOf (functions.params n) given × AreValuesOf (functions.results n) answered
+
 abbrev pub IsServedAskOf : Functions → ServedAsk → Type 0
 IsServedAskOf imports s = IsOfFunction imports s.import s.params s.results
+
+-- there are few enough, and each is of a kind that is written, with one of so many imports
+abbrev pub HaveKnownEvents : ℕ → List Event → Type 0
+HaveKnownEvents imports events = (length events < 2 ^ 32) × All (IsWritten imports) events
 
 -- the call is one of a component with these functions
 pub record IsRecordedCallOf (exports imports : Functions) (call : RecordedCall) : Type 0 where

@@ -1,4 +1,5 @@
 pub mod Coded
+pub mod Decided
 pub mod Fits
 pub mod Laws
 pub mod Recordable

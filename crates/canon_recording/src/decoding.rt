@@ -1,14 +1,14 @@
 //! A recording read from its bytes, field by field.
 
-ghost use Rattle.std.specs.Prelude.{◌<◌, ◌≡◌, ◌≤◌, ◌++◌, ◌∷◌, [], All, IfErr, OnOk, length, true};
+ghost use Rattle.std.specs.Prelude.{◌<◌, ◌≡◌, ◌≤◌, ◌++◌, ◌∷◌, [], All, IfErr, IfOk, OnOk, length, true};
 ghost use Rattle.canon_context.specs.Component.{IsComponent};
 ghost use Rattle.canon_types.specs.Table.{HasTuple, IsOver, Knows, members_of, param_members, result_members, shape_of, tuple_members};
 ghost use Rattle.canon_plan.specs.NoHandle.{HasNoHandle, HaveNoHandle};
 ghost use Rattle.canon_recording_parts.specs.Format.{also, counted_row, exactly, in_a_row};
 ghost use Rattle.canon_recording_parts.specs.Read.{ReadsFormat, seen_as};
 ghost use Rattle.canon_recording.specs.Coded.{IsDecoded, IsOnlyDecoding, IsReadWhole, told_as};
-ghost use Rattle.canon_recording.specs.Fits.{IsRecordable};
-ghost use Rattle.canon_recording.specs.Recordings.{a_call, an_ask, done_in, exports_of, imports_of, letters, passed_in, passed_values, read_recording, recorded_call, recorded_calls, served_ask, served_asks, value, values, what_was_done};
+ghost use Rattle.canon_recording.specs.Fits.{FitsComponent, IsRecordable};
+ghost use Rattle.canon_recording.specs.Recordings.{a_call, an_ask, calls_in, done_in, exports_of, imports_of, letters, passed_in, passed_values, read_recording, recorded_call, recorded_calls, served_ask, served_asks, value, values, what_was_done};
 
 use crate::functions::{export_count, export_type, import_count, import_type};
 use crate::runs::first_no_run;
@@ -28,6 +28,7 @@ pub fn decode(alloc: Global, c: &Component, bytes: &[u8]) -> Result<Recording, R
     requires sound { IsComponent c.now }
     requires recordable { IsRecordable c.now }
     ensures is { IsDecoded c.now bytes.now result }
+    ensures fits { IfOk result (λ r. FitsComponent c.now (calls_in r)) }
     ensures only { IsOnlyDecoding c.now bytes.now result }
 {
     decode_runs(alloc, c, bytes)

@@ -57,7 +57,7 @@ made_in g h (trapped q before after) d = made_trapped q before
 
 -- ---- the call that a request opens
 
-opens : (q : GuestRequest) (g : Replaying) (len : ℕ) (mid : Replaying) (grown : ℕ) → BeginsRequest q g len mid grown → IsOpened g mid
+pub opens : (q : GuestRequest) (g : Replaying) (len : ℕ) (mid : Replaying) (grown : ℕ) → BeginsRequest q g len mid grown → IsOpened g mid
 opens (starts f ws) g len mid grown b = b.0
 opens (reallocates c) g len mid grown b = b.0
 opens (resumes ws) g len mid grown b = b.0
@@ -76,7 +76,7 @@ opening k g mid few (inr (e, past)) (inr (not, is)) = absurd (not (past, omega (
 
 -- ---- once it trapped
 
-stays_stopped : (g h : Replaying) (len last : ℕ) (calls : List RequestOutcome) → g.stop ≢ None → Chain g len calls h last → (h.stop ≡ g.stop) × (h.call ≡ g.call) × (h.at ≡ g.at) × (last ≡ len)
+pub stays_stopped : (g h : Replaying) (len last : ℕ) (calls : List RequestOutcome) → g.stop ≢ None → Chain g len calls h last → (h.stop ≡ g.stop) × (h.call ≡ g.call) × (h.at ≡ g.at) × (last ≡ len)
 stays_stopped g h len last [] some (e, f) = (ap (λ (r : Replaying). r.stop) e, ap (λ (r : Replaying). r.call) e, ap (λ (r : Replaying). r.at) e, f)
 stays_stopped g h len last (stepped q before after s ∷ calls) some (mid, b, d, rest) = absurd (some d.0)
 stays_stopped g h len last (answered c before after answer ∷ calls) some (mid, b, d, rest) = absurd (some d.0)

@@ -1,3 +1,4 @@
+pub mod Fitting
 pub mod Following
 pub mod Lawful
 pub mod Leaves

@@ -8,5 +8,5 @@ mod recorded;
 mod stop;
 
 pub use guest::ReplayGuest;
-pub use laws::{calls_pass, moves_follow};
+pub use laws::{calls_pass, moves_follow, never_unfit};
 pub use stop::Stop;

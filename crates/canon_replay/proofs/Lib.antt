@@ -1,0 +1,9 @@
+pub mod Asks
+pub mod Departing
+pub mod Looping
+pub mod Making
+pub mod Places
+pub mod Rows
+pub mod Same
+pub mod Splitting
+pub mod Whole
