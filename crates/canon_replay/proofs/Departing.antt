@@ -85,10 +85,10 @@ module _ (k : ℕ) (call : MadeCall) (before after : ReplayStore) (result : Resu
         by (inr (p, le)) = subst (λ (i : ℕ). Leaves why call.events i g.live len events) (sym p) (leaves_there why call.events h.at g.live len events le l2)
 
     module _ (made : WasMadeAgain call before after result results events) where
-      stops : (why : Stop) → h.stop ≡ Some why → h.call ≡ k → Leaves why (call_events g.recorded k) h.at g.live len events → Departs k call before (outcome_at k h)
-      stops stop.Differs s c l = subst (Departs k call before) (sym (differs_at k h (ap is_unlawful s))) (refl, inr (after, result, results, events, made, inl (left_at_place stop.Differs c l)))
-      stops stop.Unfit s c l = subst (Departs k call before) (sym (differs_at k h (ap is_unlawful s))) (refl, inr (after, result, results, events, made, inr (inl (left_at_place stop.Unfit c l))))
-      stops stop.Unlawful s c l = subst (Departs k call before) (sym (unlawful_at k h c s)) (refl, (after, result, results, events, made, left_at_place stop.Unlawful c l))
+      stops : (why : Stop) → why ≢ stop.Unfit → h.stop ≡ Some why → h.call ≡ k → Leaves why (call_events g.recorded k) h.at g.live len events → Departs k call before (outcome_at k h)
+      stops stop.Differs other s c l = subst (Departs k call before) (sym (differs_at k h (ap is_unlawful s))) (refl, inr (after, result, results, events, made, inl (left_at_place stop.Differs c l)))
+      stops stop.Unfit other s c l = absurd (other refl)
+      stops stop.Unlawful other s c l = subst (Departs k call before) (sym (unlawful_at k h c s)) (refl, (after, result, results, events, made, left_at_place stop.Unlawful c l))
 
       overruns : k < h.call → Leaves stop.Differs (call_events g.recorded k) (length (call_events g.recorded k)) g.live len events → Departs k call before (outcome_at k h)
       overruns lt l = subst (Departs k call before) (sym (elsewhere k h lt)) (refl, inr (after, result, results, events, made, inl (len, there_left)))
@@ -97,11 +97,11 @@ module _ (k : ℕ) (call : MadeCall) (before after : ReplayStore) (result : Resu
           there_left = subst (λ (i : ℕ). Leaves stop.Differs call.events i g.live len events) (sym (place_after k h lt ∙ ap length events_h))
               (subst (λ (es : List Event). Leaves stop.Differs es (length es) g.live len events) (sym is) l)
 
-      pub departs : (Follows k g h events → AnswersOtherwise (place_in_call k h) call before results result) → Follows k g h events ⊎ TrapsInCall k g h len events ⊎ Overruns k g h len events → Departs k call before (outcome_at k h)
-      departs otherwise (inl f) = subst (Departs k call before) (sym (differs_at k h (ap is_unlawful f.going)))
-          (refl, inr (after, result, results, events, made, inr (inr (followed_to f, otherwise f))))
-      departs otherwise (inr (inl (why, s, c, l))) = stops why s c l
-      departs otherwise (inr (inr (lt, l))) = overruns lt l
+      pub departs : h.stop ≢ Some stop.Unfit → (Follows k g h events → AnswersOtherwise (place_in_call k h) call before results result) → Follows k g h events ⊎ TrapsInCall k g h len events ⊎ Overruns k g h len events → Departs k call before (outcome_at k h)
+      departs fit otherwise (inl f) = subst (Departs k call before) (sym (differs_at k h (ap is_unlawful f.going)))
+          (refl, inr (after, result, results, events, made, inr (followed_to f, otherwise f)))
+      departs fit otherwise (inr (inl (why, s, c, l))) = stops why (λ unfit. fit (s ∙ ap (λ (w : Stop). Some w) unfit)) s c l
+      departs fit otherwise (inr (inr (lt, l))) = overruns lt l
 
     -- ---- after Ok
 

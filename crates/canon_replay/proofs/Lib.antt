@@ -4,6 +4,7 @@ pub mod Looping
 pub mod Making
 pub mod Places
 pub mod Rows
+pub mod Running
 pub mod Same
 pub mod Splitting
 pub mod Whole

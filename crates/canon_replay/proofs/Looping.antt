@@ -66,11 +66,11 @@ module _ (first : ReplayStore) (calls : List Again) where
 
     pub loop_goes_on : (next : ReplayStore) → MakesAgain k (made_again (guest_in_store store).recorded k a) store next None → AreReplayed (k + 1) next left
     loop_goes_on next h =
-        let (replayed, ready, component, same) = here next None h in
+        let (replayed, ready) = here next None h in
         record {
           ready = ready;
-          component = component ∙ are.component;
-          same = same ∙ are.same;
+          component = replayed.kept.component ∙ are.component;
+          same = replayed.kept.recorded ∙ are.same;
           count = omega (arith, are.count);
           few = are.few;
           known = All-tail (IsKnown first.core.component) a left are.known;

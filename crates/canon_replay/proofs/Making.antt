@@ -1,12 +1,15 @@
 -- What became of one call, by what calling its function did.
-use Rattle.std.proofs.Common.{Err, List, None, Ok, Option, Result, Some, ap, arith, false, inl, inr, length, refl, subst, suc, sym, true, ℕ, ◌+◌, ◌<◌, ◌∙◌, ◌≡◌, ◌≢◌, ◌≤◌, ◌⊎◌}
+use Rattle.std.proofs.Common.{Err, List, None, Ok, Option, Result, Some, ap, arith, false, inl, inr, length, refl, subst, suc, sym, true, ℕ, ◌+◌, ◌<◌, ◌^◌, ◌∙◌, ◌≡◌, ◌≢◌, ◌≤◌, ◌⊎◌}
 use Rattle.std.proofs.lemmas.Bool.{false≢true}
-use Rattle.std.specs.Prelude.{IfSome, IsNone, IsSome, slice_get}
+use Rattle.std.specs.Prelude.{Vec, IfSome, IsNone, IsSome, slice_get}
 use Rattle.canon_types.specs.Table.{types_of}
 use Rattle.canon_memory.specs.Guest.{of_guest}
 use Rattle.canon_memory.specs.declared.event.Event.{Event}
+use Rattle.canon_replay_guest.specs.Fitting.{CanReplayFrom}
 use Rattle.canon_replay_guest.specs.Following.{Follows, IsBefore, Overruns, TrapsInCall}
 use Rattle.canon_replay_guest.specs.Replaying.{Replaying, call_events}
+use Rattle.canon_replay_guest.specs.declared.stop.Stop.TheVariants as stop
+use Rattle.canon_replay_guest.proofs.Fitting.{never_unfit}
 use Rattle.canon_replay_guest.proofs.Following.{moves_follow}
 use Rattle.canon_context.specs.Core.{Parts, component_types, guest_of}
 use Rattle.canon_context.specs.declared.component.Component.{Component}
@@ -17,6 +20,9 @@ use Rattle.canon_func.specs.Call.{call_refusal, refused_by}
 use Rattle.canon_func.specs.Stores.{Named, callee_of, type_in, type_of}
 use Rattle.canon_func.specs.declared.error.Error.{Error}
 use Rattle.canon_func.specs.declared.error.Error.TheVariants as error
+use Rattle.canon_recording.specs.Recordings.{served_asks}
+use Rattle.canon_recording.specs.declared.recording.Served.{Served}
+use Rattle.std.specs.declared.alloc.Global.{Global}
 use Rattle.canon_replay.specs.Calls.{AnswersOtherwise, CallReplayed, Departs, EndsOk, HaveOneImage, HaveOtherImages, IsReady, MadeCall, MakesAgain, WasMadeAgain, made_again, results_shape_in, results_shape_of}
 use Rattle.canon_replay.specs.Made.{CallsExport}
 use Rattle.canon_replay.specs.Outcomes.{has_passed, outcome_at, place_in_call}
@@ -40,6 +46,10 @@ module _ (k : ℕ) (a : Again) (before after : ReplayStore) (ready : IsReady k b
   follows : (events : List Event) → JournaledReplays (guest_of before.core) events (guest_of after.core) → Follows k g h events ⊎ TrapsInCall k g h (length after.core.memory) events ⊎ Overruns k g h (length after.core.memory) events
   follows events m = moves_follow k (of_guest (guest_of before.core)) (of_guest (guest_of after.core)) events ready.going lt ready.before m.moves
 
+  -- it never traps as unfit, and goes on with steps to make
+  fits : (events : List Event) → JournaledReplays (guest_of before.core) events (guest_of after.core) → (h.stop ≢ Some stop.Unfit) × (h.stop ≡ None → CanReplayFrom h (length after.core.memory) × (length after.core.memory ≤ 2 ^ 32))
+  fits events m = never_unfit (of_guest (guest_of before.core)) (of_guest (guest_of after.core)) events ready.going ready.small ready.can m.moves
+
   same_in : (events : List Event) → JournaledReplays (guest_of before.core) events (guest_of after.core) → h.recorded ≡ g.recorded
   same_in events m = recorded_same (of_guest (guest_of before.core)) (of_guest (guest_of after.core)) events m.moves
 
@@ -56,15 +66,16 @@ module _ (k : ℕ) (a : Again) (before after : ReplayStore) (ready : IsReady k b
             events = adding.events;
             made = record { is = adding.so; moves = moves };
             alike = alike;
+            kept = record { component = same; fuel_kept = ap (λ (k : Parts (Unit {0}) (Recorded Replaying)). k.fuel) calls.same; turns_kept = calls.turns_kept; asks = ap served_asks (ap (λ (v : Vec Served Global). v.items) calls.plan); recorded = same_in adding.events moves };
             same = subst (λ (c : Component). HaveOneImage (results_shape_in c.types.types (type_in c (slice_get c.exports.items a.export))) results a.results.items) same one;
           },
           record {
             going = going;
             before = inr (omega (arith, at), past_now at (same_in adding.events moves) past);
+            can = ((fits adding.events moves).1 going).0;
+            small = ((fits adding.events moves).1 going).1;
             untrapped = calls.runs ∙ ready.untrapped;
           },
-          same,
-          same_in adding.events moves,
         )
       where
         past_now : h.call ≡ k → h.recorded ≡ g.recorded → length (call_events g.recorded k) ≤ h.at → length (call_events h.recorded h.call) ≤ h.at
@@ -75,7 +86,7 @@ module _ (k : ℕ) (a : Again) (before after : ReplayStore) (ready : IsReady k b
         let kept = same_in adding.events moves in
         let made : WasMadeAgain call before after (Ok tt) results adding.events = record { is = adding.so; moves = moves } in
         subst (Departs k call before) (sym is)
-        (departs k call before after (Ok tt) results adding.events (length after.core.memory) refl kept made (λ f. otherwise adding.events kept f why) (follows adding.events moves))
+        (departs k call before after (Ok tt) results adding.events (length after.core.memory) refl kept made (fits adding.events moves).0 (λ f. otherwise adding.events kept f why) (follows adding.events moves))
       where
         otherwise : (events : List Event) → h.recorded ≡ g.recorded → Follows k g h events
             → (has_passed k h ≡ false) ⊎ HaveOtherImages (results_shape_in (component_types after.core) (type_of after (named_export before a.export))) results a.results.items
@@ -92,7 +103,7 @@ module _ (k : ℕ) (a : Again) (before after : ReplayStore) (ready : IsReady k b
             let adding = calls.call none in
             let moved = adding.moves in
             let moves = unless_short (Err e) (JournaledReplays (guest_of before.core) adding.events (guest_of after.core)) (λ s. other (same_error s)) moved in
-            departs k call before after (Err e) results adding.events (length after.core.memory) refl (same_in adding.events moves) (record { is = adding.so; moves = moved }) (λ f. tt) (follows adding.events moves)
+            departs k call before after (Err e) results adding.events (length after.core.memory) refl (same_in adding.events moves) (record { is = adding.so; moves = moved }) (fits adding.events moves).0 (λ f. tt) (follows adding.events moves)
           where
             same_error : Err {A = Unit {0}} e ≡ Err (error.Fault fault.OutOfMemory) → e ≡ error.Fault fault.OutOfMemory
             same_error s = cc

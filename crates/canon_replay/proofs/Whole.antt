@@ -1,6 +1,7 @@
 -- A whole recording: what stands before its first call, and what its calls come to.
-use Rattle.std.proofs.Common.{All, List, None, ap, arith, inl, length, map, refl, subst, sym, ℕ, ◌<◌, ◌^◌, ◌∙◌, ◌≡◌}
+use Rattle.std.proofs.Common.{All, List, ap, arith, drop, inl, length, map, subst, subst₂, sym, ℕ, ◌<◌, ◌^◌, ◌∙◌, ◌≡◌}
 use Rattle.canon_memory.specs.declared.event.Event.{Event}
+use Rattle.canon_replay_guest.specs.Fitting.{CanReplayAll}
 use Rattle.canon_replay_guest.specs.Replaying.{Replaying}
 use Rattle.canon_context.specs.declared.component.Component.{Component}
 use Rattle.canon_recording.proofs.Rows.{map_length}
@@ -10,6 +11,7 @@ use Rattle.canon_replay.specs.Calls.{HasEvents, IsReady, MadeCall, ReplaysFrom, 
 use Rattle.canon_replay.specs.Stores.{IsNewStore, ReplayStore, guest_in_store}
 use Rattle.canon_replay.specs.declared.again.Again.{Again}
 use Rattle.canon_replay.specs.declared.outcome.Outcome.{Outcome}
+use Rattle.canon_replay.proofs.Running.{runs_can}
 use Rattle.canon_replay.proofs.Rows.{all_made_are, events_fit, known_again, same_length}
 
 module _ (c : Component) (calls : List RecordedCall) (fuel turns : ℕ) (events : List (List Event)) (asks : List ServedAsk) (agains : List Again) (store : ReplayStore)
@@ -17,12 +19,23 @@ module _ (c : Component) (calls : List RecordedCall) (fuel turns : ℕ) (events 
   recorded_are : (guest_in_store store).recorded ≡ map events_of_call calls
   recorded_are = ap (λ (g : Replaying). g.recorded) new.guest ∙ are.0
 
-  pub ready_first : IsReady 0 store
-  ready_first = record {
+  pub ready_first : FitsComponent c calls → IsReady 0 store
+  ready_first fits = record {
     going = ap (λ (g : Replaying). g.stop) new.guest;
     before = inl (ap (λ (g : Replaying). g.call) new.guest, ap (λ (g : Replaying). g.at) new.guest);
+    can = inl (ap (λ (g : Replaying). g.at) new.guest, can_all);
+    small = omega (arith, no_memory);
     untrapped = new.untrapped;
   }
+    where
+      no_memory : length store.core.memory ≡ 0
+      no_memory = ap length new.memory
+
+      from_first : drop (guest_in_store store).call (guest_in_store store).recorded ≡ map events_of_call calls
+      from_first = ap (λ (k : ℕ). drop k (guest_in_store store).recorded) (ap (λ (g : Replaying). g.call) new.guest) ∙ recorded_are
+
+      can_all : CanReplayAll (length store.core.memory) (drop (guest_in_store store).call (guest_in_store store).recorded)
+      can_all = subst₂ CanReplayAll (sym no_memory) (sym from_first) (runs_can c 0 calls fits.runs)
 
   pub count_first : length agains ≡ length (guest_in_store store).recorded
   count_first = same_length agains calls are.2 ∙ sym (ap length recorded_are ∙ map_length events_of_call calls)

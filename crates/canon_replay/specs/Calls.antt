@@ -1,11 +1,12 @@
 -- Recorded calls that are made again, one after another.
-use Rattle.std.specs.Prelude.{Bool, Err, IfSome, IsSome, List, None, Ok, Option, Result, Some, Vec, [], false, flat_map, length, map, take, true, ℕ, ⊤, ◌+◌, ◌<◌, ◌^◌, ◌∷◌, ◌≡◌, ◌≢◌, ◌⊎◌}
+use Rattle.std.specs.Prelude.{Bool, Err, IfSome, IsSome, List, None, Ok, Option, Result, Some, Vec, [], false, flat_map, length, map, take, true, ℕ, ⊤, ◌+◌, ◌<◌, ◌^◌, ◌∷◌, ◌≡◌, ◌≢◌, ◌≤◌, ◌⊎◌}
 use Rattle.std.specs.declared.alloc.Global.{Global}
 use Rattle.canon_model.specs.Shape.{Shape}
 use Rattle.canon_types.specs.Table.{TypeTable, no_shape, shape_of, types_of}
 use Rattle.canon_types.specs.declared.types.InterfaceType.TheVariants as ty
 use Rattle.canon_types.specs.declared.types.TypeFunc.{TypeFunc}
 use Rattle.canon_memory.specs.declared.event.Event.{Event}
+use Rattle.canon_replay_guest.specs.Fitting.{CanReplayFrom}
 use Rattle.canon_replay_guest.specs.Following.{IsBefore, Leaves}
 use Rattle.canon_replay_guest.specs.Passing.{AreAlike}
 use Rattle.canon_replay_guest.specs.Replaying.{call_events}
@@ -106,12 +107,21 @@ pub record WasMadeAgain (call : MadeCall) (before after : ReplayStore) (result :
       (allowed before.core.fuel before.turns) call.params (moment_of journaled_seen before.core) (moment_of journaled_seen after.core) (replay_host before) (replay_host after) result results events
   pub moves : OnAnswered result (JournaledReplays (guest_of before.core) events (guest_of after.core))
 
+-- The store has the component, the fuel, the limit of turns and what was recorded as before.
+pub record KeepsPlan (before after : ReplayStore) : Type 0 where
+  pub component : after.core.component ≡ before.core.component
+  pub fuel_kept : after.core.fuel ≡ before.core.fuel
+  pub turns_kept : after.turns ≡ before.turns
+  pub asks : asks_in_store after ≡ asks_in_store before
+  pub recorded : (guest_in_store after).recorded ≡ (guest_in_store before).recorded
+
 -- It answered Ok with the recorded results, bit for bit, and the guest's events were alike the recorded ones, all of them.
 pub record CallReplayed (call : MadeCall) (before after : ReplayStore) : Type 0 where
   pub results : List Val
   pub events : List Event
   pub made : WasMadeAgain call before after (Ok tt) results events
   pub alike : AreAlike events call.events
+  pub kept : KeepsPlan before after
   pub same : HaveOneImage (results_shape_of before call.export) results call.results
 
 -- The events are alike the recorded ones up to this place, and the request there isn't followed, for this reason.
@@ -136,10 +146,10 @@ IsNotEntered call before = (slots : ℕ) × IfSome (type_of before (named_export
 abbrev pub DepartsAt : (ReplayStore → List Val → Result (Unit {0}) Error → List Event → Type 0) → MadeCall → ReplayStore → Type 0
 DepartsAt IsSo call before = (after : ReplayStore) × (result : Result (Unit {0}) Error) × (results : List Val) × (events : List Event) × WasMadeAgain call before after result results events × IsSo after results result events
 
--- The request at the place isn't the recorded one, or the recorded events are none of a run there; or the answer isn't the recorded one.
+-- The request at the place isn't the recorded one; or none is made there, and the answer isn't the recorded one.
 abbrev pub CallDiffers : ℕ → MadeCall → ReplayStore → Type 0
 CallDiffers place call before = ((place ≡ 0) × IsNotEntered call before)
-    ⊎ DepartsAt (λ after results result events. LeavesAt stop.Differs place call before events ⊎ LeavesAt stop.Unfit place call before events ⊎ EndsOtherwise place call before results result events) call before
+    ⊎ DepartsAt (λ after results result events. LeavesAt stop.Differs place call before events ⊎ EndsOtherwise place call before results result events) call before
 
 -- the recorded answer at the place isn't lawful
 abbrev pub CallIsUnlawful : ℕ → MadeCall → ReplayStore → Type 0
@@ -170,10 +180,12 @@ IsReplayed c calls fuel turns (Err _) = ⊥
 abbrev pub HasEvents : List Event → Type 0
 HasEvents events = (0 < length events) × (length events < 2 ^ 32)
 
--- The guest is before call k, and no call was refused.
+-- The guest is before call k, and has steps to make and memories that it can make; and no call was refused.
 pub record IsReady (k : ℕ) (store : ReplayStore) : Type 0 where
   pub going : (guest_in_store store).stop ≡ None
   pub before : IsBefore k (guest_in_store store)
+  pub can : CanReplayFrom (guest_in_store store) (length store.core.memory)
+  pub small : length store.core.memory ≤ 2 ^ 32
   pub untrapped : store.trapped ≡ false
 
 -- After a function answered Ok with these results: all recorded events of call k were passed and the results are the recorded ones; or where the guest is.
@@ -184,5 +196,5 @@ EndsOk k f store results recorded (Some o) = (o ≡ outcome_at k (guest_in_store
 
 -- Making call k answered so: nothing, where it was replayed and the store is before the next call; or how it isn't as it was recorded.
 abbrev pub MakesAgain : ℕ → MadeCall → ReplayStore → ReplayStore → Option Outcome → Type 0
-MakesAgain k call before after None = CallReplayed call before after × IsReady (k + 1) after × (after.core.component ≡ before.core.component) × ((guest_in_store after).recorded ≡ (guest_in_store before).recorded)
+MakesAgain k call before after None = CallReplayed call before after × IsReady (k + 1) after
 MakesAgain k call before after (Some o) = Departs k call before o

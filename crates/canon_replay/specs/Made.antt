@@ -22,3 +22,5 @@ pub record CallsExport (f : Named) (params : List Val) (slots : ℕ) (before aft
       (allowed before.core.fuel before.turns) params (moment_of journaled_seen before.core) (moment_of journaled_seen after.core) (replay_host before) (replay_host after) result results events)
   pub runs : OnOk result (after.trapped ≡ before.trapped)
   pub same : SameButHost before.core after.core
+  pub turns_kept : after.turns ≡ before.turns
+  pub plan : after.imports.asks ≡ before.imports.asks
