@@ -3,7 +3,7 @@ use Rattle.std.proofs.Common.{◌≡◌, ℕ, zero, suc, ⊎_elim, ◌+◌, ◌*
 use Rattle.std.proofs.Math.Nat.{suc-mul}
 use Rattle.std.proofs.lemmas.Bool.{cases_lt}
 use Rattle.std.proofs.lemmas.Bool.Decides.{nat_tests}
-use Rattle.canon_abi.specs.Numbers.{flat_within, largest_of, sum_of}
+use Rattle.canon_abi.specs.Numbers.{flat_within, largest_of, sum_of_numbers}
 
 -- words as they are told
 abbrev pub capped : ℕ → ℕ
@@ -18,15 +18,15 @@ words_told flat n h = ap (λ (o : Option ℕ). unwrap_or o 17) h ∙ words_cappe
 more_capped : (a b w : ℕ) → flat_within a ≡ flat_within b → flat_within (a + capped w) ≡ flat_within (b + w)
 more_capped a b w h = grind (arith, nat_tests)
 
-sum_capped : (a b : ℕ) (ns : List ℕ) → flat_within a ≡ flat_within b → flat_within (a + sum_of (map capped ns)) ≡ flat_within (b + sum_of ns)
+sum_capped : (a b : ℕ) (ns : List ℕ) → flat_within a ≡ flat_within b → flat_within (a + sum_of_numbers (map capped ns)) ≡ flat_within (b + sum_of_numbers ns)
 sum_capped a b [] h = ap flat_within (omega arith) ∙ h ∙ ap flat_within (omega arith)
 sum_capped a b (n ∷ ns) h =
-    let left : a + (capped n + sum_of (map capped ns)) ≡ (a + capped n) + sum_of (map capped ns) = omega arith in
-    let right : (b + n) + sum_of ns ≡ b + (n + sum_of ns) = omega arith in
+    let left : a + (capped n + sum_of_numbers (map capped ns)) ≡ (a + capped n) + sum_of_numbers (map capped ns) = omega arith in
+    let right : (b + n) + sum_of_numbers ns ≡ b + (n + sum_of_numbers ns) = omega arith in
     ap flat_within left ∙ sum_capped (a + capped n) (b + n) ns (more_capped a b n h) ∙ ap flat_within right
 
-pub sum_told : (ns ks : List ℕ) → ns ≡ map capped ks → flat_within (sum_of ns) ≡ flat_within (sum_of ks)
-sum_told ns ks e = ap (λ (l : List ℕ). flat_within (sum_of l)) e ∙ ap flat_within (omega arith) ∙ sum_capped 0 0 ks refl ∙ ap flat_within (omega arith)
+pub sum_told : (ns ks : List ℕ) → ns ≡ map capped ks → flat_within (sum_of_numbers ns) ≡ flat_within (sum_of_numbers ks)
+sum_told ns ks e = ap (λ (l : List ℕ). flat_within (sum_of_numbers l)) e ∙ ap flat_within (omega arith) ∙ sum_capped 0 0 ks refl ∙ ap flat_within (omega arith)
 
 largest_capped : (ns : List ℕ) → largest_of (map capped ns) ≡ capped (largest_of ns)
 largest_capped [] = omega arith

@@ -8,7 +8,7 @@ use Rattle.canon_model.specs.Layout.{align, align_to, cases_align, cases_flat, c
 use Rattle.canon_model.proofs.Layouts.{align_pos, align_to-next_multiple_of, alignment_positive, alignment-max, cases_align_pos, cases_alignment, members_alignment, tag_alignment}
 use Rattle.canon_abi.specs.declared.abi.CanonicalAbiInfo.{CanonicalAbiInfo}
 use Rattle.canon_abi.specs.declared.abi.VariantInfo.{VariantInfo}
-use Rattle.canon_abi.specs.Numbers.{Numbers, IsFixed, TellsCases, TellsNumbers, align_in, case_numbers_in, case_words_of, end_of, flat_within, largest_align, largest_of, largest_size, nothing, numbers_in, of_product, of_row, of_variant, payload_offset_in, payload_place, size_in, sum_of, variant_align, words_of}
+use Rattle.canon_abi.specs.Numbers.{Numbers, IsFixed, TellsCases, TellsNumbers, align_in, case_numbers_in, case_words_of, end_of, flat_within, largest_align, largest_of, largest_size, nothing, numbers_in, of_product, of_row, of_variant, payload_offset_in, payload_place, size_in, sum_of_numbers, variant_align, words_of}
 use Rattle.canon_abi.specs.Sizes.{tag_bytes}
 use Rattle.canon_abi.specs.Abi.{AreOfCases, AreOfMembers, HasInfo, HasLayout, TellsLayout, TellsVariant}
 use Rattle.canon_abi.proofs.Capped.{capped, largest_told, sum_told, times_told, words_told}
@@ -105,7 +105,7 @@ unfolding align
 largest_align-members wide no_members = refl
 largest_align-members wide (member name s ms) = ap (max (align wide s)) (largest_align-members wide ms)
 
-words-members : (ms : Members) → sum_of (members_words ms) ≡ members_flat ms
+words-members : (ms : Members) → sum_of_numbers (members_words ms) ≡ members_flat ms
 unfolding flat
 words-members no_members = refl
 words-members (member name s ms) = ap (λ (n : ℕ). flat s + n) (words-members ms)
@@ -122,7 +122,7 @@ product_numbers : (wide : Bool) (fields : List CanonicalAbiInfo) (k : ProductKin
 product_numbers wide fields k ms are = ap (λ (ls : List Numbers). (of_product ls).size) (members_told wide fields ms are) ∙ product_size wide k ms
 
 pub product_answer : (answer : Option CanonicalAbiInfo) (fields : List CanonicalAbiInfo)
-    → TellsNumbers answer (λ wide. of_product (map (numbers_in wide) fields)) (sum_of (map words_of fields))
+    → TellsNumbers answer (λ wide. of_product (map (numbers_in wide) fields)) (sum_of_numbers (map words_of fields))
     → (k : ProductKind) (ms : Members) → AreOfMembers fields ms → TellsLayout answer (product k ms)
 unfolding align flat
 product_answer None fields h k ms are = omega (arith, h, product_numbers false fields k ms are, product_numbers true fields k ms are)

@@ -71,9 +71,9 @@ largest_align (m ∷ ms) = max m.align (largest_align ms)
 abbrev pub of_product : List Numbers → Numbers
 of_product ms = record { size = next_multiple_of (end_of 0 ms) (largest_align ms); align = largest_align ms }
 
-abbrev pub sum_of : List ℕ → ℕ
-sum_of [] = 0
-sum_of (n ∷ ns) = n + sum_of ns
+abbrev pub sum_of_numbers : List ℕ → ℕ
+sum_of_numbers [] = 0
+sum_of_numbers (n ∷ ns) = n + sum_of_numbers ns
 
 -- ---- variants: the number of the case, and room for the largest payload
 

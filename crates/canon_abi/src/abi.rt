@@ -80,7 +80,7 @@ impl CanonicalAbiInfo {
     ghost use Rattle.canon_abi.specs.Alignment.{is_alignment};
     ghost use Rattle.canon_model.specs.Layout.{align, align_to, flag_words, flags_align, flags_size, flat, size, tag_size};
     ghost use Rattle.canon_model.specs.Shape.{Cases, Members, Name, ProductKind, Shape, VariantKind, bare_cases, fixed, flags, product, variant};
-    ghost use Rattle.canon_abi.specs.Numbers.{start_after, end_after, of_product, of_row, of_variant, sum_of, largest_of, largest_align, largest_size, payload_place, variant_align, IsExtent, IsFixed, TellsChoice, TellsExtent, TellsNumbers, TellsCases, size_in, align_in, numbers_in, case_numbers_in, words_of, case_words_of, flat_within, told_within};
+    ghost use Rattle.canon_abi.specs.Numbers.{start_after, end_after, of_product, of_row, of_variant, sum_of_numbers, largest_of, largest_align, largest_size, payload_place, variant_align, IsExtent, IsFixed, TellsChoice, TellsExtent, TellsNumbers, TellsCases, size_in, align_in, numbers_in, case_numbers_in, words_of, case_words_of, flat_within, told_within};
     ghost use Rattle.canon_abi.specs.Sizes.{tag_bytes};
     ghost use Rattle.canon_abi.specs.Abi.{HasInfo, HasLayout, TellsLayout, TellsVariant, AreOfMembers, AreOfCases};
 
@@ -201,7 +201,7 @@ impl CanonicalAbiInfo {
 
     /// The numbers of a record of such fields, or none where a size passes 2^32 - 1.
     pub fn record(fields: &[CanonicalAbiInfo]) -> Option<CanonicalAbiInfo>
-        ensures numbers { TellsNumbers result (λ wide. of_product (map (numbers_in wide) fields.now)) (sum_of (map words_of fields.now)) }
+        ensures numbers { TellsNumbers result (λ wide. of_product (map (numbers_in wide) fields.now)) (sum_of_numbers (map words_of fields.now)) }
         ensures layout { (k : ProductKind) (ms : Members) → AreOfMembers fields.now ms → TellsLayout result (product k ms) }
     {
         Self::product_numbers(fields)
@@ -259,7 +259,7 @@ impl CanonicalAbiInfo {
     }
 
     fn product_numbers(fields: &[CanonicalAbiInfo]) -> Option<CanonicalAbiInfo>
-        ensures { TellsNumbers result (λ wide. of_product (map (numbers_in wide) fields.now)) (sum_of (map words_of fields.now)) }
+        ensures { TellsNumbers result (λ wide. of_product (map (numbers_in wide) fields.now)) (sum_of_numbers (map words_of fields.now)) }
     {
         let narrow = Self::product_extent(fields, false)?;
         let wide = Self::product_extent(fields, true)?;
@@ -291,7 +291,7 @@ impl CanonicalAbiInfo {
 
     /// The words of members in a row.
     fn product_words(fields: &[CanonicalAbiInfo]) -> Option<u8>
-        ensures count { result ≡ flat_within (sum_of (map words_of fields.now)) }
+        ensures count { result ≡ flat_within (sum_of_numbers (map words_of fields.now)) }
         ensures few { unwrap_or result 16 ≤ 16 }
     {
         let mut words = Some(0u8);

@@ -7,7 +7,7 @@ use Rattle.canon_context.specs.declared.fault.Fault.{Fault}
 use Rattle.canon_context.specs.declared.fault.Fault.TheVariants as fault
 use Rattle.canon_leaves.specs.Parts.{LeavesStop, Part}
 use Rattle.canon_ledger.specs.Ledger.{LedgerState}
-use Rattle.canon_lift_parts.proofs.Refusals.{named_in, refused_before, refused_by}
+use Rattle.canon_lift_parts.proofs.Refusals.{named_in, lift_refused_before, refused_by}
 use Rattle.canon_reading.specs.Reading.{Lifts, Reading, Refused, Setting}
 use Rattle.canon_context.specs.Faults.{stop_of}
 use Rattle.canon_reading.specs.Spots.{flat_in, pointer_in, stored}
@@ -20,11 +20,11 @@ use Rattle.canon_args.specs.Returned.{IsGoodArea, area_reading, reading_by}
 
 module _ {A : Type 0} (R : Reading A) (w : Setting) (ws : List ℕ) (s : Shape) (l : LedgerState) (fuel p : ℕ) (is : p ≡ pointer_in w.memory (flat_in ws 0)) where
   pub area_misaligned : ¬ (p % align w.memory.wide s ≡ 0) → Refused (area_reading R) w (flat_in ws 0) s l fuel (fault.PointerMisaligned (at.Word 0)) l fuel
-  area_misaligned wrong = refused_before (area_reading R) w (flat_in ws 0) s l l fuel fuel (fault.PointerMisaligned (at.Word 0))
+  area_misaligned wrong = lift_refused_before (area_reading R) w (flat_in ws 0) s l l fuel fuel (fault.PointerMisaligned (at.Word 0))
       (reach.word 0, inl refl, inl (inl (record { kind_is = refl; at_is = refl }, subst (λ n. ¬ (n % align w.memory.wide s ≡ 0)) is wrong))) (λ e. cc) refl refl (omega arith)
 
   pub area_outside : p % align w.memory.wide s ≡ 0 → ¬ Inside w.memory p (size w.memory.wide s) → Refused (area_reading R) w (flat_in ws 0) s l fuel (fault.PointerOutOfBounds (at.Word 0)) l fuel
-  area_outside aligned wrong = refused_before (area_reading R) w (flat_in ws 0) s l l fuel fuel (fault.PointerOutOfBounds (at.Word 0))
+  area_outside aligned wrong = lift_refused_before (area_reading R) w (flat_in ws 0) s l l fuel fuel (fault.PointerOutOfBounds (at.Word 0))
       (reach.word 0, inl refl, inl (inr (record { kind_is = refl; at_is = refl }, subst (λ n. n % align w.memory.wide s ≡ 0) is aligned, subst (λ n. ¬ Inside w.memory n (size w.memory.wide s)) is wrong))) (λ e. cc) refl refl (omega arith)
 
   -- it is good

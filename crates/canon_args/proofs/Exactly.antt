@@ -1,5 +1,5 @@
 -- What is lifted from words, in a row or by a pointer, is what they and memory represent.
-use Rattle.std.proofs.Common.{Err, List, Ok, Option, Result, Some, ap, arith, inl, inr, length, nat_le, refl, subst, sym, true, ⊎_elim, ℕ, ◌+◌, ◌<◌, ◌∙◌, ◌≡◌, ◌≤◌, ◌⊎◌}
+use Rattle.std.proofs.Common.{Err, List, Ok, Option, Result, ap, arith, inl, inr, length, nat_le, refl, subst, sym, true, ⊎_elim, ℕ, ◌+◌, ◌<◌, ◌∙◌, ◌≡◌, ◌≤◌, ◌⊎◌}
 use Rattle.std.specs.Prelude.{false, slice_index}
 use Rattle.std.proofs.lemmas.Bool.{cases_lt, cond-false, cond-true, le-leb, lt-leb}
 use Rattle.canon_args.specs.Areas.{good_area}
@@ -7,18 +7,16 @@ use Rattle.canon_args.specs.Exactly.{IsAlwaysPassed, IsOnlyPassed}
 use Rattle.canon_args.specs.Returned.{IsGoodArea, area_reading, passed_count, reading_by}
 use Rattle.canon_context.proofs.Told.{blamed_by}
 use Rattle.canon_context.specs.Told.{LiftBlames, ToldAt}
-use Rattle.canon_context.specs.declared.fault.At.{At as Place}
 use Rattle.canon_context.specs.declared.fault.Fault.{Fault}
 use Rattle.canon_context.specs.declared.fault.Fault.TheVariants as fault
 use Rattle.canon_leaves.proofs.Leaves.{leaves_excluded}
 use Rattle.canon_leaves.specs.Parts.{LeavesStop, LeavesTake, Part}
 use Rattle.canon_ledger.specs.Ledger.{LedgerState}
 use Rattle.canon_ledger.specs.declared.fault.ResourceFault.{ResourceFault}
-use Rattle.canon_lift_parts.proofs.Exactness.{lifts_exactly_there}
+use Rattle.canon_lift_parts.proofs.Exactness.{Remains, lifts_exactly_there}
 use Rattle.canon_reading.specs.Laws.{IsLifted, LiftsExactly}
 use Rattle.canon_reading.specs.OfTrees.{IsFaulted, IsOfTrees, IsPriced}
 use Rattle.canon_reading.specs.Reading.{AreTaken, Lifts, Reading, Refused, Setting}
-use Rattle.canon_context.specs.Faults.{stop_of}
 use Rattle.canon_reading.specs.Spots.{Represents, Spot, flat_in, stored}
 use Rattle.canon_reading.specs.Ways.{AreLiftedBy}
 use Rattle.canon_model.proofs.Faults.{fault_excludes}
@@ -34,10 +32,6 @@ use Rattle.canon_types.specs.Instance.{Instance}
 use Rattle.canon_types.specs.Table.{shape_of}
 use Rattle.canon_types.specs.declared.types.InterfaceType.{InterfaceType}
 
--- what is left where no place has a fault and the fuel is enough
-abbrev Remains : Fault → Type 0
-Remains e = (e ≡ fault.OutOfMemory) ⊎ ((r : ResourceFault) × (stop_of e ≡ Some r))
-
 remaining : (e : Fault) → LiftBlames (λ k x. ⊥) ⊥ e → Remains e
 remaining fault.OutOfMemory h = inl refl
 remaining (fault.Resource r) h = inr (r, h)
@@ -52,8 +46,8 @@ module _ {A : Type 0} {Fit : Instance → InterfaceType → Type 0} {R : Reading
   abbrev p : Spot
   p = flat_in words 0
 
-  abbrev area : ℕ
-  area = ptr w.memory (slice_index words 0)
+  abbrev tuple_area : ℕ
+  tuple_area = ptr w.memory (slice_index words 0)
 
   law : LiftsExactly Fit R Means price
   law = lifts_exactly_there faulted priced told taken
@@ -112,15 +106,15 @@ module _ {A : Type 0} {Fit : Instance → InterfaceType → Type 0} {R : Reading
     area_only : most < members_flat ms → length words ≡ 1 → Lifts (area_reading R) w p s before fuel (Ok v) after left → Passed before after fuel left v ((area_reading R).steps w p s)
     unfolding align leaves
     area_only far count ((good, read), spent) =
-        let stepped : (area_reading R).steps w p s ≡ R.steps w (stored area) s = cond-true _ _ _ (good_area w p s good) in
-        let reached : (area_reading R).reach w p s ≡ R.reach w (stored area) s = cond-true _ _ _ (good_area w p s good) in
-        let (t, rep, means, paid, lifted, took) = only_at (stored area) before after fuel left v (read, spent ∙ ap (λ n. left + n) reached) in
+        let stepped : (area_reading R).steps w p s ≡ R.steps w (stored tuple_area) s = cond-true _ _ _ (good_area w p s good) in
+        let reached : (area_reading R).reach w p s ≡ R.reach w (stored tuple_area) s = cond-true _ _ _ (good_area w p s good) in
+        let (t, rep, means, paid, lifted, took) = only_at (stored tuple_area) before after fuel left v (read, spent ∙ ap (λ n. left + n) reached) in
         let (inside, (ts, e, there)) = rep in (
           ts,
           record { near = λ near. absurd (omega (arith, near, far)); far = λ _. (count, record { aligned = good.0; stored = (inside, (ts, refl, there)); narrow = λ strict. cc }) },
           subst (λ u. Means v u) e means,
           subst (λ u. fuel ≡ left + price u) e paid,
-          subst (λ steps. AreLiftedBy w.types (members_leaves ms ts) steps) (sym stepped) (subst (λ u. AreLiftedBy w.types (leaves s u) (R.steps w (stored area) s)) e lifted),
+          subst (λ steps. AreLiftedBy w.types (members_leaves ms ts) steps) (sym stepped) (subst (λ u. AreLiftedBy w.types (leaves s u) (R.steps w (stored tuple_area) s)) e lifted),
           subst (λ steps. (hs : List ℕ) × LeavesTake before steps hs after) (sym stepped) took,
         )
 
@@ -140,7 +134,7 @@ module _ {A : Type 0} {Fit : Instance → InterfaceType → Type 0} {R : Reading
   -- ---- and always there
 
   module _ (before after end : LedgerState) (fuel left : ℕ) (ts : Trees) (hs : List ℕ) (rep : RepValues most false w.encoding w.memory words ms ts) (few : price (parts ts) ≤ fuel) where
-    area_there : most < members_flat ms → Represents w.memory w.encoding (stored area) s (parts ts)
+    area_there : most < members_flat ms → Represents w.memory w.encoding (stored tuple_area) s (parts ts)
     area_there far = (rep.far far).1.stored
 
     good_there : most < members_flat ms → IsGoodArea w p s
@@ -150,15 +144,15 @@ module _ {A : Type 0} {Fit : Instance → InterfaceType → Type 0} {R : Reading
     area_faultless : most < members_flat ms → (k : Kind) (x : reach.At) → (area_reading R).faults w p s k x → ⊥
     area_faultless far k x (inl (inl (is, wrong))) = wrong (good_there far).0
     area_faultless far k x (inl (inr (is, aligned, outside))) = outside (good_there far).1
-    area_faultless far k x (inr (good, h)) = faultless_at area (parts ts) k x (area_there far) h
+    area_faultless far k x (inr (good, h)) = faultless_at tuple_area (parts ts) k x (area_there far) h
 
     untold : most < members_flat ms → (k : Kind) (x : Place) → ToldAt ((area_reading R).faults w p s) k x → ⊥
     untold far k x (y, is, h) = area_faultless far k y h
 
     area_within : most < members_flat ms → fuel < (area_reading R).reach w p s → ⊥
     area_within far low =
-        let reached : (area_reading R).reach w p s ≡ R.reach w (stored area) s = cond-true _ _ _ (good_area w p s (good_there far)) in
-        omega (arith, low, reached, few, price_at area (parts ts) (area_there far))
+        let reached : (area_reading R).reach w p s ≡ R.reach w (stored tuple_area) s = cond-true _ _ _ (good_area w p s (good_there far)) in
+        omega (arith, low, reached, few, price_at tuple_area (parts ts) (area_there far))
 
     -- nothing but memory is wanting
     area_stopped : (e : Fault) → LeavesTake before ((area_reading R).steps w p s) hs end → Refused (area_reading R) w p s before fuel e after left → Remains e → (e ≡ fault.OutOfMemory) × (R.allocates ≡ true)
@@ -169,9 +163,9 @@ module _ {A : Type 0} {Fit : Instance → InterfaceType → Type 0} {R : Reading
     area_always : (r : Result A Fault) → most < members_flat ms → LeavesTake before ((area_reading R).steps w p s) hs end → Lifts (area_reading R) w p s before fuel r after left
         → IsLifted R Means price (parts ts) end fuel r after left
     area_always (Ok v) far took ((good, read), spent) =
-        let stepped : (area_reading R).steps w p s ≡ R.steps w (stored area) s = cond-true _ _ _ (good_area w p s good) in
-        let reached : (area_reading R).reach w p s ≡ R.reach w (stored area) s = cond-true _ _ _ (good_area w p s good) in
-        always_at (stored area) before after end fuel left (Ok v) (parts ts) hs (area_there far) few (subst (λ steps. LeavesTake before steps hs end) stepped took) (read, spent ∙ ap (λ n. left + n) reached)
+        let stepped : (area_reading R).steps w p s ≡ R.steps w (stored tuple_area) s = cond-true _ _ _ (good_area w p s good) in
+        let reached : (area_reading R).reach w p s ≡ R.reach w (stored tuple_area) s = cond-true _ _ _ (good_area w p s good) in
+        always_at (stored tuple_area) before after end fuel left (Ok v) (parts ts) hs (area_there far) few (subst (λ steps. LeavesTake before steps hs end) stepped took) (read, spent ∙ ap (λ n. left + n) reached)
     area_always (Err e) far took refused = area_stopped e took refused (remaining e
         (blamed_by (ToldAt ((area_reading R).faults w p s)) (λ k x. ⊥) (fuel < (area_reading R).reach w p s) ⊥ (untold far) (area_within far) e refused.cause))
 

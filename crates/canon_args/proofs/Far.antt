@@ -35,7 +35,7 @@ use Rattle.canon_types.specs.Instance.{Instance}
 use Rattle.canon_model.specs.Text.{Encoding}
 use Rattle.canon_model.specs.Tree.{Tree, parts, trees_of}
 use Rattle.canon_value_parts.proofs.Far.{far_other}
-use Rattle.canon_value_parts.proofs.Passing.{handles_instance, handles_then, same_handles, same_ledger, ungiven_elsewhere}
+use Rattle.canon_value_parts.proofs.Passing.{handles_instance, handles_then, same_handles, value_same_ledger, ungiven_elsewhere}
 use Rattle.canon_args.proofs.Near.{AreProducts, its_parts}
 use Rattle.canon_args.specs.Params.{AreSmallIn, BlamesIn, InParts, TypedParams}
 use Rattle.canon_lowering.specs.Stages.{Stage}
@@ -83,7 +83,7 @@ module _ {D G : Type 0} (L : GuestLaws G) (options : ℕ) (a : Parts D G) (ms : 
         ending = fault_ending e;
         ends = inl refl;
         lowered = record { lowered = args_ungiven false (host_texts enc) ms (InParts Has) (InParts Has) (stage_of L.seen L.moves a) (stage_of L.seen L.moves b) ws (fault_ending e) 0 far (not_done e) h.small h.does; asks = λ many. (asked.0, λ quiet. asked.1) };
-        passed = cross_stopped a.ledger b.ledger gives e (same_ledger a b h.same) (ungiven_elsewhere (stage_of L.seen L.moves a) (stage_of L.seen L.moves b) (args_call false ms) e 0 h.does);
+        passed = cross_stopped a.ledger b.ledger gives e (value_same_ledger a b h.same) (ungiven_elsewhere (stage_of L.seen L.moves a) (stage_of L.seen L.moves b) (args_call false ms) e 0 h.does);
         same = same_handles a b h.same;
         quiet = λ near. absurd (omega (arith, near, far));
         cause = λ t has. inl (elsewhere_asked (stage_of L.seen L.moves a) (stage_of L.seen L.moves b) (args_call false ms) e 0 h.does);
@@ -124,7 +124,7 @@ module _ {D G : Type 0} (L : GuestLaws G) (options : ℕ) (a : Parts D G) (ms : 
       ending = h.ending;
       ends = h.ends;
       lowered = record { lowered = low; asks = λ many. (first, alone) };
-      passed = subst (λ (l : LedgerState). HandlesCross l c.ledger gives h.handles r) (same_ledger a b g.same) h.passed;
+      passed = subst (λ (l : LedgerState). HandlesCross l c.ledger gives h.handles r) (value_same_ledger a b g.same) h.passed;
       same = handles_then a b c (same_handles a b g.same) h.same;
       quiet = λ near. absurd (omega (arith, near, far));
       cause = subst (λ (x : Encoding). IfErr r (BlamesIn x ms Has)) (same_encoding a b options g.same) h.cause;

@@ -9,6 +9,7 @@ ghost use Rattle.canon_model.specs.Shape.{of_places, product};
 ghost use Rattle.canon_types.specs.Table.{HasTuple, tuple_members};
 ghost use Rattle.canon_types.specs.declared.types.InterfaceType.TheVariants.{Tuple};
 
+use canon_bytes::ends_inside;
 use canon_context::{At, Fault, LiftContext};
 use canon_lift::Lift;
 use canon_memory::ValRaw;
@@ -62,7 +63,7 @@ fn lift_pointed<U, G, V: Lift>(
     if at % u64::from(abi.align32) != 0 {
         return Err(Fault::PointerMisaligned(At::Word(0)));
     }
-    if at + u64::from(abi.size32) > cx.memory().len() as u64 {
+    if !ends_inside(cx.memory(), at, 1, abi.size32) {
         return Err(Fault::PointerOutOfBounds(At::Word(0)));
     }
     V::linear_lift_from_memory(alloc, cx, InterfaceType::Tuple(ty), at)

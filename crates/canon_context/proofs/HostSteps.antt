@@ -1,5 +1,5 @@
 -- Each call of the host's table outside any call is a step of the host.
-use Rattle.std.proofs.Common.{Err, List, None, Ok, Option, Result, [], arith, inl, inr, refl, sym, ◌++◌, ◌∙◌, ◌∷◌, ◌≡◌, ap, ℕ}
+use Rattle.std.proofs.Common.{Err, None, Ok, Option, Result, [], arith, inl, inr, refl, sym, ◌++◌, ◌∙◌, ◌∷◌, ◌≡◌, ap, ℕ}
 use Rattle.std.proofs.lemmas.List.Elements.{All-append, All-cons}
 use Rattle.canon_ledger.specs.Books.{DidSurely}
 use Rattle.canon_ledger.specs.Index.{GivenIndex}
@@ -8,6 +8,7 @@ use Rattle.canon_ledger.specs.Ledger.{Did, Done, HostDrop, HostLiftBorrow, HostL
 use Rattle.canon_ledger.specs.declared.fault.ResourceFault.{ResourceFault}
 use Rattle.canon_ledger.specs.declared.host.TableSlot.{TableSlot}
 use Rattle.canon_context.specs.Host.{HostSteps, IsHostStep}
+use Rattle.canon_ledger.proofs.HostLemmas.{run-append}
 
 -- a ledger that is left alone took no step
 pub left_alone : (l n : LedgerState) → n ≡ l → HostSteps l n
@@ -16,15 +17,11 @@ left_alone l n same = record { steps = []; each = λ k d h. absurd (omega (arith
 pub one_step : (s : LedgerStep) → IsHostStep s → (l n : LedgerState) → n ≡ (do_step s l).after → HostSteps l n
 one_step s of_host l n is = record { steps = s ∷ []; each = All-cons IsHostStep s [] of_host (λ k d h. absurd (omega (arith, h))); is = is }
 
-run_then : (calls more : List LedgerStep) (l : LedgerState) → run_steps (calls ++ more) l ≡ run_steps more (run_steps calls l)
-run_then [] more l = refl
-run_then (call ∷ calls) more l = run_then calls more (do_step call l).after
-
 pub steps_then : (l m n : LedgerState) → HostSteps l m → HostSteps m n → HostSteps l n
 steps_then l m n h k = record {
   steps = h.steps ++ k.steps;
   each = All-append IsHostStep h.steps k.steps h.each k.each;
-  is = k.is ∙ (ap (run_steps k.steps) h.is ∙ sym (run_then h.steps k.steps l));
+  is = k.is ∙ (ap (run_steps k.steps) h.is ∙ sym (run-append h.steps k.steps l));
 }
 
 -- a step that may want memory

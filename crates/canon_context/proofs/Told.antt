@@ -15,13 +15,13 @@ use Rattle.canon_context.specs.declared.fault.Fault.TheVariants as fault
 -- ---- results
 
 -- of a result, what follows
-pub on_ok : {X : Type 0} (r : Result X Fault) (P Q : X → Type 0) → ((x : X) → P x → Q x) → IfOk r P → IfOk r Q
-on_ok (Ok y) P Q f h = f y h
-on_ok (Err x) P Q f h = tt
+pub core_on_ok : {X : Type 0} (r : Result X Fault) (P Q : X → Type 0) → ((x : X) → P x → Q x) → IfOk r P → IfOk r Q
+core_on_ok (Ok y) P Q f h = f y h
+core_on_ok (Err x) P Q f h = tt
 
-pub on_err : {X : Type 0} (r : Result X Fault) (P Q : Fault → Type 0) → ((e : Fault) → P e → Q e) → IfErr r P → IfErr r Q
-on_err (Ok y) P Q f h = tt
-on_err (Err x) P Q f h = f x h
+pub core_on_err : {X : Type 0} (r : Result X Fault) (P Q : Fault → Type 0) → ((e : Fault) → P e → Q e) → IfErr r P → IfErr r Q
+core_on_err (Ok y) P Q f h = tt
+core_on_err (Err x) P Q f h = f x h
 
 -- a fault that is handed on
 pub handed_on : {X : Type 0} (r : Result X Fault) (e : Fault) (Q : Fault → Type 0) → IsErr r × IsErrAnd r (λ x. x ≡ e) → Q e → IfErr r Q
@@ -60,8 +60,8 @@ blamed_by F G Low Lower f g (fault.ReallocOutOfBounds a) h = h
 blamed_by F G Low Lower f g fault.GuestTrap h = h
 
 -- what is a fault of F is one of G, and fuel that is too low for the one is so for the other
-pub told_by : (F G : Kind → reach.At → Type 0) (Low Less : Type 0) → ((k : Kind) (y : reach.At) → F k y → G k y) → (Low → Less) → (e : Fault) → LiftBlames (ToldAt F) Low e → LiftBlames (ToldAt G) Less e
-told_by F G Low Less f less e h = blamed_by (ToldAt F) (ToldAt G) Low Less (λ k x (y, is, g). (y, is, f k y g)) less e h
+pub core_told_by : (F G : Kind → reach.At → Type 0) (Low Less : Type 0) → ((k : Kind) (y : reach.At) → F k y → G k y) → (Low → Less) → (e : Fault) → LiftBlames (ToldAt F) Low e → LiftBlames (ToldAt G) Less e
+core_told_by F G Low Less f less e h = blamed_by (ToldAt F) (ToldAt G) Low Less (λ k x (y, is, g). (y, is, f k y g)) less e h
 
 -- the fuel was too low
 pub exhausted : {X : Type 0} (r : Result X Fault) (e : Fault) (F : Kind → Place → Type 0) (Low : Type 0) → IsErr r × IsErrAnd r (λ x. x ≡ e) → e ≡ fault.HostcallFuelExhausted → Low → IfErr r (LiftBlames F Low)
@@ -92,7 +92,7 @@ module _ (at : Place) (y : reach.At) (is : IsPlace at y) where
   text_told enc m p n k x (inl f) = let (here, g) = pointer_told m p _ _ k x f in (y, here, inl g)
   text_told enc m p n k x (inr (f, good, none)) = let (here, g) = same_place _ k x f in (y, here, inr (g, good, none))
 
-  pub list_told : (enc : Encoding) (m : Memory) (Items : ℕ → Kind → reach.At → Type 0) (s : Shape) (p n : ℕ) (k : Kind) (x : Place)
+  pub core_list_told : (enc : Encoding) (m : Memory) (Items : ℕ → Kind → reach.At → Type 0) (s : Shape) (p n : ℕ) (k : Kind) (x : Place)
       → Exactly (ListFault enc m Items s (place_of at) p n) k x → ToldAt (ListFault enc m Items s y p n) k x
-  list_told enc m Items s p n k x (inl f) = let (here, g) = pointer_told m p _ _ k x f in (y, here, inl g)
-  list_told enc m Items s p n k x (inr (good, f)) = (place_of x, is_its_place x, inr (good, f))
+  core_list_told enc m Items s p n k x (inl f) = let (here, g) = pointer_told m p _ _ k x f in (y, here, inl g)
+  core_list_told enc m Items s p n k x (inr (good, f)) = (place_of x, is_its_place x, inr (good, f))

@@ -16,6 +16,7 @@ mod handles;
 mod hosting;
 
 use crate::{Component, Fault, Lifter, Source};
+use canon_bytes::ends_inside;
 use canon_ledger::{HostResourceData, Ledger};
 use canon_memory::{Guest, GuestFault, Memory, Step, ValRaw};
 use canon_types::{OptionsIndex, OutOfMemory, StoreId, StringEncoding};
@@ -250,7 +251,7 @@ impl<T, G: Guest> Core<T, G> {
         let answer = self
             .guest
             .realloc(&mut self.memory, old, old_size, old_align, new_size);
-        let len = self.memory.len();
+        let _len = self.memory.len(); // memory has at most 2^32 bytes
         let answer = match answer {
             Ok(answer) => answer,
             Err(GuestFault::Trap) => return Err(Fault::GuestTrap),
@@ -259,7 +260,7 @@ impl<T, G: Guest> Core<T, G> {
         if answer % u64::from(old_align) != 0 {
             return Err(Fault::ReallocMisaligned(answer));
         }
-        if answer + new_size > len {
+        if !ends_inside(self.memory.as_slice(), answer, new_size, 1) {
             return Err(Fault::ReallocOutOfBounds(answer));
         }
         Ok(answer)

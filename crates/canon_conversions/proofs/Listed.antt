@@ -8,8 +8,8 @@ use Rattle.canon_conversions.specs.TextCalls.{name_of}
 use Rattle.canon_conversions.specs.declared.conversion.Conversion.{Conversion}
 use Rattle.canon_conversions.specs.declared.conversion.TextCall.{TextCall}
 
-pub drop_next : {A : Type 0} → (xs : List A) (i : ℕ) (d : A) → i < length xs → drop i xs ≡ slice_index_or xs i d ∷ drop (i + 1) xs
-drop_next xs i d h =
+pub conversion_drop_next : {A : Type 0} → (xs : List A) (i : ℕ) (d : A) → i < length xs → drop i xs ≡ slice_index_or xs i d ∷ drop (i + 1) xs
+conversion_drop_next xs i d h =
     let e : suc i ≡ i + 1 = omega arith in
     drop-cons xs i d h ∙ ap (λ n. slice_index_or xs i d ∷ drop n xs) e
 
@@ -19,7 +19,7 @@ some_is P o x e h = subst (λ t. IfSome t P) (sym e) h
 -- the call at the front of those that are left
 among_front : (cs : List TextCall) (i : ℕ) (d : TextCall) (name : List ℕ) (b : Bool) → i < length cs → b ≡ pointwise nat_eq name (name_of (slice_index_or cs i d))
     → call_among (drop i cs) name ≡ (if b then Some (slice_index_or cs i d) else call_among (drop (i + 1) cs) name)
-among_front cs i d name b h e = ap (λ xs. call_among xs name) (drop_next cs i d h) ∙ ap (λ t. if t then Some (slice_index_or cs i d) else call_among (drop (i + 1) cs) name) (sym e)
+among_front cs i d name b h e = ap (λ xs. call_among xs name) (conversion_drop_next cs i d h) ∙ ap (λ t. if t then Some (slice_index_or cs i d) else call_among (drop (i + 1) cs) name) (sym e)
 
 pub among_here : (cs : List TextCall) (i : ℕ) (d : TextCall) (name : List ℕ) (b : Bool) → i < length cs → b ≡ pointwise nat_eq name (name_of (slice_index_or cs i d)) → b ≡ true
     → call_among (drop i cs) name ≡ call_among cs name → Some (slice_index_or cs i d) ≡ call_among cs name

@@ -6,7 +6,7 @@ ghost use Rattle.serde_json.specs.Find.{as_bool, get};
 ghost use Rattle.serde_json.specs.View.{view, items_view};
 ghost use Rattle.canon_conversions.specs.Conversions as spec;
 ghost use Rattle.canon_json.specs.Hex.{bytes_of};
-ghost use Rattle.canon_json.specs.Json.{Gives, word_of};
+ghost use Rattle.canon_json.specs.Json.{ReadsAs, word_of};
 
 use crate::conversion::{CALLS, Conversion, TextCall};
 use canon_json::{Reader, ScriptError, bool_or, bytes_of_json, each_of, has_len, there};
@@ -18,7 +18,7 @@ const MAX_ROOM: u64 = 1 << 20;
 
 /// The conversions that a JSON value asks for.
 pub(crate) fn conversions_of(alloc: Global, v: &Value) -> Result<Vec<Conversion>, ScriptError>
-    ensures { Gives (λ cs. map spec.job_of cs.items) result (spec.conversions_of (view v.now)) }
+    ensures { ReadsAs (λ cs. map spec.job_of cs.items) result (spec.conversions_of (view v.now)) }
 {
     if !has_len(v, 1) {
         return Err(ScriptError::BadScript);
@@ -44,7 +44,7 @@ impl Reader for Conversions {
 }
 
 fn conversion_of(alloc: Global, v: &Value) -> Result<Conversion, ScriptError>
-    ensures { Gives spec.job_of result (spec.conversion_of (view v.now)) }
+    ensures { ReadsAs spec.job_of result (spec.conversion_of (view v.now)) }
 {
     if !has_len(v, 3 + optional_conversion_members(v)) {
         return Err(ScriptError::BadScript);
@@ -88,7 +88,7 @@ fn with_bytes(
     first: bool,
     so_far: u64,
 ) -> Result<Conversion, ScriptError>
-    ensures { Gives spec.job_of result (spec.with_bytes (view v.now) call room first so_far) }
+    ensures { ReadsAs spec.job_of result (spec.with_bytes (view v.now) call room first so_far) }
 {
     let Some(src) = v.get("src") else {
         return Err(ScriptError::BadScript);
@@ -111,7 +111,7 @@ fn with_bytes(
 }
 
 fn dst_of(alloc: Global, v: &Value) -> Result<Vec<u8>, ScriptError>
-    ensures { Gives (λ bytes. bytes.items) result (option_map_or bytes_of (get (codes "dst") (view v.now)) (Some [])) }
+    ensures { ReadsAs (λ bytes. bytes.items) result (option_map_or bytes_of (get (codes "dst") (view v.now)) (Some [])) }
 {
     match v.get("dst") {
         Some(dst) => bytes_of_json(alloc, dst),

@@ -34,8 +34,8 @@ asks_none = record { start = λ func words memory. refl; return = λ words memor
 resumes_none : CountsNone is_resume
 resumes_none = record { start = λ func words memory. refl; return = λ words memory. refl; post = λ func words. refl; realloc = λ old old_size align new_size answer. refl; trap = λ why len. refl }
 
-pub asked_none : (n : ℕ) → CountsNone (asked n)
-asked_none n = record { start = λ func words memory. refl; return = λ words memory. refl; post = λ func words. refl; realloc = λ old old_size align new_size answer. refl; trap = λ why len. refl }
+pub example_asked_none : (n : ℕ) → CountsNone (asked n)
+example_asked_none n = record { start = λ func words memory. refl; return = λ words memory. refl; post = λ func words. refl; realloc = λ old old_size align new_size answer. refl; trap = λ why len. refl }
 
 module _ (f : Event → ℕ) (none : CountsNone f) where
   in_answers : (answers : List Answer) (trap : Option Trap) → sum_by f (events_of answers trap) ≡ 0
@@ -141,7 +141,7 @@ pub all_in_turns : (n : ℕ) (answers : List Answer) (trap : Option Trap) (func 
 all_in_turns n answers trap func post words memory turns tail events is none (words2, memory2, returned, after, run) =
     let asks = ap (sum_by is_ask) is ∙ started is_ask asks_none answers trap func words memory turns tail in
     let resumes = ap (sum_by is_resume) is ∙ started is_resume resumes_none answers trap func words memory turns tail in
-    let of_n = ap (asks_of n) is ∙ started (asked n) (asked_none n) answers trap func words memory turns tail in
+    let of_n = ap (asks_of n) is ∙ started (asked n) (example_asked_none n) answers trap func words memory turns tail in
     let run_asks = in_run is_ask asks_none func post words2 memory2 returned after events run in
     let run_resumes = in_run is_resume resumes_none func post words2 memory2 returned after events run in
     let run_even = turns_even run.turns in
@@ -150,10 +150,10 @@ all_in_turns n answers trap func post words memory turns tail events is none (wo
     let most = no_more n tail in
     omega (arith, asks, resumes, of_n, run_asks, run_resumes, run_even, even, still, most)
 
-pub none_asked : (n : ℕ) (answers : List Answer) (trap : Option Trap) → asks_of n (events_of answers trap ++ []) ≡ 0
-none_asked n answers trap =
+pub example_none_asked : (n : ℕ) (answers : List Answer) (trap : Option Trap) → asks_of n (events_of answers trap ++ []) ≡ 0
+example_none_asked n answers trap =
     let cut = sum_by-append (asked n) (events_of answers trap) [] in
-    let zero = in_answers (asked n) (asked_none n) answers trap in
+    let zero = in_answers (asked n) (example_asked_none n) answers trap in
     let end : sum_by (asked n) [] ≡ 0 = refl in
     omega (arith, cut, zero, end)
 
@@ -161,6 +161,6 @@ none_asked n answers trap =
 pub all_asks : (n : ℕ) (answers : List Answer) (trap : Option Trap) (func : ℕ) (post : Option ℕ) (turns : List AskTurn) (late : List Answer) (late_trap : Option Trap) (tail later events : List Event) → events ≡ events_of answers trap ++ later
     → MayStart func turns late late_trap tail later → IsOneRun func post events → asks_of n events ≡ asks_of n (events_in turns)
 all_asks n answers trap func post turns late late_trap tail later events is (inl (none, no_turns, no_late, no_trap, no_tail)) run =
-    ap (asks_of n) (is ∙ ap (λ l. events_of answers trap ++ l) none) ∙ (none_asked n answers trap ∙ sym (ap (λ ts. asks_of n (events_in ts)) no_turns))
+    ap (asks_of n) (is ∙ ap (λ l. events_of answers trap ++ l) none) ∙ (example_none_asked n answers trap ∙ sym (ap (λ ts. asks_of n (events_in ts)) no_turns))
 all_asks n answers trap func post turns late late_trap tail later events is (inr s) run =
     all_in_turns n answers trap func post s.words s.memory turns tail events (is ∙ ap (λ l. events_of answers trap ++ l) s.is) s.no_resume run

@@ -1,4 +1,3 @@
 mod Asks
 mod Ticking
-mod Unlogged
 mod Watched

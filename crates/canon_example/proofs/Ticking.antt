@@ -28,7 +28,7 @@ use Rattle.canon_example.specs.Clock.{AreClocks, IsClock, after_ticks, asked, as
 use Rattle.canon_example.specs.Component.{IsNotes}
 use Rattle.canon_example.specs.Watched.{added_events}
 use Rattle.canon_example.specs.declared.Clock.{Clock}
-use Rattle.canon_example.proofs.Asks.{all_asks, asked_none, in_turn}
+use Rattle.canon_example.proofs.Asks.{all_asks, example_asked_none, in_turn}
 use Rattle.canon_example.proofs.Watched.{added_are}
 
 -- ---- counts
@@ -79,7 +79,7 @@ module _ (gives : Giving Clock) (clocks : AreClocks gives) (callee : Callee) (li
   in_turns [] before after same = ap (λ (s : HostSide Clock). s.state.now) same
   in_turns (t ∷ turns) before after (mid, served, rest) =
       let ask : Event = event.Ask t.index t.words t.memory in
-      let count : asked 0 ask + asks_of 0 (events_in turns) ≡ asks_of 0 (events_in (t ∷ turns)) = omega (arith, in_turn (asked 0) (asked_none 0) t turns) in
+      let count : asked 0 ask + asks_of 0 (events_in turns) ≡ asks_of 0 (events_in (t ∷ turns)) = omega (arith, in_turn (asked 0) (example_asked_none 0) t turns) in
       in_turns turns mid after rest ∙ (ap (after_ticks (asks_of 0 (events_in turns))) (in_ask t before mid served)
       ∙ (more_ticks (asked 0 ask) (asks_of 0 (events_in turns)) before.state.now ∙ ap (λ k. after_ticks k before.state.now) count))
 
@@ -97,9 +97,9 @@ module _ (gives : Giving Clock) (clocks : AreClocks gives) (callee : Callee) (li
     ticked (Err e) results ok h = absurd (cc)
 
 -- an answer that is Ok is no refusal before the guest was entered
-pub no_refusal : (answer : Result (Unit {0}) Error) → IsOk answer → IsNone (refused_by answer)
-no_refusal (Ok x) ok = refl
-no_refusal (Err e) ok = absurd (cc)
+pub example_no_refusal : (answer : Result (Unit {0}) Error) → IsOk answer → IsNone (refused_by answer)
+example_no_refusal (Ok x) ok = refl
+example_no_refusal (Err e) ok = absurd (cc)
 
 -- ---- in a component of the notes
 

@@ -12,8 +12,8 @@ use Rattle.canon_memory.specs.declared.event.Event.{Event}
 use Rattle.canon_example_guests.specs.Arena.{CountsAnswer, Counts, Starts}
 use Rattle.canon_example_guests.specs.declared.arena.Arena.{Arena}
 
-abbrev marked : Mark
-marked = record { lawful = true; tidy = true }
+abbrev example_marked : Mark
+example_marked = record { lawful = true; tidy = true }
 
 -- where any events lead anywhere
 pub free : {T : Type 0} (r : Result T GuestFault) → OnAnswer r (Unit {0})
@@ -33,7 +33,7 @@ module _ (a b : Arena) (m n : List ℕ) (same : length n ≡ length m) where
         no_shorter = omega (arith, same);
         traps_later = traps;
         shortages_later = shortages;
-        marks = ap (λ (k : ℕ). replicate k marked) answers ∙ sym (append-nil _);
+        marks = ap (λ (k : ℕ). replicate k example_marked) answers ∙ sym (append-nil _);
         events = refl;
       }
 
@@ -45,22 +45,22 @@ module _ (a b : Arena) (m n : List ℕ) (same : length n ≡ length m) where
   started (Ok step) e events = quiet (omega (arith, ap (λ (x : Arena). x.traps) e)) (omega (arith, ap (λ (x : Arena). x.shortages) e)) (ap (λ (x : Arena). x.answers) e) events
   started (Err f) counts events = faulted f counts events
 
-  pub caused : {T : Type 0} (r : Result T GuestFault) → Starts r a b → HasCause (seen_of a) (seen_of b) r
-  caused (Ok step) e = tt
-  caused (Err fault.Trap) (e, le) = omega (arith, ap (λ (x : Arena). x.traps) e)
-  caused (Err fault.OutOfMemory) (e, le) = omega (arith, ap (λ (x : Arena). x.shortages) e)
+  pub example_caused : {T : Type 0} (r : Result T GuestFault) → Starts r a b → HasCause (seen_of a) (seen_of b) r
+  example_caused (Ok step) e = tt
+  example_caused (Err fault.Trap) (e, le) = omega (arith, ap (λ (x : Arena). x.traps) e)
+  example_caused (Err fault.OutOfMemory) (e, le) = omega (arith, ap (λ (x : Arena). x.shortages) e)
 
 -- and where it stays
 module _ (a b : Arena) (m n : List ℕ) (same : n ≡ m) where
   pub reallocates : (c : Call) (r : Result ℕ GuestFault) → CountsAnswer r a b → IfOk r (λ at. ReallocLaw a.blocks.live b.blocks.live m n c at) → Reallocates (moment (seen_of a) m) (moment (seen_of b) n) c r
   reallocates c (Ok at) e law = (
-    marked,
+    example_marked,
     record {
       goes = record {
         no_shorter = omega (arith, ap length same);
         traps_later = omega (arith, ap (λ (x : Arena). x.traps) e);
         shortages_later = omega (arith, ap (λ (x : Arena). x.shortages) e);
-        marks = ap (λ (x : Arena). replicate x.answers marked) e ∙ replicate_next a.answers marked;
+        marks = ap (λ (x : Arena). replicate x.answers example_marked) e ∙ replicate_next a.answers example_marked;
         events = refl;
       };
       lawful = λ _. law;

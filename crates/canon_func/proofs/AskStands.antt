@@ -23,7 +23,7 @@ use Rattle.canon_func.specs.AskTypes.{given_shape}
 use Rattle.canon_func.specs.AskValues.{asked_results}
 use Rattle.canon_func.specs.Asks.{AskStops}
 use Rattle.canon_func.specs.Call.{CountsWithin}
-use Rattle.canon_func.specs.HostAsks.{HostStops, IsHostAsk, NothingAsked, StopsAt, StopsGiven}
+use Rattle.canon_func.specs.HostAsks.{HostStops, IsHostAsk, NothingAsked, StopsAtAsk, StopsGiven}
 use Rattle.canon_func.specs.Laws.{RefusedAskStands, StandsAsked, StandsBut, result_places}
 use Rattle.canon_func.specs.Stores.{Callee}
 use Rattle.canon_func.specs.declared.error.Error.{Error}
@@ -56,13 +56,13 @@ stands_more places larger from to answers within h = record {
 }
 
 module _ (callee : Callee) (asked : Asked) (at : ℕ) (from to : Moment) (answers : List Answer) where
-  abbrev Stands : Type 0
-  Stands = StandsBut (result_places callee asked at) from to answers
+  abbrev TurnStands : Type 0
+  TurnStands = StandsBut (result_places callee asked at) from to answers
 
-  near_stands : members_flat (asked_results callee asked) ≤ max_results → StandsBut [] from to answers → Stands
+  near_stands : members_flat (asked_results callee asked) ≤ max_results → StandsBut [] from to answers → TurnStands
   near_stands near h = subst (λ b. StandsBut (if b then [] else value_place false (given_shape callee asked) at ∷ []) from to answers) (sym (le-leb (members_flat (asked_results callee asked)) max_results near)) h
 
-  far_stands : max_results < members_flat (asked_results callee asked) → StandsBut (value_place false (given_shape callee asked) at ∷ []) from to answers → Stands
+  far_stands : max_results < members_flat (asked_results callee asked) → StandsBut (value_place false (given_shape callee asked) at ∷ []) from to answers → TurnStands
   far_stands far h = subst (λ b. StandsBut (if b then [] else value_place false (given_shape callee asked) at ∷ []) from to answers) (sym (lt-leb (members_flat (asked_results callee asked)) max_results far)) h
 
   span_within : Within (members_span false (asked_results callee asked) 0 at ∷ []) (value_place false (given_shape callee asked) at ∷ [])
@@ -103,7 +103,7 @@ module _ {T : Type 0} (its : AskForm T) (keeps : KeepsMemory its) (answers_so : 
   given_stands results called (inr (at, place, inl (x, told, exit, quiet))) = quiet_stands quiet
   given_stands results called (inr (at, place, inr (ended, f, low, ends, told, lowers))) = inr (asked, at, is, place, keeps callee asked at from to results low answers trap _ _ f calm lowers)
 
-  host_stands : StopsAt its answers_so callee fuel asked index words from to answers trap before after e → StandsAsked callee index words from to answers
+  host_stands : StopsAtAsk its answers_so callee fuel asked index words from to answers trap before after e → StandsAsked callee index words from to answers
   host_stands (inl (why, left, same, quiet)) = quiet_stands quiet
   host_stands (inr (inl (f, told, lift, same, quiet))) = quiet_stands quiet
   host_stands (inr (inr (params, lifted, lift, inl (wants, left, same, quiet)))) = quiet_stands quiet

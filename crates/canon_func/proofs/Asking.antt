@@ -12,7 +12,7 @@ use Rattle.canon_memory.specs.Journal.{AddsEvents, trap_event}
 use Rattle.canon_ledger.specs.Ledger.{Did, Done, LedgerState}
 use Rattle.canon_ledger.specs.declared.fault.ResourceFault.{ResourceFault}
 use Rattle.canon_ledger.specs.declared.fault.ResourceFault.TheVariants as resource
-use Rattle.canon_lowering.proofs.Lowerings.{goes_none, goes_then}
+use Rattle.canon_lowering.proofs.Lowerings.{goes_none, goes_then, lowering_marks_append}
 use Rattle.canon_lowering.specs.Lowering.{Answer, Trap, events_of, marks_of}
 use Rattle.canon_context.specs.declared.fault.Fault.TheVariants as fault
 use Rattle.canon_context.specs.declared.component.Import.{Import}
@@ -32,14 +32,14 @@ use Rattle.canon_func.specs.Call.{Advances}
 use Rattle.canon_func.specs.HostAsks.{HostStops, IsHostAsk, IsHostServed, NothingAsked, asked_error}
 use Rattle.canon_func.specs.AskValues.{asked_results}
 use Rattle.canon_func.specs.Runs.{Leg, answers_in}
-use Rattle.canon_func.specs.Steps.{MayRun, HostAsked, Proceeds, Resumed, Resumes, RisesAt, SameButHost, Serves, Serving, Started, Stepping, TrapsLate, ask_turn, so_far}
+use Rattle.canon_func.specs.Steps.{MayRun, HostAsked, Proceeds, Resumed, Resumes, RisesAt, SameButHost, ServesAsk, Serving, Started, Stepping, TrapsLate, ask_turn, so_far}
 use Rattle.canon_func.specs.Stores.{Callee, export_callee}
 use Rattle.canon_func.specs.declared.asks.Builtin.{Builtin}
 use Rattle.canon_func.specs.declared.error.Error.{Error}
 use Rattle.canon_func.specs.declared.error.Error.TheVariants as error
 use Rattle.canon_func.proofs.FormLaws.{form_sound}
 use Rattle.canon_func.proofs.HostStopped.{host_tells}
-use Rattle.canon_func.proofs.Turns.{asked_none, counts_first, done_is, goes_advance, marks_then, ran_exhausted, ran_refused, ran_returned}
+use Rattle.canon_func.proofs.Turns.{asked_none, counts_first, done_is, goes_advance, ran_exhausted, ran_refused, ran_returned}
 
 module _ {T : Type 0} (gives : Giving T) (callee : Callee) (limits : Limits) (Lives : List Leg → List Event → Type 0) (words : List ℕ) (before : Moment) (host : HostSide T) where
   -- it wasn't started, or trapped at once
@@ -99,12 +99,12 @@ module _ {T : Type 0} (gives : Giving T) (callee : Callee) (limits : Limits) (Li
   pub has_stopped : (now after : Moment) (served left : HostSide T) (P : List Leg → List Event → Type 0) (N : List Event → Type 0)
       (goes_on : (xs ys : List Event) → P [] xs → N ys → Lives [] (xs ++ ys)) (asks : (legs : List Leg) (xs ys : List Event) → P legs xs → N ys → Lives (legs ++ record { events = xs; live = now.guest.live } ∷ []) ys)
       (count index : ℕ) (asked : List ℕ) (e : Error)
-      → Stepping gives callee limits P words before now host served count (step.Import index asked) → count < limits.turns → Serving now after N (Serves gives callee limits.fuel index asked now after served left (Err e))
+      → Stepping gives callee limits P words before now host served count (step.Import index asked) → count < limits.turns → Serving now after N (ServesAsk gives callee limits.fuel index asked now after served left (Err e))
       → Serving before after (Lives []) (MayRun gives callee limits Lives words before after host left (Err e))
   has_stopped now after served left P N goes_on asks count index asked e h lt second = record {
     answers = answers_in h.turns ++ second.answers;
     events = so_far callee words before h.turns (event.Ask index asked now.bytes ∷ []) ++ second.events;
-    goes = subst (λ ms. Goes before after ms (so_far callee words before h.turns (event.Ask index asked now.bytes ∷ []) ++ second.events)) (sym (marks_then (answers_in h.turns) second.answers))
+    goes = subst (λ ms. Goes before after ms (so_far callee words before h.turns (event.Ask index asked now.bytes ∷ []) ++ second.events)) (sym (lowering_marks_append (answers_in h.turns) second.answers))
         (goes_then before now after _ _ _ second.events h.goes second.goes);
     moves = goes_on _ second.events h.moves second.moves;
     so = inr (ran_refused gives callee limits Lives words before host now after served left P N goes_on asks count index asked e second.answers second.events h lt second.goes second.moves second.so);
@@ -124,7 +124,7 @@ none_asked bytes = (refl, refl, refl)
 module _ {T : Type 0} (gives : Giving T) (callee : Callee) (fuel index : ℕ) (words : List ℕ) (a m b : Moment) (l n : HostSide T) (answers : List Answer) (longer : length a.bytes ≤ length m.bytes) where
   pub resumed_so : (resumed : List ℕ) (result : Result Step Error) (xs ys : List Event) → IsServed gives callee fuel (ask_turn index words a.guest.live a.bytes answers resumed m.bytes) l n → xs ≡ events_of answers None
       → Goes a m (marks_of answers) xs → Goes m b [] ys → (AskStops gives callee fuel (error.Fault fault.OutOfMemory) index words a b answers None l n)
-      → Resumed resumed m b result ys → Serves gives callee fuel index words a b l n result answers (xs ++ ys)
+      → Resumed resumed m b result ys → ServesAsk gives callee fuel index words a b l n result answers (xs ++ ys)
   resumed_so resumed (Ok next) xs ys served is first goes short are =
       let r : Resumes gives callee fuel index words a b l n answers = record { resumed = resumed; memory = m.bytes; served = served; longer = longer; shorter = goes.no_shorter } in
       (r, ap (λ es. es ++ ys) is ∙ ap (λ es. events_of answers None ++ es) are)
@@ -138,7 +138,7 @@ module _ {T : Type 0} (gives : Giving T) (callee : Callee) (fuel index : ℕ) (w
 
 -- its step was taken, and the guest was resumed with the answer
 pub builtin_resumed : {T : Type 0} (gives : Giving T) (callee : Callee) (fuel index : ℕ) (words : List ℕ) (a b : Moment) (l n : HostSide T) (called : Builtin) → IsAskOf callee index words called → (answer : ℕ) (result : Result Step Error) (M : List Event → Type 0)
-    → ask_step callee.types called words l.ledger ≡ record { answer = Ok answer; after = n.ledger } → n ≡ record l { ledger = n.ledger } → Proceeds a b M (Resumed (answer ∷ []) a b result) → Serving a b M (Serves gives callee fuel index words a b l n result)
+    → ask_step callee.types called words l.ledger ≡ record { answer = Ok answer; after = n.ledger } → n ≡ record l { ledger = n.ledger } → Proceeds a b M (Resumed (answer ∷ []) a b result) → Serving a b M (ServesAsk gives callee fuel index words a b l n result)
 builtin_resumed gives callee fuel index words a b l n called is answer result M taken kept second = record {
   answers = [];
   events = second.events;
@@ -153,20 +153,20 @@ builtin_resumed gives callee fuel index words a b l n called is answer result M 
 
 module _ {T : Type 0} (gives : Giving T) (callee : Callee) (fuel : ℕ) (asked : Asked) (index : ℕ) (words : List ℕ) where
   stops_so : (a b : Moment) (l n : HostSide T) (e : Error) (answers : List Answer) (es : List Event) (trap : Option Trap) → HostStops gives callee fuel asked index words a b answers trap l n e → es ≡ events_of answers trap → TrapsLate (length a.bytes) trap → RisesAt e a b
-      → Serves gives callee fuel index words a b l n (Err e) answers es
+      → ServesAsk gives callee fuel index words a b l n (Err e) answers es
   stops_so a b l n (error.ImportFault k f) answers es trap h are late rises = (trap, (host_tells (ask_at gives index) (form_sound (gives.form index)) gives.answers callee fuel asked index words a b answers trap l n (error.ImportFault k f) h, inr (asked, h)), are, late, rises)
   stops_so a b l n (error.HostRefused k) answers es trap h are late rises = (trap, (host_tells (ask_at gives index) (form_sound (gives.form index)) gives.answers callee fuel asked index words a b answers trap l n (error.HostRefused k) h, (asked, h)), are, late, rises)
   stops_so a b l n (error.Fault fault.OutOfMemory) answers es trap h are late rises = (trap, inr (inl (asked, h)), are, late, rises)
   stops_so a b l n e answers es trap h are late rises = absurd (host_tells (ask_at gives index) (form_sound (gives.form index)) gives.answers callee fuel asked index words a b answers trap l n e h)
 
   -- there was no room for its storage
-  pub no_storage : (s : Seen) (bytes : List ℕ) (l : HostSide T) (M : List Event → Type 0) → M [] → IsHostAsk callee index words asked → Serving (moment s bytes) (moment s bytes) M (Serves gives callee fuel index words (moment s bytes) (moment s bytes) l l (Err (error.Fault fault.OutOfMemory)))
-  no_storage s bytes l M stays is = nothing s bytes M (Serves gives callee fuel index words (moment s bytes) (moment s bytes) l l (Err (error.Fault fault.OutOfMemory))) stays
+  pub no_storage : (s : Seen) (bytes : List ℕ) (l : HostSide T) (M : List Event → Type 0) → M [] → IsHostAsk callee index words asked → Serving (moment s bytes) (moment s bytes) M (ServesAsk gives callee fuel index words (moment s bytes) (moment s bytes) l l (Err (error.Fault fault.OutOfMemory)))
+  no_storage s bytes l M stays is = nothing s bytes M (ServesAsk gives callee fuel index words (moment s bytes) (moment s bytes) l l (Err (error.Fault fault.OutOfMemory))) stays
       (None, inr (inl (asked, record { is = is; stops = inl ((form_sound (gives.form index)).short callee asked index _, refl, refl, none_asked bytes); told = refl; counted = refl; same_store = refl })), refl, tt, tt)
 
   -- it wasn't served
   pub asked_stopped : (a b : Moment) (l n : HostSide T) (storage : List ℕ) (e : Error) (M N : List Event → Type 0) → ((es : List Event) → M es → N es)
-      → Serving a b M (HostAsked gives callee fuel asked index words a b l n storage (Err e)) → Serving a b N (Serves gives callee fuel index words a b l n (Err e))
+      → Serving a b M (HostAsked gives callee fuel asked index words a b l n storage (Err e)) → Serving a b N (ServesAsk gives callee fuel index words a b l n (Err e))
   asked_stopped a b l n storage e M N f h = record {
     answers = h.answers;
     events = h.events;
@@ -177,7 +177,7 @@ module _ {T : Type 0} (gives : Giving T) (callee : Callee) (fuel : ℕ) (asked :
 
   -- it was served, and the guest was resumed
   pub then_resumed : (a m b : Moment) (l k n : HostSide T) → n ≡ k → (storage : List ℕ) (count : ℕ) (result : Result Step Error) (M N O : List Event → Type 0) → ((xs ys : List Event) → M xs → N ys → O (xs ++ ys)) → count ≡ row_words (asked_results callee asked)
-      → Serving a m M (HostAsked gives callee fuel asked index words a m l k storage (Ok tt)) → Proceeds m b N (Resumed (take count storage) m b result) → Serving a b O (Serves gives callee fuel index words a b l n result)
+      → Serving a m M (HostAsked gives callee fuel asked index words a m l k storage (Ok tt)) → Proceeds m b N (Resumed (take count storage) m b result) → Serving a b O (ServesAsk gives callee fuel index words a b l n result)
   then_resumed a m b l k n same storage count result M N O f is first second =
       let served : IsHostServed gives callee fuel (ask_turn index words a.guest.live a.bytes first.answers (take count storage) m.bytes) l n =
       subst (λ (q : HostSide T). IsHostServed gives callee fuel (ask_turn index words a.guest.live a.bytes first.answers (take count storage) m.bytes) l q) (sym same)
@@ -193,7 +193,7 @@ module _ {T : Type 0} (gives : Giving T) (callee : Callee) (fuel : ℕ) (asked :
 
 -- the step of an ask was refused
 module _ {T : Type 0} (gives : Giving T) (callee : Callee) (fuel index : ℕ) (words : List ℕ) (a : Moment) (l n : HostSide T) (called : Builtin) (is : IsAskOf callee index words called) (kept : n ≡ record l { ledger = n.ledger }) where
-  pub refused_step : (e : ResourceFault) → Did (ask_step callee.types called words l.ledger) (Err e) l.ledger n.ledger → Serves gives callee fuel index words a a l n (Err (asked_error index (fault.Resource e))) [] []
+  pub refused_step : (e : ResourceFault) → Did (ask_step callee.types called words l.ledger) (Err e) l.ledger n.ledger → ServesAsk gives callee fuel index words a a l n (Err (asked_error index (fault.Resource e))) [] []
   refused_step resource.OutOfMemory (inl h) = (None, inl (record { called = called; is = is; left = inr h.1; kept = kept }, refl, refl), refl, tt, tt)
   refused_step resource.OutOfMemory (inr h) = (None, inl (record { called = called; is = is; left = inl h.1; kept = kept }, refl, refl), refl, tt, tt)
   refused_step e (inl h) = (None, (refl, inl (record { called = called; is = is; why = e; told = refl; refused = done_is (ask_step callee.types called words l.ledger) (Err e) n.ledger h.0 h.1; fault = refl; kept = kept }, none_asked a.bytes)), refl, tt, tt)

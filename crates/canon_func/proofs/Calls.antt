@@ -14,7 +14,7 @@ use Rattle.canon_memory.specs.Guest.{Moment}
 use Rattle.canon_ledger.specs.Ledger.{enter}
 use Rattle.canon_leaves.proofs.Leaves.{leaves_same}
 use Rattle.canon_leaves.specs.Parts.{LeavesTake}
-use Rattle.canon_lowering.proofs.Lowerings.{lawful_second}
+use Rattle.canon_lowering.proofs.Lowerings.{lawful_second, lowering_marks_append}
 use Rattle.canon_model.specs.Homes.{AnyPointer}
 use Rattle.canon_lowering.specs.Attempt.{LowersArgs}
 use Rattle.canon_lowering.specs.Lowering.{Accepted, AllGood, Answer, Ending, Meets, addresses_of, done, short, events_of, marks_of}
@@ -30,7 +30,7 @@ use Rattle.canon_func.specs.Stores.{Callee}
 use Rattle.canon_func.specs.declared.error.Error.{Error}
 use Rattle.canon_func.specs.declared.error.Error.TheVariants as error
 use Rattle.canon_func.proofs.Legs.{asks_after}
-use Rattle.canon_func.proofs.Turns.{counts_earlier, err_same, marks_then, not_ok}
+use Rattle.canon_func.proofs.Turns.{counts_earlier, err_same, not_ok}
 use Rattle.canon_func.proofs.Prefixes.{IsEarly, answers_are, answers_early, asks_answers, each_after, each_answer, each_then, ends_after, grows_answers, grows_from, post_then, prefix_after, return_then, run_after}
 use Rattle.canon_lowering.specs.Stages.{bare}
 
@@ -62,9 +62,9 @@ pub record IsReady (args : Arguments) (callee : Callee) (entry mid : Moment) (wo
   pub requested : (ts : Trees) → args.are ts → MetAll (params_requests false (host_asks callee.encoding) callee.params ts) answers
 
 module _ (args : Arguments) (callee : Callee) (entry mid : Moment) (words : List ℕ) where
-  pub ready : {handles : List ℕ} (low : LowersArgs false (bare entry) (bare mid) (host_texts callee.encoding) callee.params args.are words handles done) → length words ≡ words_within max_params callee.params
+  pub call_ready : {handles : List ℕ} (low : LowersArgs false (bare entry) (bare mid) (host_texts callee.encoding) callee.params args.are words handles done) → length words ≡ words_within max_params callee.params
       → AsksByTypes callee.params done low.answers low.trap → args.small → IsReady args callee entry mid words low.answers handles
-  ready low count quiet small = record {
+  call_ready low count quiet small = record {
     start = record {
       trees = low.shown.it;
       have = low.shown.is;
@@ -143,18 +143,18 @@ each_start P p (e ∷ events) = (tt, each_start P p events)
 
 module _ {T R : Type 0} (args : Arguments) (its : ReturnedValues R) (gives : Giving T) (callee : Callee) (limits : Limits) (P Q : List Leg → List Event → Type 0) (Leaves : List ℕ → List ℕ → Type 0) (entry mid after : Moment) (l0 l1 l2 : HostSide T)
     (same : l1 ≡ record l0 { ledger = l1.ledger }) (words : List ℕ) (answers : List Answer) (given : List ℕ) (later : List Event) where
-  abbrev first : List Event
-  first = events_of answers None
+  abbrev call_first : List Event
+  call_first = events_of answers None
 
-  early : Each IsEarly first
+  early : Each IsEarly call_first
   early = answers_early answers
 
   posted_after : (¬ Each IsNoPost later → Each (OnReturn (λ ws m. (left : ℕ) × (lifted : R) × its.are ws m limits.fuel left lifted)) later)
-      → ¬ Each IsNoPost (first ++ later) → Each (OnReturn (λ ws m. (left : ℕ) × (lifted : R) × its.are ws m limits.fuel left lifted)) (first ++ later)
-  posted_after told some = return_then _ first later early (told (λ none. some (post_then first later early none)))
+      → ¬ Each IsNoPost (call_first ++ later) → Each (OnReturn (λ ws m. (left : ℕ) × (lifted : R) × its.are ws m limits.fuel left lifted)) (call_first ++ later)
+  posted_after told some = return_then _ call_first later early (told (λ none. some (post_then call_first later early none)))
 
   -- answers are no asks
-  asks_later : asks_in (first ++ later) ≡ asks_in later
+  asks_later : asks_in (call_first ++ later) ≡ asks_in later
   asks_later = asks_answers answers None later
 
   at_most : (n m k : ℕ) → n ≡ m → m ≤ k → n ≤ k
@@ -173,10 +173,10 @@ module _ {T R : Type 0} (args : Arguments) (its : ReturnedValues R) (gives : Giv
 
   -- the marks of all answers
   all_marks : (more : List Answer) → mid.guest.marks ≡ entry.guest.marks ++ marks_of answers → after.guest.marks ≡ mid.guest.marks ++ marks_of more → after.guest.marks ≡ entry.guest.marks ++ marks_of (answers ++ more)
-  all_marks more first second = second ∙ (ap (λ ms. ms ++ marks_of more) first ∙ (append_assoc entry.guest.marks (marks_of answers) (marks_of more) ∙ ap (λ ms. entry.guest.marks ++ ms) (sym (marks_then answers more))))
+  all_marks more call_first second = second ∙ (ap (λ ms. ms ++ marks_of more) call_first ∙ (append_assoc entry.guest.marks (marks_of answers) (marks_of more) ∙ ap (λ ms. entry.guest.marks ++ ms) (sym (lowering_marks_append answers more))))
 
-  pub joined : (more : List Answer) (answer : Result R Error) → (((xs : List Event) → P [] xs → Q [] (first ++ xs))
-      × ((leg : Leg) (legs : List Leg) (xs : List Event) → P (leg ∷ legs) xs → Q (record { events = first ++ leg.events; live = leg.live } ∷ legs) xs))
+  pub joined : (more : List Answer) (answer : Result R Error) → (((xs : List Event) → P [] xs → Q [] (call_first ++ xs))
+      × ((leg : Leg) (legs : List Leg) (xs : List Event) → P (leg ∷ legs) xs → Q (record { events = call_first ++ leg.events; live = leg.live } ∷ legs) xs))
       → IsReady args callee entry mid words answers given → LeavesTake (enter l0.ledger) args.parts given l1.ledger → Advances entry mid → Advances mid after
       → after.guest.marks ≡ mid.guest.marks ++ marks_of more → IsRest its gives callee limits P Leaves words mid after l1 l2 answer more later
       → IsCallOf args its Q Leaves gives callee limits entry after l0 l2 answer (events_of answers None ++ later)
@@ -196,20 +196,20 @@ module _ {T R : Type 0} (args : Arguments) (its : ReturnedValues R) (gives : Giv
     late_trap = rest.late_trap;
     tail = rest.tail;
     starts = rest.starts;
-    lived = let (ends, goes) = earlier in asks_after P Q first ends goes rest.turns rest.late_guest.live rest.tail later rest.lived;
-    asks = λ none. at_most (asks_in (first ++ later)) (asks_in later) limits.turns asks_later (rest.asks (λ is. not_ok results error.TurnsExhausted is));
+    lived = let (ends, goes) = earlier in asks_after P Q call_first ends goes rest.turns rest.late_guest.live rest.tail later rest.lived;
+    asks = λ none. at_most (asks_in (call_first ++ later)) (asks_in later) limits.turns asks_later (rest.asks (λ is. not_ok results error.TurnsExhausted is));
     accepted = good_later (length mid.bytes) (length after.bytes) answers on.no_shorter low.start.good;
     marks = all_marks more low.marks marks ∙ ap (λ xs. entry.guest.marks ++ marks_of (answers ++ xs)) rest.answers_are;
     requested = λ ts have. record { left = []; met = low.requested ts have; all = each_start ([] ≡ []) refl later };
     quiet = low.quiet;
     given = given;
     handles = (l1.ledger, took, after_turns rest.turns _ rest.handles);
-    start = each_then _ first later (each_answer _ (λ c a. tt) (λ c n. tt) answers None) (on_start words mid.bytes _ low.start later rest.start);
-    only_results = return_then _ first later early rest.only_results;
+    start = each_then _ call_first later (each_answer _ (λ c a. tt) (λ c n. tt) answers None) (on_start words mid.bytes _ low.start later rest.start);
+    only_results = return_then _ call_first later early rest.only_results;
     posted = posted_after rest.posted;
-    leaves = return_then _ first later early rest.leaves;
-    unstarted = λ other none calm. absurd (rest.started other (each_after _ first later none));
-    returned = λ other none. return_then _ first later early (rest.returned other (each_after _ first later none));
+    leaves = return_then _ call_first later early rest.leaves;
+    unstarted = λ other none calm. absurd (rest.started other (each_after _ call_first later none));
+    returned = λ other none. return_then _ call_first later early (rest.returned other (each_after _ call_first later none));
     cause = tt;
     valid = λ ts have small lawful none calm quiet right accepted. tt;
   }
@@ -229,21 +229,21 @@ module _ {T R : Type 0} (args : Arguments) (its : ReturnedValues R) (gives : Giv
     late_trap = rest.late_trap;
     tail = rest.tail;
     starts = rest.starts;
-    lived = let (ends, goes) = earlier in asks_after P Q first ends goes rest.turns rest.late_guest.live rest.tail later rest.lived;
-    asks = λ none. at_most (asks_in (first ++ later)) (asks_in later) limits.turns asks_later (rest.asks (λ is. none (ap Err (err_same {T = R} e error.TurnsExhausted is))));
+    lived = let (ends, goes) = earlier in asks_after P Q call_first ends goes rest.turns rest.late_guest.live rest.tail later rest.lived;
+    asks = λ none. at_most (asks_in (call_first ++ later)) (asks_in later) limits.turns asks_later (rest.asks (λ is. none (ap Err (err_same {T = R} e error.TurnsExhausted is))));
     accepted = accepted_after its callee limits mid after later rest.tail answers e rest.cause (good_later (length mid.bytes) (length after.bytes) answers on.no_shorter low.start.good);
     marks = all_marks more low.marks marks ∙ ap (λ xs. entry.guest.marks ++ marks_of (answers ++ xs)) rest.answers_are;
     requested = λ ts have. record { left = []; met = low.requested ts have; all = each_start ([] ≡ []) refl later };
     quiet = asks_started callee.params (lowering_ending {R = R} (Err e)) answers low.quiet;
     given = given;
     handles = inr (inr (l1.ledger, took, after_turns rest.turns _ rest.handles));
-    start = each_then _ first later (each_answer _ (λ c a. tt) (λ c n. tt) answers None) (on_start words mid.bytes _ low.start later rest.start);
+    start = each_then _ call_first later (each_answer _ (λ c a. tt) (λ c n. tt) answers None) (on_start words mid.bytes _ low.start later rest.start);
     only_results = tt;
     posted = posted_after rest.posted;
     leaves = tt;
-    unstarted = λ other none calm. absurd (rest.started other (each_after _ first later none));
-    returned = λ other none. return_then _ first later early (rest.returned other (each_after _ first later none));
+    unstarted = λ other none calm. absurd (rest.started other (each_after _ call_first later none));
+    returned = λ other none. return_then _ call_first later early (rest.returned other (each_after _ call_first later none));
     cause = cause_after args its callee limits entry mid after (events_of answers None) later rest.tail e asks_later goes.traps_later rest.cause;
-    valid = λ ts have small lawful none calm few right accepted. rest.valid (lawful_second answers rest.late lawful) none (λ h. calm (ends_after IsTrap first later h))
-        (at_most (asks_in later) (asks_in (first ++ later)) limits.turns (sym asks_later) few) (each_after _ first later right) (accepts_rest rest.turns rest.tail took accepted);
+    valid = λ ts have small lawful none calm few right accepted. rest.valid (lawful_second answers rest.late lawful) none (λ h. calm (ends_after IsTrap call_first later h))
+        (at_most (asks_in later) (asks_in (call_first ++ later)) limits.turns (sym asks_later) few) (each_after _ call_first later right) (accepts_rest rest.turns rest.tail took accepted);
   }

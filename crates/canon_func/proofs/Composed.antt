@@ -27,7 +27,7 @@ use Rattle.canon_func.specs.Steps.{Concluded, Ended, Proceeds, IsLate, IsRest, L
 use Rattle.canon_func.specs.Stores.{Callee}
 use Rattle.canon_func.specs.declared.error.Error.{Error}
 use Rattle.canon_func.specs.declared.error.Error.TheVariants as error
-use Rattle.canon_func.proofs.Calls.{joined, ready}
+use Rattle.canon_func.proofs.Calls.{joined, call_ready}
 use Rattle.canon_func.proofs.Legs.{from_so, returned_more}
 use Rattle.canon_func.specs.Passed.{BlamesRightly, ReadsRightly}
 use Rattle.canon_func.proofs.Refusals.{refused_call, short_call}
@@ -289,7 +289,7 @@ module _ {T R : Type 0} (args : Arguments) (its : ReturnedValues R) (gives : Giv
         so = λ before entered. subst (λ o. IsCallOf args its Lives Leaves gives callee limits a c (record l { ledger = before }) l2 answer (events_of low.answers o ++ ys)) (sym low.lowering.cause)
             (joined args its gives callee limits P Lives Leaves a b c (record l { ledger = before }) l1 l2 same words.items low.answers first.so.0 ys second.answers answer
             (let moved : M (events_of low.answers None) = subst (λ o. M (events_of low.answers o)) low.lowering.cause (subst M first.so.2 first.moves) in
-            (λ es h. f (events_of low.answers None) es moved h, g (events_of low.answers None) moved)) (ready args callee a b words.items low first.so.3 first.so.4 first.so.5)
+            (λ es h. f (events_of low.answers None) es moved h, g (events_of low.answers None) moved)) (call_ready args callee a b words.items low first.so.3 first.so.4 first.so.5)
             (subst (λ k. LeavesTake k args.parts first.so.0 l1.ledger) (sym entered) first.so.6)
             (goes_advance a b _ _ low.lowering.goes) (goes_advance b c _ _ second.goes) second.goes.marks second.so);
       }

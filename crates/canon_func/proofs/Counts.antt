@@ -1,22 +1,17 @@
 -- How many values and words a callee takes, and the first refusal.
-use Rattle.std.proofs.Common.{Bool, List, None, Option, Some, [], ap, arith, false, length, refl, suc, sym, true, ℕ, ⊎_elim, ◌&&◌, ◌==◌, ◌∙◌, ◌∷◌, ◌≡◌, ◌≤◌, ◌<◌}
+use Rattle.std.proofs.Common.{Bool, None, Option, Some, ap, arith, false, refl, sym, true, ℕ, ⊎_elim, ◌&&◌, ◌==◌, ◌∙◌, ◌∷◌, ◌≡◌, ◌≤◌, ◌<◌}
 use Rattle.std.specs.Prelude.{nat_eq, slice_get, unwrap_or, ◌≢◌}
 use Rattle.std.specs.Option.{SomeIff}
 use Rattle.std.proofs.lemmas.Bool.{cases_lt, le-leb, lt-leb}
 use Rattle.std.proofs.lemmas.Bool.Decides.{nat_tests}
 use Rattle.canon_model.specs.Layout.{flat, members_flat}
 use Rattle.canon_model.specs.Shape.{Members, member_count, of_places, product}
-use Rattle.canon_types.specs.Table.{TypeTable, members_of}
-use Rattle.canon_types.specs.declared.types.InterfaceType.{InterfaceType}
+use Rattle.canon_types.specs.Table.{TypeTable}
 use Rattle.canon_context.specs.declared.component.Component.{Component}
 use Rattle.canon_context.specs.declared.component.Export.{Export}
 use Rattle.canon_func.specs.Call.{call_refusal, entry_refusal, words_within}
 use Rattle.canon_func.specs.Stores.{Callee, export_callee, params_in, results_in}
 use Rattle.canon_func.specs.declared.error.Error.TheVariants as error
-
-pub member_count-members_of : (t : TypeTable) (types : List InterfaceType) → member_count (members_of t types) ≡ length types
-member_count-members_of t [] = refl
-member_count-members_of t (x ∷ xs) = ap suc (member_count-members_of t xs)
 
 -- ---- words
 
@@ -34,10 +29,9 @@ counted : (most n : ℕ) (o : Option ℕ) (ms : Members) → n ≡ members_flat 
 counted most n (Some x) ms e few h = h.1 ∙ (e ∙ sym (within_least most ms (omega (arith, h.0.0))))
 counted most n None ms e few h = sym (⊎_elim (λ far. within_more most ms far) (λ near. absurd (h (omega arith, omega arith))) (cases_lt most (members_flat ms)))
 
-pub words_counted : (most : ℕ) (o : Option ℕ) (ms : Members) → most ≤ 16 → SomeIff o ((flat (product of_places ms) ≤ most) × (flat (product of_places ms) ≤ 16)) (flat (product of_places ms)) → unwrap_or o 1 ≡ words_within most ms
-words_counted most o ms few h = counted most (flat (product of_places ms)) o ms (product_flat ms) few h
+pub call_words_counted : (most : ℕ) (o : Option ℕ) (ms : Members) → most ≤ 16 → SomeIff o ((flat (product of_places ms) ≤ most) × (flat (product of_places ms) ≤ 16)) (flat (product of_places ms)) → unwrap_or o 1 ≡ words_within most ms
+call_words_counted most o ms few h = counted most (flat (product of_places ms)) o ms (product_flat ms) few h
 
--- the tuple's values are those of its members
 -- ---- refusals
 
 module _ (callee : Callee) (params results : ℕ) (trapped : Bool) where

@@ -42,8 +42,8 @@ module _ {T G R : Type 0} (its : ReturnedValues R) (gives : Giving T) (callee : 
 
   module _ (law : ReadsRightly callee its) (goes_on : (a b c : GuestIn G) (xs ys : List Event) → moves a xs b → moves b ys c → moves a (xs ++ ys) c) (first : Ran) (lifted : Parts T G) (same : SameButLedger ran lifted) where
     -- the results weren't lifted
-    pub unlifted : (U : Type 0) (f : Fault) → ((a : GuestIn G) → moves a [] a) → Lifted its limits.fuel returned ran.memory ran.ledger lifted.ledger (Err f) → Rest {U = U} (Err (error.Fault f)) (Err (error.Fault f)) lifted
-    unlifted U f stays h =
+    pub call_unlifted : (U : Type 0) (f : Fault) → ((a : GuestIn G) → moves a [] a) → Lifted its limits.fuel returned ran.memory ran.ledger lifted.ledger (Err f) → Rest {U = U} (Err (error.Fault f)) (Err (error.Fault f)) lifted
+    call_unlifted U f stays h =
         let e : Error = error.Fault f in
         let N : List Event → Type 0 = λ es. OnAnswered {T = U} (Err e) (moves (guest_of ran) es (guest_of ran)) in
         subst (λ k. Rest {U = U} (Err e) (Err e) k) (sym same)

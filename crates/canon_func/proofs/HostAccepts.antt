@@ -18,7 +18,7 @@ use Rattle.canon_host.specs.HostSide.{Answering, HostSide}
 use Rattle.canon_host.specs.declared.asked.Asked.{Asked}
 use Rattle.canon_func.specs.AskForms.{AskForm}
 use Rattle.canon_func.specs.AskValues.{asked_results}
-use Rattle.canon_func.specs.HostAsks.{AcceptsGiven, AcceptsHostBy, HostStopsBy, IsHostAsk, IsUnrefused, StopsAt, StopsCalled, StopsGiven, asked_error}
+use Rattle.canon_func.specs.HostAsks.{AcceptsGiven, AcceptsHostBy, HostStopsBy, IsHostAsk, IsUnrefused, StopsAtAsk, StopsCalled, StopsGiven, asked_error}
 use Rattle.canon_func.specs.Stores.{Callee}
 use Rattle.canon_func.specs.declared.error.Error.{Error}
 use Rattle.canon_func.specs.declared.error.Error.TheVariants as error
@@ -71,7 +71,7 @@ module _ {T : Type 0} (its : AskForm T) (sound : AskSound its) (lawful : AskLawf
   declined_excluded e unrefused (inr is) = absurd (unrefused index is)
 
   ends_so : (e : Error) → AcceptsHostBy its answers_so callee fuel asked index words from.bytes before → IsUnrefused e
-      → StopsAt its answers_so callee fuel asked index words from to answers trap before after e → e ≡ error.Fault fault.OutOfMemory
+      → StopsAtAsk its answers_so callee fuel asked index words from to answers trap before after e → e ≡ error.Fault fault.OutOfMemory
   ends_so e ok unrefused (inl (wants, left, same, quiet)) = declined_excluded e unrefused (sound.declined callee asked index before.log e wants)
   ends_so e ok unrefused (inr (inl (f, told, lift, same, quiet))) = told ∙ sound.lift_excluded before.store callee fuel asked words from.bytes (enter before.ledger) after.ledger index f ok.liftable lift
   ends_so e ok unrefused (inr (inr (params, lifted, lift, stops))) = called_excluded params lifted e ok lift unrefused stops

@@ -44,8 +44,8 @@ use Rattle.canon_lowering.proofs.Attempts.{attempt_bare, bare_asked}
 
 -- ---- words
 
-pub row_is : (n : ℕ) (ws : List ℕ) → take (if nat_le n max_results then n else 0) ws ≡ (if nat_le n max_results then take n ws else [])
-row_is n ws = ⊎_elim (λ far. rw (lt-leb n max_results far) refl) (λ near. rw (le-leb n max_results near) refl) (cases_lt max_results n)
+pub call_row_is : (n : ℕ) (ws : List ℕ) → take (if nat_le n max_results then n else 0) ws ≡ (if nat_le n max_results then take n ws else [])
+call_row_is n ws = ⊎_elim (λ far. rw (lt-leb n max_results far) refl) (λ near. rw (le-leb n max_results near) refl) (cases_lt max_results n)
 
 pub pointer_counts : (a n k : ℕ) → k ≡ a + (if nat_le n max_results then 0 else 1) → (a ≤ k) × (max_results < n → a < k)
 pointer_counts a n k e = (

@@ -33,14 +33,14 @@ use Rattle.canon_host.specs.declared.error.HostError.TheVariants as host
 use Rattle.canon_func.specs.AskForms.{AskForm}
 use Rattle.canon_func.specs.AskValues.{asked_params, asked_results}
 use Rattle.canon_func.specs.Call.{OnAnswered}
-use Rattle.canon_func.specs.HostAsks.{RefusalCounted, HostStopsBy, IsHostAsk, NothingAsked, StopsAt, StopsGiven, asked_error, asked_exit, called_on, host_error, stopped_error}
+use Rattle.canon_func.specs.HostAsks.{RefusalCounted, HostStopsBy, IsHostAsk, NothingAsked, StopsAtAsk, StopsGiven, asked_error, asked_exit, called_on, host_error, stopped_error}
 use Rattle.canon_func.specs.Steps.{HostAskedBy, RisesAt, Serving}
 use Rattle.canon_func.specs.Stores.{Callee, export_callee}
 use Rattle.canon_func.specs.declared.error.Error.{Error}
 use Rattle.canon_func.specs.declared.error.Error.TheVariants as error
 use Rattle.canon_func.proofs.AskLaws.{AskSound, FollowsSteps}
 use Rattle.canon_func.proofs.Composed.{answers as answered}
-use Rattle.canon_func.proofs.HostLowered.{CountsHost, fault_counted, host_counted, no_rise, no_trap_there, pointer_counts, row_is, stopped_counted}
+use Rattle.canon_func.proofs.HostLowered.{CountsHost, fault_counted, host_counted, no_rise, no_trap_there, pointer_counts, call_row_is, stopped_counted}
 use Rattle.canon_func.proofs.Turns.{done_is}
 
 -- how it ended: on the way from one core to another, with the words of the results in storage
@@ -57,8 +57,8 @@ module _ {T G P S : Type 0} (its : AskForm T) (sound : AskSound its) (seen : G �
   abbrev callee : Callee
   callee = export_callee a.component export
 
-  abbrev before : HostSide T
-  before = host_side a log refusals
+  abbrev call_before : HostSide T
+  call_before = host_side a log refusals
 
   abbrev after : HostSide T
   after = host_side b log2 refusals2
@@ -98,10 +98,10 @@ module _ {T G P S : Type 0} (its : AskForm T) (sound : AskSound its) (seen : G �
   Ends r = Out its seen moves answers_so log log2 refusals refusals2 index a b export asked words storage2 r
 
   abbrev Stops : List Answer → Option Trap → Error → Type 0
-  Stops answers trap e = HostStopsBy its answers_so callee a.fuel asked index words (moment_of seen a) (moment_of seen b) answers trap before after e
+  Stops answers trap e = HostStopsBy its answers_so callee a.fuel asked index words (moment_of seen a) (moment_of seen b) answers trap call_before after e
 
   abbrev At : List Answer → Option Trap → Error → Type 0
-  At answers trap e = StopsAt its answers_so callee a.fuel asked index words (moment_of seen a) (moment_of seen b) answers trap before after e
+  At answers trap e = StopsAtAsk its answers_so callee a.fuel asked index words (moment_of seen a) (moment_of seen b) answers trap call_before after e
 
   called_core : (s : T) (l : LedgerState) (lifted called : Parts T G) → lifted ≡ record (with_host s l) { ledger = lifted.ledger } → called ≡ record lifted { state = called.state; ledger = called.ledger } → called ≡ with_host called.state called.ledger
   called_core s l lifted called first second = second ∙ ap (λ (k : Parts T G). record k { state = called.state; ledger = called.ledger }) first
@@ -164,7 +164,7 @@ module _ {T G P S : Type 0} (its : AskForm T) (sound : AskSound its) (seen : G �
             answered = seen b.guest;
             lives = refl;
             lowers = subst (λ o. its.lowers callee asked at (moment_of seen a) (moment_of seen b) told.results (take (members_flat (asked_results callee asked)) storage2) by.answers o (leave ended.ledger) b.ledger (Ok tt)) none by.lowers;
-            resumed = row_is (members_flat (asked_results callee asked)) storage2;
+            resumed = call_row_is (members_flat (asked_results callee asked)) storage2;
             count = length-take-le (row_words (asked_results callee asked)) storage2 room;
             told = logs ∙ law.logs params told same;
             refused_none = none_refused;
@@ -201,7 +201,7 @@ module _ {T G P S : Type 0} (its : AskForm T) (sound : AskSound its) (seen : G �
 
     -- after the call
     stopped_given : (s : T) (l : LedgerState) (results : its.Results) (x : Fault) → refusals2 ≡ refusals
-        → (from : (answers : List Answer) (trap : Option Trap) → StopsGiven its answers_so callee a.fuel asked index words (moment_of seen a) (moment_of seen b) answers trap before after (asked_error index x) results l → At answers trap (asked_error index x))
+        → (from : (answers : List Answer) (trap : Option Trap) → StopsGiven its answers_so callee a.fuel asked index words (moment_of seen a) (moment_of seen b) answers trap call_before after (asked_error index x) results l → At answers trap (asked_error index x))
         → ConcludesBy how.lowers asked (with_host s l) results (words ++ pad) (Err x) b storage2 → Ends (Err (asked_error index x))
     stopped_given s l results x none_refused from (inl (none, same, words_same)) =
         quiet s l (asked_error index x) (fault_counted index x none_refused) same (no_rise index x (moment_of seen a) (moment_of seen b) (no_trap_there x _ _ _ _ none.1))
@@ -307,8 +307,8 @@ row_fits : (n k : ℕ) → (n ≤ max_results → n ≤ k) → (if nat_le n max_
 row_fits n k h = ⊎_elim (λ far. rw (lt-leb n max_results far) (omega arith)) (λ near. rw (le-leb n max_results near) (h near)) (cases_lt max_results n)
 
 -- there is room for results in a row, also in as many words
-pub has_room : (params results : Members) (words words2 : List ℕ) → length words2 ≡ length words → AreEnough params results words → row_words results ≤ length words2
-has_room params results words words2 same room = let fits : row_words results ≤ length words = row_fits (members_flat results) (length words) room.room in omega (arith, fits, same)
+pub call_has_room : (params results : Members) (words words2 : List ℕ) → length words2 ≡ length words → AreEnough params results words → row_words results ≤ length words2
+call_has_room params results words words2 same room = let fits : row_words results ≤ length words = row_fits (members_flat results) (length words) room.room in omega (arith, fits, same)
 
 -- of a function that was found
 pub found_asked : {A : Type 0} (o : Option A) (x : A) (P : A → Type 0) → o ≡ Some x → IfSome o P → P x

@@ -11,7 +11,7 @@ use Rattle.canon_context.specs.declared.host.HostStop.TheVariants as stop
 use Rattle.canon_host.specs.HostSide.{Answering, HostSide}
 use Rattle.canon_host.specs.declared.asked.Asked.{Asked}
 use Rattle.canon_func.specs.AskForms.{AskForm}
-use Rattle.canon_func.specs.HostAsks.{HostStopsBy, StopsAt, StopsGiven, asked_error, stopped_error}
+use Rattle.canon_func.specs.HostAsks.{HostStopsBy, StopsAtAsk, StopsGiven, asked_error, stopped_error}
 use Rattle.canon_func.specs.Stores.{Callee}
 use Rattle.canon_func.specs.declared.error.Error.{Error}
 use Rattle.canon_func.specs.declared.error.Error.TheVariants as error
@@ -37,19 +37,19 @@ trap_no_stop n index stop.Refused e = cc
 trap_no_stop n index stop.OutOfMemory e = cc
 
 -- it is reported with the number of its import, except out of memory
-abbrev pub IsTold : ℕ → Error → Type 0
-IsTold index (error.ImportFault k f) = k ≡ index
-IsTold index (error.HostRefused k) = k ≡ index
-IsTold index (error.Fault fault.OutOfMemory) = Unit {0}
-IsTold index e = ⊥
+abbrev pub IsStopTold : ℕ → Error → Type 0
+IsStopTold index (error.ImportFault k f) = k ≡ index
+IsStopTold index (error.HostRefused k) = k ≡ index
+IsStopTold index (error.Fault fault.OutOfMemory) = Unit {0}
+IsStopTold index e = ⊥
 
-asked_told : (index : ℕ) (f : Fault) → IsTold index (asked_error index f)
+asked_told : (index : ℕ) (f : Fault) → IsStopTold index (asked_error index f)
 asked_told index fault.OutOfMemory = tt
 asked_told index (fault.Resource resource.OutOfMemory) = tt
 asked_told index (fault.Resource r) = refl
 asked_told index f = refl
 
-stopped_told : (index : ℕ) (why : HostStop) → IsTold index (stopped_error index why)
+stopped_told : (index : ℕ) (why : HostStop) → IsStopTold index (stopped_error index why)
 stopped_told index stop.Refused = refl
 stopped_told index stop.OutOfMemory = tt
 
@@ -61,31 +61,31 @@ module _ {T : Type 0} (its : AskForm T) (sound : AskSound its) (answers_so : Ans
   Given e results called = StopsGiven its answers_so callee fuel asked index words from to answers trap before after e results called
 
   abbrev At : Error → Type 0
-  At e = StopsAt its answers_so callee fuel asked index words from to answers trap before after e
+  At e = StopsAtAsk its answers_so callee fuel asked index words from to answers trap before after e
 
   abbrev Stops : Error → Type 0
   Stops e = HostStopsBy its answers_so callee fuel asked index words from to answers trap before after e
 
-  told_as : (e d : Error) → e ≡ d → IsTold index d → IsTold index e
-  told_as e d is told = subst (λ x. IsTold index x) (sym is) told
+  told_as : (e d : Error) → e ≡ d → IsStopTold index d → IsStopTold index e
+  told_as e d is told = subst (λ x. IsStopTold index x) (sym is) told
 
-  declined_told : (e : Error) → (e ≡ error.Fault fault.OutOfMemory) ⊎ (e ≡ error.HostRefused index) → IsTold index e
+  declined_told : (e : Error) → (e ≡ error.Fault fault.OutOfMemory) ⊎ (e ≡ error.HostRefused index) → IsStopTold index e
   declined_told e (inl is) = told_as e (error.Fault fault.OutOfMemory) is tt
   declined_told e (inr is) = told_as e (error.HostRefused index) is refl
 
-  given_told : (e : Error) (results : its.Results) (called : LedgerState) → Given e results called → IsTold index e
+  given_told : (e : Error) (results : its.Results) (called : LedgerState) → Given e results called → IsStopTold index e
   given_told e results called (inl (f, told, bad, left, quiet)) = told_as e (asked_error index f) told (asked_told index f)
   given_told e results called (inr (at, place, inl (x, told, exit, quiet))) = told_as e (asked_error index (fault.Resource x)) told (asked_told index (fault.Resource x))
   given_told e results called (inr (at, place, inr (ended, f, low, ends, told, lowers))) = told_as e (asked_error index f) told (asked_told index f)
 
-  told_so : (e : Error) → At e → IsTold index e
+  told_so : (e : Error) → At e → IsStopTold index e
   told_so e (inl (wants, left, same, quiet)) = declined_told e (sound.declined callee asked index before.log e wants)
   told_so e (inr (inl (f, told, lift, same, quiet))) = told_as e (asked_error index f) told (asked_told index f)
   told_so e (inr (inr (params, lifted, lift, inl (wants, left, same, quiet)))) = told_as e (error.Fault fault.OutOfMemory) wants tt
   told_so e (inr (inr (params, lifted, lift, inr (inl (why, told, steps, gave, quiet))))) = told_as e (stopped_error index why) told (stopped_told index why)
   told_so e (inr (inr (params, lifted, lift, inr (inr (results, called, steps, gave, given))))) = given_told e results called given
 
-  pub host_tells : (e : Error) → Stops e → IsTold index e
+  pub host_tells : (e : Error) → Stops e → IsStopTold index e
   host_tells e h = told_so e h.stops
 
   -- ---- a function that refused: nothing was asked for

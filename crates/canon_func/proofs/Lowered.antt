@@ -43,8 +43,8 @@ pub params_are : (t u : TypeTable) (i : ℕ) (f : TypeFunc) → u ≡ t → slic
 params_are t u i f same found = sym (ap (params_in t) (ap (λ v. slice_get v.funcs i) (sym same) ∙ found))
 
 -- words written over as many
-pub written : (words dst : List ℕ) (n : ℕ) → n ≡ length dst → take n (dst ++ drop (length dst) words) ≡ dst
-written words dst n e = ap (λ k. take k (dst ++ drop (length dst) words)) e ∙ take-append_seam dst (drop (length dst) words)
+pub call_written : (words dst : List ℕ) (n : ℕ) → n ≡ length dst → take n (dst ++ drop (length dst) words) ≡ dst
+call_written words dst n e = ap (λ k. take k (dst ++ drop (length dst) words)) e ∙ take-append_seam dst (drop (length dst) words)
 
 -- what was lowered in a context, said of the core that it was made from
 pub lowers_at : {T G X : Type 0} (seen : G → Seen) (moves : GuestIn G → List Event → GuestIn G → Type 0) (core made after b : Parts T G) (options own tuple : ℕ) (params : List Val) (words : List ℕ) (result : Result X Fault)

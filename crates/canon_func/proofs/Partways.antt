@@ -18,9 +18,9 @@ use Rattle.canon_host.specs.HostSide.{Answering, Giving, HostSide}
 use Rattle.canon_host.specs.declared.asked.Asked.{Asked}
 use Rattle.canon_func.specs.Asks.{AskStops, BuiltinIsShort, ask_step, builtin_at}
 use Rattle.canon_func.specs.Call.{HandlesPassOf, LiftsReturned, StopsReturned, StopsStartedOf, dynamic, dynamic_results, scope_exit, stopped_by}
-use Rattle.canon_func.specs.HostAsks.{HostStops, IsHostAsk, StopsAt, StopsCalled, StopsGiven, asked_exit}
+use Rattle.canon_func.specs.HostAsks.{HostStops, IsHostAsk, StopsAtAsk, StopsCalled, StopsGiven, asked_exit}
 use Rattle.canon_func.specs.AskForms.{AskForm, ask_at}
-use Rattle.canon_func.specs.Laws.{AskPartway, AskThrough, GoesOn, HostCalled, HostPartway, HostThrough, PassesPartway, RefusedIsPartway, ask_steps, host_asked_steps, host_given_steps, last_steps}
+use Rattle.canon_func.specs.Laws.{TurnPartway, TurnThrough, GoesOn, HostCalled, HostPartway, HostThrough, PassesPartway, RefusedTurnIsPartway, ask_steps, host_asked_steps, host_given_steps, last_steps}
 use Rattle.canon_func.specs.Passing.{Arguments, ReturnedValues}
 use Rattle.canon_func.specs.Runs.{AskTurn, BeginsInAsk, Each, IsNoStart, SomeReturn}
 use Rattle.canon_func.specs.Steps.{ask_turn}
@@ -70,8 +70,8 @@ module _ {T : Type 0} (its : AskForm T) (sound : AskSound its) (lawful : AskLawf
   abbrev FirstSteps : List LedgerStep
   FirstSteps = host_asked_steps its before.store callee asked words from.bytes before.ledger
 
-  abbrev Stopped : Type 0
-  Stopped = HostPartway its answers_so callee fuel index words from.bytes before e after.ledger
+  abbrev PartwayStopped : Type 0
+  PartwayStopped = HostPartway its answers_so callee fuel index words from.bytes before e after.ledger
 
   abbrev Called : its.Params → LedgerState → LedgerState → Type 0
   Called = HostCalled its answers_so callee fuel index words from.bytes before asked
@@ -92,20 +92,20 @@ module _ {T : Type 0} (its : AskForm T) (sound : AskSound its) (lawful : AskLawf
       (leaves_partway (stop_of f) (leave ended) after.ledger (its.gives callee asked results) (sound.ungiven callee asked at from to results low answers trap (leave ended) after.ledger f lowers))))
 
   after_lifting : (params : its.Params) (lifted : LedgerState) → its.lifts before.store callee fuel asked words from.bytes (enter before.ledger) (Ok params) lifted → Through before.ledger FirstSteps lifted
-      → StopsCalled its answers_so callee fuel asked index words from to answers trap before after e params lifted → Stopped
+      → StopsCalled its answers_so callee fuel asked index words from to answers trap before after e params lifted → PartwayStopped
   after_lifting params lifted lift first (inl (short, left, same, quiet)) = (asked, is, inl (whole_first lifted first left))
   after_lifting params lifted lift first (inr (inl (why, told, steps, gave, quiet))) = (asked, is, inr (inl (params, lifted, why, after.state, told, record { lifts = lift; first = first; steps = steps }, gave)))
   after_lifting params lifted lift first (inr (inr (results, called, steps, gave, given))) =
       (asked, is, inr (inr (params, results, lifted, called, after.state, record { lifts = lift; first = first; steps = steps }, gave, given_partway results called given)))
 
   called_partway : (params : its.Params) (lifted : LedgerState) → its.lifts before.store callee fuel asked words from.bytes (enter before.ledger) (Ok params) lifted
-      → StopsCalled its answers_so callee fuel asked index words from to answers trap before after e params lifted → Stopped
+      → StopsCalled its answers_so callee fuel asked index words from to answers trap before after e params lifted → PartwayStopped
   called_partway params lifted lift stops =
       let taken = lawful.taken before.store callee fuel asked words from.bytes (enter before.ledger) lifted params lift in
       let first : Through before.ledger FirstSteps lifted = (0, refl, leaves_through (enter before.ledger) lifted (its.parts before.store callee asked words from.bytes) taken.0 taken.1) in
       after_lifting params lifted lift first stops
 
-  host_partway : StopsAt its answers_so callee fuel asked index words from to answers trap before after e → (after.ledger ≡ before.ledger) ⊎ Stopped
+  host_partway : StopsAtAsk its answers_so callee fuel asked index words from to answers trap before after e → (after.ledger ≡ before.ledger) ⊎ PartwayStopped
   host_partway (inl (why, left, same, quiet)) = inl left
   host_partway (inr (inl (f, told, lift, same, quiet))) =
       let unlifted = sound.unlifted before.store callee fuel asked words from.bytes (enter before.ledger) after.ledger f lift in
@@ -132,27 +132,27 @@ through_host its answers_so callee fuel t l n e h = (
 
 module _ {T : Type 0} (gives : Giving T) (lawful : (n : ℕ) → IsLawful (gives.form n)) (callee : Callee) (fuel : ℕ) where
   stops_partway : (asked : Asked) (index : ℕ) (words : List ℕ) (from to : Moment) (answers : List Answer) (trap : Option Trap) (l n : HostSide T) (e : Error) → HostStops gives callee fuel asked index words from to answers trap l n e
-      → AskPartway gives callee fuel e index words from.bytes l n.ledger
+      → TurnPartway gives callee fuel e index words from.bytes l n.ledger
   stops_partway asked index words from to answers trap l n e h =
       ⊎_elim (λ same. inl same) (λ part. inr (inr part))
       (host_partway (ask_at gives index) (form_sound (gives.form index)) (form_lawful (gives.form index) (lawful index)) gives.answers callee fuel asked index words from to answers trap l n e h.is h.stops)
 
-  served_partway : (t : AskTurn) (l n : HostSide T) (e : Error) → AskThrough gives callee fuel t l n → AskPartway gives callee fuel e t.index t.words t.memory l n.ledger
+  served_partway : (t : AskTurn) (l n : HostSide T) (e : Error) → TurnThrough gives callee fuel t l n → TurnPartway gives callee fuel e t.index t.words t.memory l n.ledger
   served_partway t l n e (inl (builtin, through)) = inr (inl (builtin.called, builtin.is.known, through_partway l.ledger n.ledger (ask_steps callee builtin.called t.words) through))
   served_partway t l n e (inr h) = inr (inr (through_host (ask_at gives t.index) gives.answers callee fuel t l n e h))
 
   -- ---- any ask
 
-  builtin_partway : (e : Error) (index : ℕ) (words memory : List ℕ) (called : Builtin) (l : HostSide T) (n : LedgerState) → builtin_at callee index ≡ Some called → n ≡ (ask_step callee.types called words l.ledger).after → AskPartway gives callee fuel e index words memory l n
+  builtin_partway : (e : Error) (index : ℕ) (words memory : List ℕ) (called : Builtin) (l : HostSide T) (n : LedgerState) → builtin_at callee index ≡ Some called → n ≡ (ask_step callee.types called words l.ledger).after → TurnPartway gives callee fuel e index words memory l n
   builtin_partway e index words memory called l n known left = inr (inl (called, known, one_step l.ledger n _ _ refl left))
 
   short_partway : (e : Error) (index : ℕ) (words memory : List ℕ) (l n : HostSide T) (h : BuiltinIsShort callee index words l n) → (n.ledger ≡ l.ledger) ⊎ (n.ledger ≡ (ask_step callee.types h.called words l.ledger).after)
-      → AskPartway gives callee fuel e index words memory l n.ledger
+      → TurnPartway gives callee fuel e index words memory l n.ledger
   short_partway e index words memory l n h (inl same) = inl same
   short_partway e index words memory l n h (inr left) = builtin_partway e index words memory h.called l n.ledger h.is.known left
 
   ask_stops : (e : Error) (l n : HostSide T) (index : ℕ) (words : List ℕ) (from to : Moment) (answers : List Answer) (trap : Option Trap) → AskStops gives callee fuel e index words from to answers trap l n
-      → AskPartway gives callee fuel e index words from.bytes l n.ledger
+      → TurnPartway gives callee fuel e index words from.bytes l n.ledger
   ask_stops error.TurnsExhausted l n index words from to answers trap h = inl (ap (λ s. s.ledger) h.0)
   ask_stops (error.UnknownImport k) l n index words from to answers trap h = inl (ap (λ s. s.ledger) h.2)
   ask_stops error.WrongWords l n index words from to answers trap h = inl (ap (λ s. s.ledger) h.3)
@@ -198,6 +198,6 @@ module _ {T R : Type 0} (args : Arguments) (its : ReturnedValues R) (gives : Giv
   passes_partway turns late_guest to late trap before after given e events tail (inr (inr (lowered, took, (served, serves, stops)))) =
       inr (served, call_through gives lawful callee fuel args.parts turns before served given lowered took serves, goes_on e late_guest to late trap served after tail stops)
 
-pub refused_is_partway : {T : Type 0} (gives : Giving T) → ((n : ℕ) → IsLawful (gives.form n)) → RefusedIsPartway gives
+pub refused_is_partway : {T : Type 0} (gives : Giving T) → ((n : ℕ) → IsLawful (gives.form n)) → RefusedTurnIsPartway gives
 refused_is_partway gives lawful callee fuel params turns late_guest to late trap before after given e results events tail h =
     passes_partway (dynamic callee params) (dynamic_results callee) gives lawful callee fuel (dynamic_reads callee) turns late_guest to late trap before after given e events tail h

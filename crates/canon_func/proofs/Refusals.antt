@@ -111,10 +111,10 @@ module _ {T R : Type 0} (args : Arguments) (its : ReturnedValues R) (gives : Giv
       (record { late = tt; accepted = tt; cause = tt; valid = λ ts have small lawful calm accepted. refl })
 
 module _ {T R : Type 0} (args : Arguments) (its : ReturnedValues R) (gives : Giving T) (callee : Callee) (limits : Limits) (Lives : List Leg → List Event → Type 0) (Leaves : List ℕ → List ℕ → Type 0) (law : BlamesRightly args) (entry after : Moment) (before left : HostSide T) where
-  abbrev Low : List ℕ → List ℕ → Ending → Type 0
-  Low words handles ending = LowersArgs false (bare entry) (bare after) (host_texts callee.encoding) callee.params args.are words handles ending
+  abbrev RefusalLow : List ℕ → List ℕ → Ending → Type 0
+  RefusalLow words handles ending = LowersArgs false (bare entry) (bare after) (host_texts callee.encoding) callee.params args.are words handles ending
 
-  abbrev Why : (f : Fault) (ending : Ending) (words handles : List ℕ) → Low words handles ending → Type 0
+  abbrev Why : (f : Fault) (ending : Ending) (words handles : List ℕ) → RefusalLow words handles ending → Type 0
   Why f ending words handles low = Refused args its gives callee limits entry after before (events_of low.answers low.trap) low.answers low.trap f
 
   -- no request trapped, and the value is to blame
@@ -131,7 +131,7 @@ module _ {T R : Type 0} (args : Arguments) (its : ReturnedValues R) (gives : Giv
   none_started answers trap = each_answer IsNoStart (λ c a. tt) (λ c n. tt) answers trap
 
   -- memory ran out, in the guest or in the ledger
-  short_by : (ending : Ending) (words handles : List ℕ) (low : Low words handles ending) → low.trap ≡ None → Accepted short (length after.bytes) low.answers → Why fault.OutOfMemory ending words handles low
+  short_by : (ending : Ending) (words handles : List ℕ) (low : RefusalLow words handles ending) → low.trap ≡ None → Accepted short (length after.bytes) low.answers → Why fault.OutOfMemory ending words handles low
   short_by ending words handles low none accepted = record {
     late = subst (λ o. TrapsLate (length entry.bytes) o) (sym none) tt;
     accepted = accepted;
@@ -150,14 +150,14 @@ module _ {T R : Type 0} (args : Arguments) (its : ReturnedValues R) (gives : Giv
   }
 
   -- the value is to blame
-  value_by : (f : Fault) (words handles : List ℕ) (low : Low words handles refused) → fault_ending f ≡ refused → Unfit args
+  value_by : (f : Fault) (words handles : List ℕ) (low : RefusalLow words handles refused) → fault_ending f ≡ refused → Unfit args
       → (Each IsNoStart (events_of low.answers low.trap) → ¬ EndsIn IsTrap (events_of low.answers low.trap) → FaultCause args its callee limits.fuel entry after (events_of low.answers low.trap) f) → Why f refused words handles low
   value_by f words handles low e unfit cause =
       blamed f low.answers low.trap low.lowering.cause (subst (λ end. Accepted end (length after.bytes) low.answers) (sym e) low.lowering.accepted) unfit
       (cause (none_started low.answers low.trap) (none_trapped low.answers low.trap low.lowering.cause))
 
   -- how a lowering ended that was refused for a fault of its own
-  refused_by : (f : Fault) (words handles : List ℕ) (low : Low words handles (fault_ending f)) → args.blames f → told_fault f ≡ f → LeavesStop (stop_of f) (enter before.ledger) args.parts left.ledger
+  refused_by : (f : Fault) (words handles : List ℕ) (low : RefusalLow words handles (fault_ending f)) → args.blames f → told_fault f ≡ f → LeavesStop (stop_of f) (enter before.ledger) args.parts left.ledger
       → Why f (fault_ending f) words handles low
   refused_by (fault.TypeMismatch k) words handles low blames told stops = value_by (fault.TypeMismatch k) words handles low refl (law (fault.TypeMismatch k) blames) (λ unstarted calm. (unstarted, calm, blames))
   refused_by (fault.FieldName k) words handles low blames told stops = value_by (fault.FieldName k) words handles low refl (law (fault.FieldName k) blames) (λ unstarted calm. (unstarted, calm, blames))
@@ -206,13 +206,13 @@ module _ {T R : Type 0} (args : Arguments) (its : ReturnedValues R) (gives : Giv
   refused_by (fault.Resource resource.OutOfMemory) words handles low blames told stops = cc
   refused_by (fault.Resource r) words handles low blames told stops = ledger_by r low.answers low.trap low.lowering.cause low.lowering.accepted refl stops
 
-  ended_by : (f : Fault) (ending : Ending) (words handles : List ℕ) (low : Low words handles ending) → ending ≡ fault_ending f → args.blames f → told_fault f ≡ f
+  ended_by : (f : Fault) (ending : Ending) (words handles : List ℕ) (low : RefusalLow words handles ending) → ending ≡ fault_ending f → args.blames f → told_fault f ≡ f
       → LeavesStop (stop_of f) (enter before.ledger) args.parts left.ledger → Why f ending words handles low
   ended_by f ending words handles low is blames told stops =
-      subst (λ end. (mine : Low words handles end) → Why f end words handles mine) (sym is) (λ mine. refused_by f words handles mine blames told stops) low
+      subst (λ end. (mine : RefusalLow words handles end) → Why f end words handles mine) (sym is) (λ mine. refused_by f words handles mine blames told stops) low
 
   -- however it ended
-  refused_so : (f : Fault) (ending : Ending) (words handles : List ℕ) (low : Low words handles ending) → EndsFor f ending → args.blames f → told_fault f ≡ f
+  refused_so : (f : Fault) (ending : Ending) (words handles : List ℕ) (low : RefusalLow words handles ending) → EndsFor f ending → args.blames f → told_fault f ≡ f
       → LeavesStop (stop_of f) (enter before.ledger) args.parts left.ledger → Why f ending words handles low
   refused_so fault.OutOfMemory ending words handles low (inl is) blames told stops =
       short_by ending words handles low (subst (λ end. CauseOf entry after low.answers low.trap end) is low.lowering.cause).0 (subst (λ end. Accepted end (length after.bytes) low.answers) is low.lowering.accepted)
@@ -229,7 +229,7 @@ module _ {T R : Type 0} (args : Arguments) (its : ReturnedValues R) (gives : Giv
   asks_as fault.OutOfMemory ending answers trap (inr is) h = asks_short answers trap (subst (λ end. AsksByTypes callee.params end answers trap) is h)
   asks_as f ending answers trap is h = subst (λ end. AsksByTypes callee.params end answers trap) is h
 
-  pub refused_call : left ≡ record before { ledger = left.ledger } → (f : Fault) (ending : Ending) (words handles : List ℕ) (low : Low words handles ending) → Lives [] (events_of low.answers low.trap) → EndsFor f ending → args.blames f → told_fault f ≡ f
+  pub refused_call : left ≡ record before { ledger = left.ledger } → (f : Fault) (ending : Ending) (words handles : List ℕ) (low : RefusalLow words handles ending) → Lives [] (events_of low.answers low.trap) → EndsFor f ending → args.blames f → told_fault f ≡ f
       → AsksByTypes callee.params ending low.answers low.trap → LeavesStop (stop_of f) (enter before.ledger) args.parts left.ledger
       → IsCallOf args its Lives Leaves gives callee limits entry after before left (Err (error.Fault f)) (events_of low.answers low.trap)
   refused_call kept f ending words handles low moves is blames told quiet stops =

@@ -65,11 +65,11 @@ module _ {T R : Type 0} (its : ReturnedValues R) (gives : Giving T) (callee : Ca
   Excluded e = its.represent returned memory limits.fuel → Accepted → e ≡ error.Fault fault.OutOfMemory
 
   -- memory is as it was returned, unless memory ran out
-  abbrev Stays : Error → Type 0
-  Stays e = ¬ (e ≡ error.Fault fault.OutOfMemory) → after.bytes ≡ memory
+  abbrev RestStays : Error → Type 0
+  RestStays e = ¬ (e ≡ error.Fault fault.OutOfMemory) → after.bytes ≡ memory
 
   -- and then it was called for nothing more
-  returned_made : (e : Error) → Stays e → StopsLater its callee (stopped_by e) host.ledger left.ledger tail → Causes e → Excluded e → IsTail its gives callee limits Leaves before after count len host left (Err e) before.guest [] None tail
+  returned_made : (e : Error) → RestStays e → StopsLater its callee (stopped_by e) host.ledger left.ledger tail → Causes e → Excluded e → IsTail its gives callee limits Leaves before after count len host left (Err e) before.guest [] None tail
   returned_made e stays handles cause excluded = record {
     whole = tt;
     prefix = record {
@@ -111,7 +111,7 @@ module _ {T R : Type 0} (its : ReturnedValues R) (gives : Giving T) (callee : Ca
 
   module _ (ended : LedgerState) (counted : length returned ≡ result_words callee.results) (ends : scope_exit host.ledger ≡ record { answer = Ok tt; after = ended }) where
     -- lifting, or memory for post-return, stopped it then
-    stopped : (f : Fault) → Stays (error.Fault f) → LeavesStop (stop_of f) ended (its.parts returned memory) left.ledger → Causes (error.Fault f) → Excluded (error.Fault f)
+    stopped : (f : Fault) → RestStays (error.Fault f) → LeavesStop (stop_of f) ended (its.parts returned memory) left.ledger → Causes (error.Fault f) → Excluded (error.Fault f)
         → IsTail its gives callee limits Leaves before after count len host left (Err (error.Fault f)) before.guest [] None tail
     stopped f stays stops cause excluded = returned_made (error.Fault f) stays (inr (inl ((tt, tt), (λ trapped. trapped), inl (counted, inr (ended, ends, stops))))) cause excluded
 

@@ -38,8 +38,8 @@ lifts_at core made after b options own tuple fuel left words result same by full
 )
 
 -- the members of the tuple are the callee's results
-pub members_are : (t u : TypeTable) (i : ℕ) (f : TypeFunc) → u ≡ t → slice_get u.funcs i ≡ Some f → tuple_members t f.results ≡ results_in t (slice_get t.funcs i)
-members_are t u i f same found = sym (ap (results_in t) (ap (λ v. slice_get v.funcs i) (sym same) ∙ found))
+pub call_members_are : (t u : TypeTable) (i : ℕ) (f : TypeFunc) → u ≡ t → slice_get u.funcs i ≡ Some f → tuple_members t f.results ≡ results_in t (slice_get t.funcs i)
+call_members_are t u i f same found = sym (ap (results_in t) (ap (λ v. slice_get v.funcs i) (sym same) ∙ found))
 
 -- which hold no borrow
 pub no_borrow : (t : TypeTable) (i : ℕ) (f : TypeFunc) → slice_get t.funcs i ≡ Some f → All (HoldNoBorrow t) t.funcs → member_borrows (tuple_members t f.results) ≡ false
@@ -55,7 +55,7 @@ module _ {T G : Type 0} (core : Parts T G) (export : Export) (words : List ℕ) 
   Lifts ms result = LiftsIn (origin_in core export.options) words ms core.ledger core.fuel result m
 
   of_callee : (result : Result (Vec Val Global) Fault) → Lifts (tuple_members (component_types core) f.results) result → Lifts Callee_.results result
-  of_callee result h = subst (λ ms. Lifts ms result) (members_are (component_types core) types export.ty f is found) h
+  of_callee result h = subst (λ ms. Lifts ms result) (call_members_are (component_types core) types export.ty f is found) h
 
   pub lifted_so : (result : Result (Vec Val Global) Fault) → All (HoldNoBorrow types) types.funcs → Lifts (tuple_members (component_types core) f.results) result
       → Lifted (dynamic_results Callee_) core.fuel words core.memory core.ledger m (items_in result)
@@ -63,10 +63,10 @@ module _ {T G : Type 0} (core : Parts T G) (export : Export) (words : List ℕ) 
   lifted_so (Ok vals) valid h =
       let lifts = of_callee (Ok vals) h in
       let none : member_borrows Callee_.results ≡ false =
-      subst (λ ms. member_borrows ms ≡ false) (members_are (component_types core) types export.ty f is found) (subst (λ t. member_borrows (tuple_members t f.results) ≡ false) is (no_borrow types export.ty f found valid)) in
+      subst (λ ms. member_borrows ms ≡ false) (call_members_are (component_types core) types export.ty f is found) (subst (λ t. member_borrows (tuple_members t f.results) ≡ false) is (no_borrow types export.ty f found valid)) in
       let owned = values_owned (narrow core.memory) words max_results Callee_.results none in
       (lifts.0, lifts.1.ok, lifts.1.handles, lifts_scopes Callee_.types core.ledger m (returned_leaves Callee_ words core.memory) (all_resources vals.items) owned lifts.1.handles)
 
-  pub lifted_count : (result : Result (Vec Val Global) Fault) → Lifts (tuple_members (component_types core) f.results) result → IfOk result (λ vals. length vals.items ≡ member_count Callee_.results)
-  lifted_count (Err e) h = tt
-  lifted_count (Ok vals) h = let are = (of_callee (Ok vals) h).1.ok in have_count true Callee_.results vals.items are.its_trees are.have
+  pub call_lifted_count : (result : Result (Vec Val Global) Fault) → Lifts (tuple_members (component_types core) f.results) result → IfOk result (λ vals. length vals.items ≡ member_count Callee_.results)
+  call_lifted_count (Err e) h = tt
+  call_lifted_count (Ok vals) h = let are = (of_callee (Ok vals) h).1.ok in have_count true Callee_.results vals.items are.its_trees are.have

@@ -50,14 +50,14 @@ plainly_in_scope (Ok (a, h)) l = refl
 plainly_in_scope (Err e) l = refl
 
 module _ (l : LedgerState) (x : GivenIndex) where
-  abbrev step : Handles → StepAnswer (Option ℕ)
-  step h = handles.resource_drop h host_table (HostIndex x.index)
+  abbrev call_step : Handles → StepAnswer (Option ℕ)
+  call_step h = handles.resource_drop h host_table (HostIndex x.index)
 
-  removed_in_scope : (spent : Bool) → host_removing spent step (enter l) ≡ done_in_scope (host_removing spent step l)
+  removed_in_scope : (spent : Bool) → host_removing spent call_step (enter l) ≡ done_in_scope (host_removing spent call_step l)
   removed_in_scope true = refl
   removed_in_scope false =
       let after : LedgerState = record { handles = l.handles; host = raised l.host } in
-      ap (λ (r : StepAnswer (Option ℕ)). plainly r (enter after)) (dropped_in_scope l.handles host_table x.index _) ∙ plainly_in_scope (step l.handles) after
+      ap (λ (r : StepAnswer (Option ℕ)). plainly r (enter after)) (dropped_in_scope l.handles host_table x.index _) ∙ plainly_in_scope (call_step l.handles) after
 
   unless_stale_in_scope : (stale : Bool) → unless_stale (enter l) stale (with_slot_answered (slot_at l.host x.index) (resource_drop (enter l) host_table (HostIndex x.index)))
       ≡ done_in_scope (unless_stale l stale (with_slot_answered (slot_at l.host x.index) (resource_drop l host_table (HostIndex x.index))))

@@ -22,8 +22,8 @@ use Rattle.canon_func.specs.Passed.{BlamesRightly}
 module _ {T G R : Type 0} (args : Arguments) (its : ReturnedValues R) (gives : Giving T) (callee : Callee) (limits : Limits) (seen : G → Seen) (moves : GuestIn G → List Event → GuestIn G → Type 0) (Leaves : List ℕ → List ℕ → Type 0)
     (log : Option (List LoggedEntry)) (refusals : ℕ) where
   -- by what the function answers, and what is said of it
-  abbrev pub Whole : {U : Type 0} → Result U Error → Result R Error → Parts T G → Parts T G → HostSide T → Type 0
-  Whole result answer before after left = Adding (moment_of seen before) (moment_of seen after) (λ es. OnAnswered result (moves (guest_of before) es (guest_of after)))
+  abbrev pub WholeCall : {U : Type 0} → Result U Error → Result R Error → Parts T G → Parts T G → HostSide T → Type 0
+  WholeCall result answer before after left = Adding (moment_of seen before) (moment_of seen after) (λ es. OnAnswered result (moves (guest_of before) es (guest_of after)))
       (IsCallOf args its (LivesUntil seen moves (guest_of before) (guest_of after) result) Leaves gives callee limits (moment_of seen before) (moment_of seen after) (host_side before log refusals) left answer)
 
   -- the same in the scope that was opened
@@ -56,9 +56,9 @@ module _ {T G R : Type 0} (args : Arguments) (its : ReturnedValues R) (gives : G
       (record { events = low.events; added = low.added; moves = retyped (Vec ℕ Global) U e (moves (guest_of before) low.events (guest_of after)) low.moves; so = low.so })
 
   -- the scope was opened
-  pub entered : {U : Type 0} (result : Result U Error) (answer : Result R Error) (before mid after : Parts T G) (left : HostSide T) → SameButLedger before mid → mid.ledger ≡ enter before.ledger
-      → Within result answer mid after left → Whole result answer before after left
-  entered result answer before mid after left same is h =
+  pub call_entered : {U : Type 0} (result : Result U Error) (answer : Result R Error) (before mid after : Parts T G) (left : HostSide T) → SameButLedger before mid → mid.ledger ≡ enter before.ledger
+      → Within result answer mid after left → WholeCall result answer before after left
+  call_entered result answer before mid after left same is h =
       entered_call args its gives callee limits (LivesUntil seen moves (guest_of before) (guest_of after) result) Leaves (moment_of seen before) (moment_of seen after) (host_side before log refusals) (host_side mid log refusals) left answer
       (λ es. OnAnswered result (moves (guest_of before) es (guest_of after)))
       (side_ledger before mid log refusals same is)
@@ -67,10 +67,10 @@ module _ {T G R : Type 0} (args : Arguments) (its : ReturnedValues R) (gives : G
 
   -- memory ran out for it
   pub unentered : (U : Type 0) (before after : Parts T G) → SameButLedger before after → after.ledger ≡ before.ledger
-      → Whole {U = U} (Err (error.Fault fault.OutOfMemory)) (Err (error.Fault fault.OutOfMemory)) before after (host_side after log refusals)
+      → WholeCall {U = U} (Err (error.Fault fault.OutOfMemory)) (Err (error.Fault fault.OutOfMemory)) before after (host_side after log refusals)
   unentered U before after same left =
       let host = host_side before log refusals in
-      subst (λ k. Whole {U = U} (Err (error.Fault fault.OutOfMemory)) (Err (error.Fault fault.OutOfMemory)) before k (host_side k log refusals)) (sym same)
+      subst (λ k. WholeCall {U = U} (Err (error.Fault fault.OutOfMemory)) (Err (error.Fault fault.OutOfMemory)) before k (host_side k log refusals)) (sym same)
       (scope_short args its gives callee limits (LivesUntil {U = U} seen moves (guest_of before) (guest_of before) (Err (error.Fault fault.OutOfMemory))) Leaves (seen before.guest) before.memory host (record host { ledger = after.ledger })
       (ledger_kept before after log refusals left) tt)
 

@@ -81,34 +81,34 @@ le_sum a b c n k e f h = omega (arith, e, f, h)
 
 module _ {T R : Type 0} (its : ReturnedValues R) (gives : Giving T) (callee : Callee) (limits : Limits) (Lives : List Leg → List Event → Type 0) (Leaves : List ℕ → List ℕ → Type 0) (words : List ℕ) (before after : Moment) (host served left : HostSide T) (turns : List AskTurn) (len : ℕ)
     (asked : TurnsTaken gives callee limits.fuel before host served turns len) where
-  abbrev first : List Event
-  first = event.Start callee.func words before.bytes ∷ events_in turns
+  abbrev call_first : List Event
+  call_first = event.Start callee.func words before.bytes ∷ events_in turns
 
-  early : Each IsEarly first
+  early : Each IsEarly call_first
   early = (tt, each_turn IsEarly (λ n ws m. tt) (λ o s a n p. tt) (λ ws m. tt) turns)
 
-  count : asks_in first ≡ length turns
+  count : asks_in call_first ≡ length turns
   count = asks_turns turns
 
-  prefix_of : (n : ℕ) (tail : List Event) → TailPrefix callee.post len tail → IsPrefixOfRun callee.func callee.post n (first ++ tail)
+  prefix_of : (n : ℕ) (tail : List Event) → TailPrefix callee.post len tail → IsPrefixOfRun callee.func callee.post n (call_first ++ tail)
   prefix_of n tail h =
       let whole : List Event = event.Return h.returned h.memory ∷ posts callee.post h.returned in
       record {
         run = event.Start callee.func words before.bytes ∷ events_in (turns ++ h.more) ++ whole;
         one_run = (words, before.bytes, h.returned, h.memory, record { reallocs = []; only_reallocs = tt; turns = turns ++ h.more; is = refl });
-        prefix = first ++ h.prefix;
+        prefix = call_first ++ h.prefix;
         rest = h.rest;
         trap = h.trap;
         begins = ap (λ es. event.Start callee.func words before.bytes ∷ es) (events_more turns h.more whole ∙ (ap (λ es. events_in turns ++ es) h.begins ∙ sym (append_assoc (events_in turns) h.prefix h.rest)));
-        events_are = ap (λ es. first ++ es) h.tail_is ∙ sym (append_assoc first h.prefix h.trap);
-        may_trap = subst (λ k. MayTrap k h.trap) (sym (len_then n first h.prefix ∙ ap (λ k. last_len k h.prefix) asked.last)) h.may_trap;
+        events_are = ap (λ es. call_first ++ es) h.tail_is ∙ sym (append_assoc call_first h.prefix h.trap);
+        may_trap = subst (λ k. MayTrap k h.trap) (sym (len_then n call_first h.prefix ∙ ap (λ k. last_len k h.prefix) asked.last)) h.may_trap;
       }
 
   pub rest_of_tail : (answer : Result R Error) (late_guest : Seen) → CountsWithin before.guest late_guest after.guest → (answers late : List Answer) (trap : Option Trap) (tail : List Event) → answers ≡ answers_in turns ++ late
       → AsksFrom Lives (event.Start callee.func words before.bytes ∷ []) turns late_guest.live tail
       → IsTail its gives callee limits Leaves before after (length turns) len served left answer late_guest late trap tail → IsRest its gives callee limits Lives Leaves words before after host left answer answers (so_far callee words before turns tail)
   rest_of_tail answer late_guest counts answers late trap tail all lived h = record {
-    one_run = ok_then answer _ _ (λ (returned, memory, is). (words, before.bytes, returned, memory, record { reallocs = []; only_reallocs = tt; turns = turns; is = ap (λ es. first ++ es) is })) h.whole;
+    one_run = ok_then answer _ _ (λ (returned, memory, is). (words, before.bytes, returned, memory, record { reallocs = []; only_reallocs = tt; turns = turns; is = ap (λ es. call_first ++ es) is })) h.whole;
     prefix = λ n. prefix_of n tail h.prefix;
     turns = turns;
     late_guest = late_guest;
@@ -119,19 +119,19 @@ module _ {T R : Type 0} (its : ReturnedValues R) (gives : Giving T) (callee : Ca
     answers_are = all;
     starts = inr (record { words = words; memory = before.bytes; is = refl; no_resume = h.no_resume; asking = h.asking });
     lived = (event.Start callee.func words before.bytes ∷ [], refl, lived);
-    asks = λ none. sum_le (asks_in (first ++ tail)) (asks_in first) (asks_in tail) (length turns) limits.turns (asks_then first tail) count (h.asks none);
+    asks = λ none. sum_le (asks_in (call_first ++ tail)) (asks_in call_first) (asks_in tail) (length turns) limits.turns (asks_then call_first tail) count (h.asks none);
     grows = (same_le (length before.bytes), asked.grows tail (length after.bytes) h.grows);
     start = ((refl, refl), each_then _ (events_in turns) tail (each_turn _ (λ n ws m. tt) (λ o s a n p. tt) (λ ws m. tt) turns) (no_starts _ tail h.no_start));
-    only_results = if_ok_then answer _ _ (λ results each. return_then _ first tail early each) h.only_results;
-    posted = λ some. return_then _ first tail early (h.posted (λ none. some (post_then first tail early none)));
-    leaves = ok_then answer _ _ (λ each. return_then _ first tail early each) h.leaves;
+    only_results = if_ok_then answer _ _ (λ results each. return_then _ call_first tail early each) h.only_results;
+    posted = λ some. return_then _ call_first tail early (h.posted (λ none. some (post_then call_first tail early none)));
+    leaves = ok_then answer _ _ (λ each. return_then _ call_first tail early each) h.leaves;
     started = λ other none. absurd none.0;
-    returned = λ other none. return_then _ first tail early (h.returned other (each_after _ first tail none));
+    returned = λ other none. return_then _ call_first tail early (h.returned other (each_after _ call_first tail none));
     handles = (served, asked.serves, h.handles);
-    cause = if_err_then answer _ _ (λ e because. because first count) h.cause;
+    cause = if_err_then answer _ _ (λ e because. because call_first count) h.cause;
     valid = λ lawful unrefused calm few right accepts.
         h.valid lawful unrefused
-        (λ trapped. calm (ends_after IsTrap first tail trapped)) (le_sum (asks_in (first ++ tail)) (asks_in first) (asks_in tail) (length turns) limits.turns (asks_then first tail) count few) (each_after _ first tail right)
+        (λ trapped. calm (ends_after IsTrap call_first tail trapped)) (le_sum (asks_in (call_first ++ tail)) (asks_in call_first) (asks_in tail) (length turns) limits.turns (asks_then call_first tail) count few) (each_after _ call_first tail right)
         (accepts served asked.serves);
   }
 

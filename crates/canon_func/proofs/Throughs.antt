@@ -10,14 +10,14 @@ use Rattle.canon_ledger.proofs.LedgerLemmas.{compose}
 use Rattle.canon_leaves.proofs.Through.{leaves_through}
 use Rattle.canon_leaves.specs.Parts.{LeavesTake, Part}
 use Rattle.canon_leaves.specs.Steps.{leaves_steps}
-use Rattle.canon_func.proofs.Leaving.{ended_leaves}
+use Rattle.canon_func.proofs.Leaving.{call_ended_leaves}
 use Rattle.canon_host.specs.Forms.{IsLawful}
 use Rattle.canon_host.specs.HostSide.{Answering, Giving, HostSide}
 use Rattle.canon_func.specs.AskForms.{AskForm, ask_at}
 use Rattle.canon_func.specs.Asks.{AreServed}
 use Rattle.canon_func.specs.Call.{Concludes, HandlesPassOf, dynamic, dynamic_results}
 use Rattle.canon_func.specs.HostAsks.{IsHostServed, IsHostServedBy, asked_exit}
-use Rattle.canon_func.specs.Laws.{AskThrough, AsksThrough, CallIsThrough, CallThrough, HostThrough, PassesThrough, last_steps}
+use Rattle.canon_func.specs.Laws.{TurnThrough, AsksThrough, CallIsThrough, CallThrough, HostThrough, PassesThrough, last_steps}
 use Rattle.canon_func.specs.Passing.{Arguments, ReturnedValues}
 use Rattle.canon_func.specs.Runs.{AskTurn, Each, OnReturn}
 use Rattle.canon_func.specs.Stores.{Callee}
@@ -47,7 +47,7 @@ pub ended_is : (l ended : LedgerState) → asked_exit l ≡ record { answer = Ok
 ended_is l ended ends = sym (ap (λ (d : Done (Unit {0})). d.after) ends)
 
 pub ended_can_leave : (l ended : LedgerState) → asked_exit l ≡ record { answer = Ok tt; after = ended } → can_leave ended.handles ≡ true
-ended_can_leave l ended ends = ended_leaves l ended ends
+ended_can_leave l ended ends = call_ended_leaves l ended ends
 
 module _ {T : Type 0} (its : AskForm T) (sound : AskSound its) (lawful : AskLawful its) (answers_so : Answering T) (callee : Callee) (fuel : ℕ) where
   pub form_through : (t : AskTurn) (l n : HostSide T) → IsHostServedBy its answers_so callee fuel t l n → HostThrough its answers_so callee fuel t l n
@@ -64,7 +64,7 @@ module _ {T : Type 0} (its : AskForm T) (sound : AskSound its) (lawful : AskLawf
       }
 
 module _ {T : Type 0} (gives : Giving T) (lawful : (n : ℕ) → IsLawful (gives.form n)) (callee : Callee) (fuel : ℕ) where
-  pub host_through : (t : AskTurn) (l n : HostSide T) → IsHostServed gives callee fuel t l n → AskThrough gives callee fuel t l n
+  pub host_through : (t : AskTurn) (l n : HostSide T) → IsHostServed gives callee fuel t l n → TurnThrough gives callee fuel t l n
   host_through t l n h = inr (form_through (ask_at gives t.index) (form_sound (gives.form t.index)) (form_lawful (gives.form t.index) (lawful t.index)) gives.answers callee fuel t l n h)
 
   pub turns_through : (turns : List AskTurn) (l n : HostSide T) → AreServed gives callee fuel turns l n → AsksThrough gives callee fuel turns l n

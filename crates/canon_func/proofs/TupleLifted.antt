@@ -41,18 +41,18 @@ module _ {T G A : Type 0} (core : Parts T G) (export : Export) (words : List ℕ
   abbrev w : Setting
   w = setting_in core export.options
 
-  abbrev Whole : Members → Reading A
-  Whole ms = passed_reading max_results (product of_places ms) R
+  abbrev WholeCall : Members → Reading A
+  WholeCall ms = passed_reading max_results (product of_places ms) R
 
   abbrev pub LiftsAs : Members → Result A Fault → Type 0
-  LiftsAs ms result = LiftsTuple (Whole ms) w words (product of_places ms) core.ledger core.fuel result m
+  LiftsAs ms result = LiftsTuple (WholeCall ms) w words (product of_places ms) core.ledger core.fuel result m
 
   -- the scopes stay, since no result is a borrow
   scopes_kept : (type : InterfaceType) (ms : Members) (v : A) → Fit core.component.types type → shape_of (component_types core) type ≡ product of_places ms → member_borrows ms ≡ false
-      → (Whole ms).reads w (flat_in words 0) (product of_places ms) core.ledger v m → m.handles.scopes ≡ core.ledger.handles.scopes
+      → (WholeCall ms).reads w (flat_in words 0) (product of_places ms) core.ledger v m → m.handles.scopes ≡ core.ledger.handles.scopes
   scopes_kept type ms v fits shape none read =
       let (hs, takes) = passed_taken R taken (nat_le (flat (product of_places ms)) max_results) w (flat_in words 0) (product of_places ms) core.ledger m v read in
-      keep_scopes core.ledger m ((Whole ms).steps w (flat_in words 0) (product of_places ms)) hs
+      keep_scopes core.ledger m ((WholeCall ms).steps w (flat_in words 0) (product of_places ms)) hs
       (passed_kept R w (product of_places ms) (λ p. subst (λ (z : Shape). AllKeep (R.steps w p z)) shape (kept.kept w p type fits (subst (λ (z : Shape). has_borrow z ≡ false) (sym shape) none))) (nat_le (flat (product of_places ms)) max_results) (flat_in words 0)) takes
 
   pub tuple_lifted : (type : InterfaceType) (v : A) → Fit core.component.types type → shape_of (component_types core) type ≡ product of_places callee.results → member_borrows callee.results ≡ false → length words ≡ result_words callee.results → LiftsAs callee.results (Ok v)
@@ -61,7 +61,7 @@ module _ {T G A : Type 0} (core : Parts T G) (export : Export) (words : List ℕ
 
   pub tuple_unlifted : (e : Fault) → LiftsAs callee.results (Err e) → Lifted (typed_results R export.options core.id callee) core.fuel words core.memory core.ledger m (Err e)
   tuple_unlifted e (left, h) = (
-    blamed_by (ToldAt ((Whole callee.results).faults w (flat_in words 0) (product of_places callee.results))) (Exactly (ReturnFault R export.options core.id callee words core.memory)) _ _
+    blamed_by (ToldAt ((WholeCall callee.results).faults w (flat_in words 0) (product of_places callee.results))) (Exactly (ReturnFault R export.options core.id callee words core.memory)) _ _
         (λ k x (y, place, fault). (y, place_named x y place, fault)) (λ low. low) e h.cause,
     h.stops,
   )

@@ -19,7 +19,7 @@ use Rattle.canon_model.specs.Flat.{max_params}
 use Rattle.canon_model.specs.Shape.{Members}
 use Rattle.canon_model.specs.Text.{Encoding}
 use Rattle.canon_model.specs.Tree.{Tree}
-use Rattle.canon_value_parts.proofs.Crossing.{told_by}
+use Rattle.canon_value_parts.proofs.Crossing.{value_told_by}
 use Rattle.canon_value_parts.specs.Args.{LowersParams}
 use Rattle.canon_value_parts.specs.Resources.{told_fault}
 use Rattle.canon_context.specs.Faults.{stop_of}
@@ -45,7 +45,7 @@ wanted_not f (inl h) is = subst IsElsewhere is h
 wanted_not f (inr h) is = subst IsLargeFault is h
 
 told_so : (f : Fault) → IsElsewhere f ⊎ IsLargeFault f → told_fault f ≡ f
-told_so f h = told_by (λ x. x ≡ f) f (λ is. absurd (wanted_not f h is)) refl
+told_so f h = value_told_by (λ x. x ≡ f) f (λ is. absurd (wanted_not f h is)) refl
 
 same_fault : (A : Type 0) (e f : Fault) → ◌≡◌ {A = Result A Fault} (Err e) (Err f) → e ≡ f
 same_fault A e f h = cc

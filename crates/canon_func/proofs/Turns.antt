@@ -1,23 +1,22 @@
 -- Asks that were served, one after another.
-use Rattle.std.proofs.Common.{Err, List, None, Ok, Option, Result, Some, [], ap, append_assoc, arith, length, refl, subst, suc, sym, ℕ, ◌++◌, ◌+◌, ◌<◌, ◌∙◌, ◌∷◌, ◌≡◌, ◌≤◌}
+use Rattle.std.proofs.Common.{Err, List, None, Ok, Result, [], ap, append_assoc, arith, length, refl, subst, suc, sym, ℕ, ◌++◌, ◌+◌, ◌<◌, ◌∙◌, ◌∷◌, ◌≡◌, ◌≤◌}
 use Rattle.std.proofs.lemmas.List.{append-nil}
-use Rattle.std.specs.Prelude.{IsSome}
 use Rattle.canon_memory.specs.declared.event.Event.{Event}
 use Rattle.canon_memory.specs.declared.event.Event.TheVariants as event
 use Rattle.canon_memory.specs.declared.guest.Step.{Step}
 use Rattle.canon_memory.specs.declared.guest.Step.TheVariants as step
 use Rattle.canon_memory.specs.Guest.{Goes, Mark, Moment, Seen}
-use Rattle.canon_memory.specs.Journal.{AddsEvents, step_event, trap_event}
+use Rattle.canon_memory.specs.Journal.{step_event, trap_event}
 use Rattle.canon_ledger.specs.Ledger.{Done, LedgerState}
 use Rattle.canon_ledger.specs.declared.fault.ResourceFault.{ResourceFault}
-use Rattle.canon_lowering.proofs.Lowerings.{goes_then}
+use Rattle.canon_lowering.proofs.Lowerings.{goes_then, lowering_marks_append}
 use Rattle.canon_lowering.specs.Lowering.{Answer, events_of, marks_of}
 use Rattle.canon_context.specs.declared.fault.Fault.TheVariants as fault
 use Rattle.canon_host.specs.HostSide.{Giving, HostSide}
 use Rattle.canon_func.specs.Asks.{AreServed, IsServed, Limits}
 use Rattle.canon_func.specs.Call.{Advances, CountsWithin}
 use Rattle.canon_func.specs.Runs.{AskTurn, Each, Grows, Leg, answers_in, asks_in, events_in, last_len, since_last, legs_in}
-use Rattle.canon_func.specs.Steps.{RisesAt, RunsUntil, Serves, Stepping, TurnsTaken, ask_turn, so_far}
+use Rattle.canon_func.specs.Steps.{RisesAt, RunsUntil, ServesAsk, Stepping, TurnsTaken, ask_turn, so_far}
 use Rattle.canon_func.specs.Stores.{Callee}
 use Rattle.canon_func.specs.declared.error.Error.{Error}
 use Rattle.canon_func.specs.declared.error.Error.TheVariants as error
@@ -32,10 +31,6 @@ not_ok x e h = cc
 pub err_same : {T E : Type 0} (e d : E) → ◌≡◌ {A = Result T E} (Err e) (Err d) → e ≡ d
 err_same e d h = cc
 
-pub marks_then : (xs ys : List Answer) → marks_of (xs ++ ys) ≡ marks_of xs ++ marks_of ys
-marks_then [] ys = refl
-marks_then (x ∷ xs) ys = ap (λ ms. x.mark ∷ ms) (marks_then xs ys)
-
 pub answers_append : (ts us : List AskTurn) → answers_in (ts ++ us) ≡ answers_in ts ++ answers_in us
 answers_append [] us = refl
 answers_append (t ∷ ts) us = ap (λ xs. t.answers ++ xs) (answers_append ts us) ∙ sym (append_assoc t.answers (answers_in ts) (answers_in us))
@@ -46,13 +41,13 @@ answers_append (t ∷ ts) us = ap (λ xs. t.answers ++ xs) (answers_append ts us
 abbrev pub rest_of_turn : AskTurn → List Event → List Event
 rest_of_turn t events = events_of t.answers None ++ event.Resume t.resumed_words t.resumed_memory ∷ events
 
-pub events_append : (ts us : List AskTurn) → events_in (ts ++ us) ≡ events_in ts ++ events_in us
-events_append [] us = refl
-events_append (t ∷ ts) us = ap (λ es. event.Ask t.index t.words t.memory ∷ es)
-    (ap (λ es. rest_of_turn t es) (events_append ts us) ∙ sym (append_assoc (events_of t.answers None) (event.Resume t.resumed_words t.resumed_memory ∷ events_in ts) (events_in us)))
+pub call_events_append : (ts us : List AskTurn) → events_in (ts ++ us) ≡ events_in ts ++ events_in us
+call_events_append [] us = refl
+call_events_append (t ∷ ts) us = ap (λ es. event.Ask t.index t.words t.memory ∷ es)
+    (ap (λ es. rest_of_turn t es) (call_events_append ts us) ∙ sym (append_assoc (events_of t.answers None) (event.Resume t.resumed_words t.resumed_memory ∷ events_in ts) (events_in us)))
 
 pub events_more : (ts us : List AskTurn) (tail : List Event) → events_in (ts ++ us) ++ tail ≡ events_in ts ++ (events_in us ++ tail)
-events_more ts us tail = ap (λ es. es ++ tail) (events_append ts us) ∙ append_assoc (events_in ts) (events_in us) tail
+events_more ts us tail = ap (λ es. es ++ tail) (call_events_append ts us) ∙ append_assoc (events_in ts) (events_in us) tail
 
 -- a fact of each of them
 each_real : (P : Event → Type 0) → ((o s a n p : ℕ) → P (event.Realloc o s a n p)) → (xs : List Answer) → Each P (events_of xs None)
@@ -144,7 +139,7 @@ module _ {T : Type 0} (gives : Giving T) (callee : Callee) where
         let after_ask : last_len (last_len (length before.bytes) (events_in ts)) (events_in (t ∷ [])) ≡ length t.resumed_memory = last_len_answers (length t.memory) t.answers (event.Resume t.resumed_words t.resumed_memory ∷ []) in
         record {
           serves = served_more fuel ts t host served left h.serves is;
-          last = ap (λ es. last_len (length before.bytes) es) (events_append ts (t ∷ [])) ∙ (len_then (length before.bytes) (events_in ts) (events_in (t ∷ [])) ∙ after_ask);
+          last = ap (λ es. last_len (length before.bytes) es) (call_events_append ts (t ∷ [])) ∙ (len_then (length before.bytes) (events_in ts) (events_in (t ∷ [])) ∙ after_ask);
           grows = λ es last g. subst (λ xs. Grows (length before.bytes) xs last) (sym (events_more ts (t ∷ []) es))
               (h.grows (events_in (t ∷ []) ++ es) last (
                 longer,
@@ -182,7 +177,7 @@ module _ {T : Type 0} (gives : Giving T) (callee : Callee) (limits : Limits) (Li
 
   -- the marks of the turns and of one more
   marks_more : (ts : List AskTurn) (t : AskTurn) → marks_of (answers_in ts) ++ marks_of t.answers ≡ marks_of (answers_in (ts ++ t ∷ []))
-  marks_more ts t = sym (marks_then (answers_in ts) t.answers) ∙ ap marks_of (ap (λ xs. answers_in ts ++ xs) (sym (append-nil t.answers)) ∙ sym (answers_append ts (t ∷ [])))
+  marks_more ts t = sym (lowering_marks_append (answers_in ts) t.answers) ∙ ap marks_of (ap (λ xs. answers_in ts ++ xs) (sym (append-nil t.answers)) ∙ sym (answers_append ts (t ∷ [])))
 
   -- after one more event of an ask
   turn_lived : (ts : List AskTurn) (t : AskTurn) (last : Event) (es : List Event) → es ≡ rest_of_turn t (last ∷ []) → Lives (legs_in start ts ++ record { events = since_last start ts ++ event.Ask t.index t.words t.memory ∷ []; live = t.live } ∷ []) es
@@ -193,7 +188,7 @@ module _ {T : Type 0} (gives : Giving T) (callee : Callee) (limits : Limits) (Li
   module _ (now after : Moment) (served left : HostSide T) (P : List Leg → List Event → Type 0) (N : List Event → Type 0) (goes_on : (xs ys : List Event) → P [] xs → N ys → Lives [] (xs ++ ys))
       (asks : (legs : List Leg) (xs ys : List Event) → P legs xs → N ys → Lives (legs ++ record { events = xs; live = now.guest.live } ∷ []) ys) (count index : ℕ) (asked : List ℕ) where
     pub stepping_more : (next : Step) (xs : List Answer) (es : List Event) → Stepping gives callee limits P words before now host served count (step.Import index asked) → Goes now after (marks_of xs) es
-        → N es → Serves gives callee limits.fuel index asked now after served left (Ok next) xs es → Stepping gives callee limits Lives words before after host left (count + 1) next
+        → N es → ServesAsk gives callee limits.fuel index asked now after served left (Ok next) xs es → Stepping gives callee limits Lives words before after host left (count + 1) next
     stepping_more next xs es h goes moves (r, are) =
         let t : AskTurn = ask_turn index asked now.guest.live now.bytes xs r.resumed r.memory in
         let e : so_far callee words before h.turns (event.Ask index asked now.bytes ∷ []) ++ es ≡ so_far callee words before (h.turns ++ t ∷ []) (step_event next after.bytes ∷ []) =
@@ -212,7 +207,7 @@ module _ {T : Type 0} (gives : Giving T) (callee : Callee) (limits : Limits) (Li
 
     -- the ask wasn't served, or the guest trapped after it was
     pub ran_refused : (e : Error) (xs : List Answer) (es : List Event) (h : Stepping gives callee limits P words before now host served count (step.Import index asked)) → count < limits.turns → Goes now after (marks_of xs) es
-        → N es → Serves gives callee limits.fuel index asked now after served left (Err e) xs es
+        → N es → ServesAsk gives callee limits.fuel index asked now after served left (Err e) xs es
         → RunsUntil gives callee limits Lives words before after host left (Err e) (answers_in h.turns ++ xs) (so_far callee words before h.turns (event.Ask index asked now.bytes ∷ []) ++ es)
     ran_refused (error.Fault fault.GuestTrap) xs es h lt goes moves (r, rose, are) =
         let t : AskTurn = ask_turn index asked now.guest.live now.bytes xs r.resumed r.memory in

@@ -38,8 +38,8 @@ module _ {R : Type 0} (Fit : Instance → InterfaceType → Type 0) (reading : R
   abbrev p : Spot
   p = flat_in words 0
 
-  abbrev area : ℕ
-  area = ptr m (slice_index words 0)
+  abbrev call_area : ℕ
+  call_area = ptr m (slice_index words 0)
 
   -- the laws of the type, over this shape
   its_price : (at : Spot) (t : Tree) → Represents m w.encoding at s t → reading.reach w at s ≡ price t
@@ -70,7 +70,7 @@ module _ {R : Type 0} (Fit : Instance → InterfaceType → Type 0) (reading : R
     row_there : members_flat ms ≤ most → Represents m w.encoding p s (parts ts)
     row_there near = (ts, refl, (rep.near near).1)
 
-    area_there : most < members_flat ms → Represents m w.encoding (stored area) s (parts ts)
+    area_there : most < members_flat ms → Represents m w.encoding (stored call_area) s (parts ts)
     area_there far = (rep.far far).1.stored
 
     good_there : most < members_flat ms → IsGoodArea w p s
@@ -83,15 +83,15 @@ module _ {R : Type 0} (Fit : Instance → InterfaceType → Type 0) (reading : R
     area_faultless : most < members_flat ms → (k : Kind) (x : reach.At) → Failed false k x → ⊥
     area_faultless far k x (inl (inl (is, wrong))) = wrong (good_there far).0
     area_faultless far k x (inl (inr (is, aligned, outside))) = outside (good_there far).1
-    area_faultless far k x (inr (good, h)) = fault_excludes.memory false w.encoding m area s (parts ts) k x (its_fault faulted (stored area) k x h) (area_there far)
+    area_faultless far k x (inr (good, h)) = fault_excludes.memory false w.encoding m call_area s (parts ts) k x (its_fault faulted (stored call_area) k x h) (area_there far)
 
     row_few : members_flat ms ≤ most → Reached true ≤ fuel
     row_few near = let cost : Reached true ≡ price (parts ts) = its_price p (parts ts) (row_there near) in omega (arith, cost, few)
 
     area_few : most < members_flat ms → Reached false ≤ fuel
     area_few far =
-        let cost : reading.reach w (stored area) s ≡ price (parts ts) = its_price (stored area) (parts ts) (area_there far) in
-        let reached : Reached false ≡ reading.reach w (stored area) s = cond-true _ _ _ (good_area w p s (good_there far)) in
+        let cost : reading.reach w (stored call_area) s ≡ price (parts ts) = its_price (stored call_area) (parts ts) (area_there far) in
+        let reached : Reached false ≡ reading.reach w (stored call_area) s = cond-true _ _ _ (good_area w p s (good_there far)) in
         omega (arith, cost, reached, few)
 
     pub faultless : (k : Kind) (x : reach.At) → Failed (nat_le (flat s) most) k x → ⊥

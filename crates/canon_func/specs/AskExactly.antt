@@ -35,8 +35,8 @@ RepAskedWords callee asked words memory trees = RepArgs false (asked_origin call
 
 module _ {T P R : Type 0} (types : RustTypes P R) (may : TypedAnswering T P R) where
   -- parameters of an ask were lifted in the store of a number with this fuel, or why not
-  abbrev pub Lifts : ℕ → Callee → ℕ → Asked → List ℕ → List ℕ → LedgerState → Result P Fault → LedgerState → Type 0
-  Lifts = (ask_types types may).lifts
+  abbrev pub LiftsParamsOf : ℕ → Callee → ℕ → Asked → List ℕ → List ℕ → LedgerState → Result P Fault → LedgerState → Type 0
+  LiftsParamsOf = (ask_types types may).lifts
 
   -- The words and memory represent trees of a cost within the fuel, which the parameters mean, and whose handles went through the ledger.
   pub record AreMeant (store : ℕ) (callee : Callee) (fuel : ℕ) (asked : Asked) (words memory : List ℕ) (before : LedgerState) (params : P) (after : LedgerState) : Type 0 where
@@ -50,13 +50,13 @@ module _ {T P R : Type 0} (types : RustTypes P R) (may : TypedAnswering T P R) w
   -- They are lifted only there.
   abbrev pub OnlyMeant : Type 0
   OnlyMeant = (store : ℕ) (callee : Callee) (fuel : ℕ) (asked : Asked) (words memory : List ℕ) (before after : LedgerState) (params : P) → HasEnoughWords callee asked words
-      → Lifts store callee fuel asked words memory before (Ok params) after → AreMeant store callee fuel asked words memory before params after
+      → LiftsParamsOf store callee fuel asked words memory before (Ok params) after → AreMeant store callee fuel asked words memory before params after
 
   -- And where trees of a cost within the fuel are represented whose handles the ledger accepts, they are lifted, or memory runs out.
   abbrev pub MeantIsEnough : Type 0
   MeantIsEnough = (store : ℕ) (callee : Callee) (fuel : ℕ) (asked : Asked) (words memory : List ℕ) (before after end : LedgerState) (result : Result P Fault) (trees : Trees) (hs : List ℕ) → HasEnoughWords callee asked words
       → RepAskedWords callee asked words memory trees → types.cost (parts trees) ≤ fuel → LeavesTake before (typed_parts types.reading callee asked words memory store) hs end
-      → Lifts store callee fuel asked words memory before result after → IsTreeLifted types.reading types.lifts (parts trees) end result after
+      → LiftsParamsOf store callee fuel asked words memory before result after → IsTreeLifted types.reading types.lifts (parts trees) end result after
 
   -- Of any type, where trees of a cost within the fuel are represented whose handles the ledger accepts, they can be lifted.
   abbrev pub MeantIsLiftable : Type 0
@@ -67,7 +67,7 @@ module _ {T P R : Type 0} (types : RustTypes P R) (may : TypedAnswering T P R) w
   -- Where they are lifted, no reached place has a fault.
   abbrev pub LiftedIsFaultless : Type 0
   LiftedIsFaultless = (store : ℕ) (callee : Callee) (fuel : ℕ) (asked : Asked) (words memory : List ℕ) (before after : LedgerState) (params : P) (k : Kind) (x : reach.At)
-      → Lifts store callee fuel asked words memory before (Ok params) after
+      → LiftsParamsOf store callee fuel asked words memory before (Ok params) after
       → ¬ (asked_reading types.reading callee asked words memory).faults (asked_setting callee asked memory store) (flat_in (take (args_words (asked_params callee asked)) words) 0) (asked_shape callee asked) k x
 
   -- Trees that results walk, of which the words or the area are one, are what they mean, and of the function's type; their handles are given

@@ -133,8 +133,8 @@ module _ {T : Type 0} (its : AskForm T) (answers_so : Answering T) (callee : Cal
         ⊎ ((results : its.Results) × (called : LedgerState) × HostSteps lifted called × Gives before index asked from.bytes lifted params (Ok results) after.state called × StopsGiven results called)
 
     -- Where it stopped, in order: nothing was done, as where there was no room for a scope; the parameters weren't lifted; or it stopped later.
-    abbrev pub StopsAt : Type 0
-    StopsAt =
+    abbrev pub StopsAtAsk : Type 0
+    StopsAtAsk =
         (its.declines callee asked index before.log e × (after.ledger ≡ before.ledger) × (after.state ≡ before.state) × NothingAsked from.bytes to.bytes answers trap)
         ⊎ ((f : Fault) × (e ≡ asked_error index f) × its.lifts before.store callee fuel asked words from.bytes (enter before.ledger) (Err f) after.ledger × (after.state ≡ before.state) × NothingAsked from.bytes to.bytes answers trap)
         ⊎ ((params : its.Params) × (lifted : LedgerState) × its.lifts before.store callee fuel asked words from.bytes (enter before.ledger) (Ok params) lifted × StopsCalled params lifted)
@@ -142,7 +142,7 @@ module _ {T : Type 0} (its : AskForm T) (answers_so : Answering T) (callee : Cal
     -- the asks that are exposed stay
     pub record HostStopsBy : Type 0 where
       pub is : IsHostAsk callee index words asked
-      pub stops : StopsAt
+      pub stops : StopsAtAsk
       pub told : after.log ≡ before.log
       pub counted : RefusalCounted e before.refusals after.refusals
       pub same_store : after.store ≡ before.store

@@ -69,21 +69,21 @@ pub record HostThrough {T : Type 0} (its : AskForm T) (answers_so : Answering T)
 
 module _ {T : Type 0} (gives : Giving T) (callee : Callee) (fuel : ℕ) where
   -- an ask that was served: the builtin's one step, or those of a function of the host
-  abbrev pub AskThrough : AskTurn → HostSide T → HostSide T → Type 0
-  AskThrough t before after =
+  abbrev pub TurnThrough : AskTurn → HostSide T → HostSide T → Type 0
+  TurnThrough t before after =
       ((builtin : IsBuiltinServed callee t before after) × Through before.ledger (ask_steps callee builtin.called t.words) after.ledger)
       ⊎ HostThrough (ask_at gives t.index) gives.answers callee fuel t before after
 
   -- each of them, in order
   abbrev pub AsksThrough : List AskTurn → HostSide T → HostSide T → Type 0
   AsksThrough [] before after = after ≡ before
-  AsksThrough (t ∷ turns) before after = (mid : HostSide T) × AskThrough t before mid × AsksThrough turns mid after
+  AsksThrough (t ∷ turns) before after = (mid : HostSide T) × TurnThrough t before mid × AsksThrough turns mid after
 
 -- ---- the steps of a call
 
 -- up to the start: the scope is opened, and the handles of the parameters are lowered, each of which does these parts
-abbrev pub first_steps : List (List Part) → LedgerState → List LedgerStep
-first_steps parts l = Enter ∷ leaves_steps (enter l) parts
+abbrev pub steps_before : List (List Part) → LedgerState → List LedgerStep
+steps_before parts l = Enter ∷ leaves_steps (enter l) parts
 
 -- from the return on: the scope ends, the handles of the results are lifted, and it is left
 abbrev pub last_steps : List (List Part) → LedgerState → List LedgerStep
@@ -94,7 +94,7 @@ last_steps parts l =
 -- the ledger from before a call, the handles of whose parameters do these parts, to its return, or to its last ask
 pub record CallThrough {T : Type 0} (gives : Giving T) (callee : Callee) (fuel : ℕ) (parts : List (List Part)) (turns : List AskTurn) (before served : HostSide T) : Type 0 where
   pub lowered : LedgerState
-  pub first : Through before.ledger (first_steps parts before.ledger) lowered
+  pub first : Through before.ledger (steps_before parts before.ledger) lowered
   pub asks : AsksThrough gives callee fuel turns (record before { ledger = lowered }) served
 
 -- of a call that is Ok, to its end
@@ -128,8 +128,8 @@ module _ {T : Type 0} (its : AskForm T) (answers_so : Answering T) (callee : Cal
 
 module _ {T : Type 0} (gives : Giving T) (callee : Callee) (fuel : ℕ) where
   -- an ask that wasn't resumed: up to some step of a builtin or of a function of the host
-  abbrev pub AskPartway : Error → ℕ → List ℕ → List ℕ → HostSide T → LedgerState → Type 0
-  AskPartway e index words memory served after =
+  abbrev pub TurnPartway : Error → ℕ → List ℕ → List ℕ → HostSide T → LedgerState → Type 0
+  TurnPartway e index words memory served after =
       (after ≡ served.ledger)
       ⊎ ((called : Builtin) × (builtin_at callee index ≡ Some called) × Partway served.ledger (ask_steps callee called words) after)
       ⊎ HostPartway (ask_at gives index) gives.answers callee fuel index words memory served e after
@@ -137,18 +137,18 @@ module _ {T : Type 0} (gives : Giving T) (callee : Callee) (fuel : ℕ) where
   -- from the last turn on, of a call that was refused after its start: nothing, or up to some step of its last ask, or from its return on
   abbrev pub GoesOn : Error → (List ℕ → List ℕ → List (List Part)) → HostSide T → LedgerState → List Event → Type 0
   GoesOn e last served after tail = (after ≡ served.ledger)
-      ⊎ BeginsInAsk (λ index words memory more. AskPartway e index words memory served after) tail
+      ⊎ BeginsInAsk (λ index words memory more. TurnPartway e index words memory served after) tail
       ⊎ SomeReturn (λ words memory. Partway served.ledger (last_steps (last words memory) served.ledger) after) tail
 
   -- of a call that is refused, up to some step
   abbrev pub PassesPartway : Error → List (List Part) → (List ℕ → List ℕ → List (List Part)) → List AskTurn → HostSide T → LedgerState → List Event → List Event → Type 0
   PassesPartway e first last turns before after events tail =
-      (Each IsNoStart events × Partway before.ledger (first_steps first before.ledger) after)
+      (Each IsNoStart events × Partway before.ledger (steps_before first before.ledger) after)
       ⊎ ((served : HostSide T) × CallThrough gives callee fuel first turns before served × GoesOn e last served after tail)
 
 -- The ledger of a call that is refused went through the same steps up to some step, which is one of those that the events determine.
-abbrev pub RefusedIsPartway : {T : Type 0} → Giving T → Type 0
-RefusedIsPartway {T} gives = (callee : Callee) (fuel : ℕ) (params : List Val) (turns : List AskTurn) (late_guest : Seen) (to : Moment) (late : List Answer) (trap : Option Trap) (before after : HostSide T) (given : List ℕ) (e : Error) (results : List Val) (events tail : List Event)
+abbrev pub RefusedTurnIsPartway : {T : Type 0} → Giving T → Type 0
+RefusedTurnIsPartway {T} gives = (callee : Callee) (fuel : ℕ) (params : List Val) (turns : List AskTurn) (late_guest : Seen) (to : Moment) (late : List Answer) (trap : Option Trap) (before after : HostSide T) (given : List ℕ) (e : Error) (results : List Val) (events tail : List Event)
     → HandlesPass gives callee fuel params turns late_guest to late trap before after given (Err e) results events tail
     → PassesPartway gives callee fuel e (param_parts callee params) (result_parts callee) turns before after.ledger events tail
 

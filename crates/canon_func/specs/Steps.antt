@@ -159,14 +159,14 @@ module _ {T : Type 0} (gives : Giving T) (callee : Callee) (fuel : ℕ) where
     pub shorter : length memory ≤ length after.bytes
 
   -- an ask was served and the guest resumed, which took this step or trapped; or it wasn't
-  abbrev pub Serves : ℕ → List ℕ → Moment → Moment → HostSide T → HostSide T → Result Step Error → List Answer → List Event → Type 0
-  Serves index words before after host left (Ok next) answers events =
+  abbrev pub ServesAsk : ℕ → List ℕ → Moment → Moment → HostSide T → HostSide T → Result Step Error → List Answer → List Event → Type 0
+  ServesAsk index words before after host left (Ok next) answers events =
       (r : Resumes index words before after host left answers) × (events ≡ events_of answers None ++ event.Resume r.resumed r.memory ∷ step_event next after.bytes ∷ [])
-  Serves index words before after host left (Err (error.Fault fault.GuestTrap)) answers events =
+  ServesAsk index words before after host left (Err (error.Fault fault.GuestTrap)) answers events =
       (r : Resumes index words before after host left answers) × Rose before.guest.traps after.guest.traps
       × (events ≡ events_of answers None ++ event.Resume r.resumed r.memory ∷ trap_event (length r.memory) ∷ [])
-  Serves index words before after host left (Err error.TurnsExhausted) answers events = ⊥
-  Serves index words before after host left (Err e) answers events =
+  ServesAsk index words before after host left (Err error.TurnsExhausted) answers events = ⊥
+  ServesAsk index words before after host left (Err e) answers events =
       (trap : Option Trap) × AskStops gives callee fuel e index words before after answers trap host left × (events ≡ events_of answers trap) × TrapsLate (length before.bytes) trap × RisesAt e before after
 
   -- The guest was started at the moment `before`, asked in these turns and was served; it was last let go in a memory of so many bytes.

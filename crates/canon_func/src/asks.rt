@@ -12,7 +12,7 @@ ghost use Rattle.canon_host.specs.HostSide.{host_side};
 ghost use Rattle.canon_func.specs.Asks.{IsAskOf, allowed, builtin_step, import_words, resource_of};
 ghost use Rattle.canon_func.specs.Call.{LivesUntil, OnAnswered};
 ghost use Rattle.canon_func.specs.HostAsks.{IsHostAsk, asked_error, host_error};
-ghost use Rattle.canon_func.specs.Steps.{HostAsked, MayRun, Proceeds, Resumed, SameButHost, Serves, Serving, Started};
+ghost use Rattle.canon_func.specs.Steps.{HostAsked, MayRun, Proceeds, Resumed, SameButHost, ServesAsk, Serving, Started};
 ghost use Rattle.canon_func.specs.Stores.{export_callee};
 
 use crate::Error;
@@ -113,7 +113,7 @@ fn serve<T, G: Guest, I: Imports<T, G>>(
     requires ready { I.ready imports.old }
     ensures did { Serving (moment_of G.seen core.old) (moment_of G.seen core.new)
         (λ events. OnAnswered result (G.moves (guest_of core.old) events (guest_of core.new)))
-        (λ answers events. Serves (I.gives (I.plan imports.old)) (export_callee core.old.component export.now) core.old.fuel index words.now (moment_of G.seen core.old) (moment_of G.seen core.new)
+        (λ answers events. ServesAsk (I.gives (I.plan imports.old)) (export_callee core.old.component export.now) core.old.fuel index words.now (moment_of G.seen core.old) (moment_of G.seen core.new)
         (host_side core.old (I.log imports.old) (I.refusals imports.old)) (host_side core.new (I.log imports.new) (I.refusals imports.new)) result answers events) }
     ensures same { SameButHost core.old core.new }
     ensures plan { I.plan imports.new ≡ I.plan imports.old }
@@ -175,7 +175,7 @@ fn serve_builtin<T, G: Guest, I: Imports<T, G>>(
     requires asked { IsAskOf (export_callee core.old.component export.now) index words.now builtin }
     ensures did { Serving (moment_of G.seen core.old) (moment_of G.seen core.new)
         (λ events. OnAnswered result (G.moves (guest_of core.old) events (guest_of core.new)))
-        (λ answers events. Serves (I.gives (I.plan imports.now)) (export_callee core.old.component export.now) core.old.fuel index words.now (moment_of G.seen core.old) (moment_of G.seen core.new)
+        (λ answers events. ServesAsk (I.gives (I.plan imports.now)) (export_callee core.old.component export.now) core.old.fuel index words.now (moment_of G.seen core.old) (moment_of G.seen core.new)
         (host_side core.old (I.log imports.now) (I.refusals imports.now)) (host_side core.new (I.log imports.now) (I.refusals imports.now)) result answers events) }
     ensures same { SameButHandles core.old core.new }
 {
@@ -198,7 +198,7 @@ fn serve_host<T, G: Guest, I: Imports<T, G>>(
     requires asked { IsAsked core.old.component asked.now }
     ensures did { (export : Export) → IsHostAsk (export_callee core.old.component export) index words.now asked.now → Serving (moment_of G.seen core.old) (moment_of G.seen core.new)
         (λ events. OnAnswered result (G.moves (guest_of core.old) events (guest_of core.new)))
-        (λ answers events. Serves (I.gives (I.plan imports.old)) (export_callee core.old.component export) core.old.fuel index words.now (moment_of G.seen core.old) (moment_of G.seen core.new)
+        (λ answers events. ServesAsk (I.gives (I.plan imports.old)) (export_callee core.old.component export) core.old.fuel index words.now (moment_of G.seen core.old) (moment_of G.seen core.new)
         (host_side core.old (I.log imports.old) (I.refusals imports.old)) (host_side core.new (I.log imports.new) (I.refusals imports.new)) result answers events) }
     ensures same { SameButHost core.old core.new }
     ensures plan { I.plan imports.new ≡ I.plan imports.old }
@@ -224,7 +224,7 @@ fn serve_in<T, G: Guest, I: Imports<T, G>>(
     requires room { HasRoomFor (component_types core.old) asked.now.ty storage.old }
     ensures did { (export : Export) (words pad : List ℕ) → storage.old ≡ words ++ pad → IsHostAsk (export_callee core.old.component export) index words asked.now → Serving (moment_of G.seen core.old) (moment_of G.seen core.new)
         (λ events. OnAnswered result (G.moves (guest_of core.old) events (guest_of core.new)))
-        (λ answers events. Serves (I.gives (I.plan imports.old)) (export_callee core.old.component export) core.old.fuel index words (moment_of G.seen core.old) (moment_of G.seen core.new)
+        (λ answers events. ServesAsk (I.gives (I.plan imports.old)) (export_callee core.old.component export) core.old.fuel index words (moment_of G.seen core.old) (moment_of G.seen core.new)
         (host_side core.old (I.log imports.old) (I.refusals imports.old)) (host_side core.new (I.log imports.new) (I.refusals imports.new)) result answers events) }
     ensures same { SameButHost core.old core.new }
     ensures plan { I.plan imports.new ≡ I.plan imports.old }

@@ -3,7 +3,7 @@
 ghost use Rattle.std.specs.Prelude.{IsTrue, List, ℕ};
 ghost use Rattle.canon_func.specs.Alike.{AsksAlike, StartsAlike};
 ghost use Rattle.canon_func.specs.AskExactly.{IsExact};
-ghost use Rattle.canon_func.specs.Laws.{CallIsThrough, OnlyRepresented, ParamsAreGiven, RefusedAskStands, RefusedIsPartway, RepresentedIsEnough, TypedIsPartway, TypedIsThrough};
+ghost use Rattle.canon_func.specs.Laws.{CallIsThrough, OnlyRepresented, ParamsAreGiven, RefusedAskStands, RefusedTurnIsPartway, RepresentedIsEnough, TypedIsPartway, TypedIsThrough};
 ghost use Rattle.canon_func.specs.Call.{dynamic};
 ghost use Rattle.canon_func.specs.Stores.{Callee};
 ghost use Rattle.canon_func.specs.Typed.{params_shape, typed_args};
@@ -20,7 +20,7 @@ use canon_typed::ComponentNamedList;
 /// ask. This is so whatever the imports give.
 pub fn call_is_steps<T, G: Guest, I: Imports<T, G>>(_imports: &I)
     ensures whole { CallIsThrough (I.gives (I.plan _imports.now)) }
-    ensures part { RefusedIsPartway (I.gives (I.plan _imports.now)) }
+    ensures part { RefusedTurnIsPartway (I.gives (I.plan _imports.now)) }
 {}
 
 /// The same of a typed call; and the handles of its parameters are given as those of the trees that they walk.

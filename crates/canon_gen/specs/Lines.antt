@@ -34,8 +34,8 @@ is_request (event.Realloc old old_size align new_size answer) = 1
 is_request _ = 0
 
 -- how often `realloc` answered
-abbrev pub requests : List Event → ℕ
-requests events = sum_by is_request events
+abbrev pub request_count : List Event → ℕ
+request_count events = sum_by is_request events
 
 -- ---- the result
 
@@ -68,7 +68,7 @@ number_lines n = count_line (codes "gen") n ++ codes "encoding " ++ encoding_wor
 
 -- of the events before the start
 abbrev pub count_lines : List Event → List ℕ
-count_lines before = count_line (codes "reallocs") (requests before) ++ count_line (codes "bytes") (block_bytes before)
+count_lines before = count_line (codes "reallocs") (request_count before) ++ count_line (codes "bytes") (block_bytes before)
 
 -- of the answer of a call with this value
 abbrev pub equal_line : Val → Answer → List ℕ

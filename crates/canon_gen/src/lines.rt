@@ -109,7 +109,7 @@ fn before_start(events: &[Event]) -> usize
 
 /// How often `realloc` answered.
 fn requests(events: &[Event]) -> usize
-    ensures { result ≡ spec.requests events.now }
+    ensures { result ≡ spec.request_count events.now }
 {
     let mut count = 0;
     for event in events {

@@ -8,7 +8,7 @@ use Rattle.std.specs.BTreeMap.{BTreeMap, WritesThrough, is_at}
 use Rattle.std.specs.Ordering.{nat_cmp}
 use Rattle.canon_handles.specs.declared.error.HandleError.TheVariants.{IndexOverflow, HandleLimit}
 use Rattle.canon_handles.specs.Step.{put, refuse_if, one_if}
-use Rattle.canon_handles.specs.Table.{Table, TableState, Counter, entry_at, entry_count, fresh_index, with_new, with_entry, without, IsTable, IsFresh, first_or, others, is_full, is_at_limit, insert, one_more}
+use Rattle.canon_handles.specs.Table.{Table, TableState, Counter, entry_at, entry_count, fresh_index, with_new, with_entry, without, IsTable, IsFresh, first_or, other_entries, is_full, is_at_limit, insert, one_more}
 use Rattle.canon_handles.specs.Cells.{cell_at, entry_in, values_from, table_of, cell_of, AreCells, spare_of, IsStored, WritesCell}
 use Rattle.canon_handles.specs.Laws.{TableLaws}
 use Rattle.canon_handles.specs.LendingTable.{stored_with}
@@ -137,7 +137,7 @@ module _ {E : Type 0} {greatest most : ℕ} {vacant : Bool} {cells : List (ℕ �
 
   -- an insertion takes a freed index off the stack, or raises the greatest
   counts_by : (free : List ℕ) → v.table.free ≡ free
-      → max greatest (first_or (suc greatest) free) + length free ≡ greatest + length (others free) + 1
+      → max greatest (first_or (suc greatest) free) + length free ≡ greatest + length (other_entries free) + 1
   counts_by [] e = omega arith
   counts_by (i ∷ is) e = let h = first_within v.table i is e sound in let l = array_length in omega arith
 
@@ -216,7 +216,7 @@ module _ {E : Type 0} {greatest most : ℕ} {vacant : Bool} {cells : List (ℕ �
 
   -- An insertion
   module _ (cells' : List (ℕ × Option E)) (index greatest' : ℕ) (e : E) (stack' : List ℕ) (top : greatest' ≡ max greatest index)
-      (at : index ≡ fresh_index v.table) (writes : WritesCell cells cells' index (Some (Some e))) (popped : reverse stack' ≡ others (reverse stack)) where
+      (at : index ≡ fresh_index v.table) (writes : WritesCell cells cells' index (Some (Some e))) (popped : reverse stack' ≡ other_entries (reverse stack)) where
     inserted_array : values_from (entry_in cells') 0 (suc greatest') ≡ put v.table.array (fresh_index v.table) (Some e)
     inserted_array =
         let n : suc greatest' ≡ max (suc greatest) (suc index) = omega arith in
@@ -226,7 +226,7 @@ module _ {E : Type 0} {greatest most : ℕ} {vacant : Bool} {cells : List (ℕ �
         ∙ ap (λ (k : ℕ). put v.table.array k (Some e)) at
 
     pub inserted : table_of greatest' most cells' stack' ≡ with_new v.table e
-    inserted = same_record _ (with_new v.table e) inserted_array (popped ∙ sym (ap others free)) (sym greatest_allowed)
+    inserted = same_record _ (with_new v.table e) inserted_array (popped ∙ sym (ap other_entries free)) (sym greatest_allowed)
 
     inserted_exact : (i : ℕ) → cell_at cells' i ≡ option_map Some (entry_at (with_new v.table e) i)
     inserted_exact i = elim (equal_or_not i index) as (λ _. cell_at cells' i ≡ option_map Some (entry_at (with_new v.table e) i)) [
@@ -244,7 +244,7 @@ module _ {E : Type 0} {greatest most : ℕ} {vacant : Bool} {cells : List (ℕ �
         let c = counts_by v.table.free refl in
         let d : max greatest (first_or (suc greatest) v.table.free) ≡ max greatest index = ap (λ (n : ℕ). max greatest n) (fresh_above ∙ sym at) in
         let f : length v.table.free ≡ length stack = ap length free ∙ length-reverse stack in
-        let g : length (others v.table.free) ≡ length stack' = ap (λ l. length (others l)) free ∙ ap length (sym popped) ∙ length-reverse stack' in
+        let g : length (other_entries v.table.free) ≡ length stack' = ap (λ l. length (other_entries l)) free ∙ ap length (sym popped) ∙ length-reverse stack' in
         omega arith
 
     pub inserted_stored : (room' : ℕ) → index ≤ most → index ≤ room' → room ≤ room' → IsStored greatest' most false cells' stack' room'

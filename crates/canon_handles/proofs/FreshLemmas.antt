@@ -2,7 +2,7 @@
 use Rattle.std.proofs.Common.{◌≡◌, ◌≢◌, ℕ, ◌+◌, ◌≤◌, max, Bool, true, false, ◌||◌, ◌==◌, cond, List, [], ◌∷◌, length, Option, Some, None, refl, sym, ap, subst, ◌∙◌, arith, is_some, ◌⊎◌, inl, inr}
 use Rattle.std.proofs.lemmas.Bool.{eq-eqb, ne_eqb}
 use Rattle.canon_handles.specs.Step.{put, one_if, occurrences}
-use Rattle.canon_handles.specs.Table.{Table, entry_at, fresh_index, with_new, without, IsTable, empty_table, first_or, others, is_full, vacancy}
+use Rattle.canon_handles.specs.Table.{Table, entry_at, fresh_index, with_new, without, IsTable, empty_table, first_or, other_entries, is_full, vacancy}
 use Rattle.canon_handles.specs.Laws.{TableCall, Insert, Remove, Event, Inserted, Removed, TableWithHistory, record_call, record_calls, freed, greatest_given, IndexReuse}
 use Rattle.canon_handles.proofs.StepLemmas.{length-put, length-put_end, some_within, one_if-true}
 use Rattle.canon_handles.proofs.TableLemmas.{is_table-with_new, is_table-without, is_table-empty, vacancy_some, vacancy_le, vacancy_only, equal_or_not}
@@ -106,7 +106,7 @@ length_after t (i ∷ is) g eq s x len =
     omega arith
 
 -- the free indexes after an insertion
-free_after : {E : Type 0} (t : Table E) (free : List ℕ) → t.free ≡ free → IsTable t → others free ≡ skip (first_or (length t.array) free) free
+free_after : {E : Type 0} (t : Table E) (free : List ℕ) → t.free ≡ free → IsTable t → other_entries free ≡ skip (first_or (length t.array) free) free
 unfolding skip
 free_after t [] is s = refl
 free_after t (i ∷ is) eq s =

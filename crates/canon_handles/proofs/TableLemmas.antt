@@ -3,7 +3,7 @@ use Rattle.std.proofs.Common.{◌≡◌, ◌≢◌, ℕ, zero, suc, ◌+◌, ◌
 use Rattle.std.proofs.lemmas.Bool.{eq-eqb, ne_eqb, ltb-true, lt-ltb}
 use Rattle.std.proofs.lemmas.Bool.Decides.{nat_tests, eqb_tells}
 use Rattle.canon_handles.specs.Step.{put, one_if, occurrences}
-use Rattle.canon_handles.specs.Table.{Table, entry_at, fresh_index, with_new, with_entry, without, vacancy, IsTable, IsFresh, empty_table, others, first_or}
+use Rattle.canon_handles.specs.Table.{Table, entry_at, fresh_index, with_new, with_entry, without, vacancy, IsTable, IsFresh, empty_table, other_entries, first_or}
 use Rattle.canon_handles.proofs.StepLemmas.{length-put, length-put_end, get_or-put_same, get_or-put_other, some_within, get_or_past_end, one_if-true, one_if-false, true-one_if}
 
 -- of an index, a length and whether there is nothing at the index
@@ -72,7 +72,7 @@ vacancy_longer t t' k el ne ee =
 
 -- with an entry at the first free index
 abbrev with_first : {E : Type 0} → Table E → List ℕ → E → Table E
-with_first t free e = record { array = put t.array (first_or (length t.array) free) (Some e); free = others free; max = t.max }
+with_first t free e = record { array = put t.array (first_or (length t.array) free) (Some e); free = other_entries free; max = t.max }
 
 other_k : {E : Type 0} (t : Table E) (free : List ℕ) (s : IsTable t) → t.free ≡ free → (e : E) (k : ℕ) → k ≢ first_or (length t.array) free → entry_at (with_first t free e) k ≡ entry_at t k
 other_k t free s is e k ne = get_or-put_other t.array (first_or (length t.array) free) k (Some e) None (fresh_by t free is s).at_end ne
@@ -83,7 +83,7 @@ same_k t free s is e k eq =
 
 free_after : {E : Type 0} (t : Table E) (free : List ℕ) → t.free ≡ free → IsTable t → (e : E) (k : ℕ)
     → ((k ≡ first_or (length t.array) free) ⊎ (k ≢ first_or (length t.array) free))
-    → occurrences k (others free) ≡ vacancy (with_first t free e) k
+    → occurrences k (other_entries free) ≡ vacancy (with_first t free e) k
 free_after t [] is s e k (inl eq) = sym (vacancy_some (with_first t [] e) k e (same_k t [] s is e k eq))
 free_after t [] is s e k (inr ne) =
     subst (λ l. occurrences k l ≡ vacancy t k) is (s.free_are_vacant k)

@@ -2,7 +2,7 @@
 use Rattle.std.proofs.Common.{◌≡◌, ◌≢◌, ℕ, zero, suc, ◌+◌, ◌-◌, ◌<◌, ◌≤◌, max, true, cond, List, [], ◌∷◌, ◌++◌, length, get_or, take, reverse, Option, Some, None, is_some, Ok, Err, Result, is_ok, OnOk, IsOk, slice_get, refl, sym, ap, ◌∙◌, arith, ◌⊎◌, inl, inr}
 use Rattle.std.proofs.lemmas.List.{reverse-append}
 use Rattle.canon_handles.specs.Step.{put}
-use Rattle.canon_handles.specs.Table.{others}
+use Rattle.canon_handles.specs.Table.{other_entries}
 use Rattle.canon_handles.specs.Cells.{values_from}
 use Rattle.canon_handles.proofs.StepLemmas.{length-put, length-put_end, get_or-put_same, get_or-put_other, get_or_past_end}
 use Rattle.canon_handles.proofs.TableLemmas.{equal_or_not}
@@ -80,12 +80,12 @@ last_split (x ∷ []) (suc n) e = absurd (omega arith)
 last_split (x ∷ y ∷ ys) (suc n) e = ap (λ l. x ∷ l) (last_split (y ∷ ys) n (omega arith))
 
 -- what is left of a stack when its top is taken off
-pub reverse_rest : (xs : List ℕ) (n : ℕ) → n ≡ length xs → reverse (take (n - 1) xs) ≡ others (reverse xs)
+pub reverse_rest : (xs : List ℕ) (n : ℕ) → n ≡ length xs → reverse (take (n - 1) xs) ≡ other_entries (reverse xs)
 reverse_rest [] n e = ap (λ (k : ℕ). reverse (take {A = ℕ} (k - 1) [])) e
 reverse_rest (x ∷ xs) n e =
     let k : n - 1 ≡ length xs = omega arith in
     ap (λ (k : ℕ). reverse (take k (x ∷ xs))) k
-    ∙ sym (ap others (ap reverse (last_split (x ∷ xs) (length xs) refl) ∙ reverse-append (take (length xs) (x ∷ xs)) (get_or (x ∷ xs) (length xs) 0 ∷ [])))
+    ∙ sym (ap other_entries (ap reverse (last_split (x ∷ xs) (length xs) refl) ∙ reverse-append (take (length xs) (x ∷ xs)) (get_or (x ∷ xs) (length xs) 0 ∷ [])))
 
 pub never : {A : Type 0} (o : Option A) → None ≡ o → is_some o ≡ true → ⊥
 never None e h = absurd (cc)

@@ -42,9 +42,9 @@ abbrev pub first_or : ℕ → List ℕ → ℕ
 first_or n [] = n
 first_or n (i ∷ is) = i
 
-abbrev pub others : List ℕ → List ℕ
-others [] = []
-others (i ∷ is) = is
+abbrev pub other_entries : List ℕ → List ℕ
+other_entries [] = []
+other_entries (i ∷ is) = is
 
 -- the index that the next insertion gives: the last freed one, and else the one above the greatest
 abbrev pub fresh_index : {E : Type 0} → Table E → ℕ
@@ -56,7 +56,7 @@ is_full t = nat_lt t.max (fresh_index t)
 
 -- the table with an entry at a fresh index
 abbrev pub with_new : {E : Type 0} → Table E → E → Table E
-with_new t e = record { array = put t.array (fresh_index t) (Some e); free = others t.free; max = t.max }
+with_new t e = record { array = put t.array (fresh_index t) (Some e); free = other_entries t.free; max = t.max }
 
 -- the table in which an index names another entry
 abbrev pub with_entry : {E : Type 0} → Table E → ℕ → E → Table E

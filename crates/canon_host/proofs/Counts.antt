@@ -1,27 +1,21 @@
 -- How many values and words a tuple takes.
-use Rattle.std.proofs.Common.{List, None, Option, Some, [], ap, arith, le-leb, length, max, nat_le, refl, suc, sym, ℕ, ⊎_elim, ◌+◌, ◌∙◌, ◌∷◌, ◌≡◌, ◌≤◌, ◌<◌}
+use Rattle.std.proofs.Common.{List, None, Option, Some, arith, le-leb, length, max, nat_le, refl, sym, ℕ, ⊎_elim, ◌+◌, ◌∙◌, ◌∷◌, ◌≡◌, ◌≤◌, ◌<◌}
 use Rattle.std.specs.Prelude.{SomeIff, unwrap_or}
 use Rattle.std.proofs.Math.Nat.{le-max_left, le-max_right}
 use Rattle.std.proofs.lemmas.Bool.{cases_lt, cond-false, cond-true, lt-leb}
 use Rattle.canon_model.specs.Flat.{max_params, max_results}
 use Rattle.canon_model.specs.Layout.{flat, members_flat}
-use Rattle.canon_model.specs.Shape.{Members, member_count, of_places, product}
-use Rattle.canon_types.specs.Table.{TypeTable, members_of}
-use Rattle.canon_types.specs.declared.types.InterfaceType.{InterfaceType}
-use Rattle.canon_value_parts.proofs.Far.{far_words, near_words}
+use Rattle.canon_model.specs.Shape.{Members, of_places, product}
+use Rattle.canon_value_parts.proofs.Far.{far_words, value_near_words}
 use Rattle.canon_value_parts.specs.Args.{args_words}
 use Rattle.canon_host.specs.Asked.{AreEnough, pointer_words, row_words, storage_words}
-
-pub member_count-members_of : (t : TypeTable) (types : List InterfaceType) → member_count (members_of t types) ≡ length types
-member_count-members_of t [] = refl
-member_count-members_of t (x ∷ xs) = ap suc (member_count-members_of t xs)
 
 pub product_flat : (ms : Members) → flat (product of_places ms) ≡ members_flat ms
 unfolding flat
 product_flat ms = refl
 
 counted : (n : ℕ) (o : Option ℕ) (ms : Members) → n ≡ members_flat ms → SomeIff o ((n ≤ 16) × (n ≤ 16)) n → unwrap_or o 1 ≡ args_words ms
-counted n (Some x) ms e h = h.1 ∙ (e ∙ sym (near_words ms (omega (arith, h.0.0, e))))
+counted n (Some x) ms e h = h.1 ∙ (e ∙ sym (value_near_words ms (omega (arith, h.0.0, e))))
 counted n None ms e h = sym (⊎_elim (λ far. far_words ms far) (λ near. absurd (h (omega (arith, near, e), omega (arith, near, e)))) (cases_lt max_params (members_flat ms)))
 
 pub words_counted : (o : Option ℕ) (ms : Members) → SomeIff o ((flat (product of_places ms) ≤ 16) × (flat (product of_places ms) ≤ 16)) (flat (product of_places ms)) → unwrap_or o 1 ≡ args_words ms

@@ -33,8 +33,8 @@ use Rattle.canon_host.proofs.Serving.{serves_changed, told_count}
 use Rattle.std.proofs.lemmas.List.{length-replicate}
 
 -- what is asked for by a type and options
-abbrev pub asked_by : ℕ → TypeFunc → ℕ → Asked
-asked_by ty func options = record { ty = ty; func = func; options = options }
+abbrev pub host_asked_by : ℕ → TypeFunc → ℕ → Asked
+host_asked_by ty func options = record { ty = ty; func = func; options = options }
 
 -- what was done over a core was done on what it reaches
 done_on : {T G : Type 0} (May : HostView T → HostView T → Type 0) (b a : Parts T G) → DoneOver May b a → DoneOn May (in_view b) a.state a.ledger
@@ -93,9 +93,9 @@ module _ {F T G : Type 0} (g : Closure F (HostView T) Val (Result (Unit {0}) Hos
   served_import asked before after words words2 (Err e) h = serves_import asked before after words words2 (Err e) h
 
   -- of a type that was found
-  pub found_import : (ty options : ℕ) (before after : Parts T G) (words words2 : List ℕ) (r : Result (Vec Val Global) HostError) (o : Option TypeFunc) → IfSome o (λ t. ServesInRow g f seen moves (asked_by ty t options) before words r after words2)
-      → IfSome o (λ t. AnswersInRow (λ told. ServesWith gives log n seen moves (asked_by ty t options) may before words told after words2) r)
-  found_import ty options before after words words2 r (Some t) h = served_import (asked_by ty t options) before after words words2 r h
+  pub found_import : (ty options : ℕ) (before after : Parts T G) (words words2 : List ℕ) (r : Result (Vec Val Global) HostError) (o : Option TypeFunc) → IfSome o (λ t. ServesInRow g f seen moves (host_asked_by ty t options) before words r after words2)
+      → IfSome o (λ t. AnswersInRow (λ told. ServesWith gives log n seen moves (host_asked_by ty t options) may before words told after words2) r)
+  found_import ty options before after words words2 r (Some t) h = served_import (host_asked_by ty t options) before after words words2 r h
   found_import ty options before after words words2 r None h = tt
 
 -- ---- the entry of values in a row
@@ -114,23 +114,23 @@ module _ {T G : Type 0} (gives : Giving T) (may : ValuesAnswering T) (log : Opti
 
 module _ {T G : Type 0} (gives : Giving T) (may : ValuesAnswering T) (log log2 : Option (List LoggedEntry)) (n : ℕ) (seen : G → Seen) (moves : GuestIn G → List Event → GuestIn G → Type 0) (ty options r r2 : ℕ) (before after : Parts T G) (words words2 : List ℕ) where
   -- what was done, by its values in a row
-  abbrev pub Done : Result (Vec Val Global) HostError → TypeFunc → Type 0
-  Done result t = AnswersInRow (λ told. ServesWith gives log n seen moves (asked_by ty t options) may before words told after words2) result
+  abbrev pub AskDone : Result (Vec Val Global) HostError → TypeFunc → Type 0
+  AskDone result t = AnswersInRow (λ told. ServesWith gives log n seen moves (host_asked_by ty t options) may before words told after words2) result
 
   abbrev pub Answered : Result (Unit {0}) HostError → TypeFunc → Type 0
-  Answered result t = ServesForm gives log n seen moves (asked_by ty t options) (over_values may) log2 r r2 before words result after words2
+  Answered result t = ServesForm gives log n seen moves (host_asked_by ty t options) (over_values may) log2 r r2 before words result after words2
 
-  pub logs : (o : Option TypeFunc) (values : Vec Val Global) (count : ℕ) → IfSome o (Done (Ok values)) → IfSome o (λ t. count ≡ member_count (param_members (component_types before) t))
+  pub logs : (o : Option TypeFunc) (values : Vec Val Global) (count : ℕ) → IfSome o (AskDone (Ok values)) → IfSome o (λ t. count ≡ member_count (param_members (component_types before) t))
       → log2 ≡ logged log (logged_entry n (params_and_results (take count values.items) (drop count values.items))) → r2 ≡ r → IfSome o (Answered (Ok tt))
   logs (Some t) values count (told, row, served) is more same =
-      (told, served, more ∙ ap (logged log) (entry_in_row gives may log n seen moves (asked_by ty t options) before after words words2 values.items told count served row is), same)
+      (told, served, more ∙ ap (logged log) (entry_in_row gives may log n seen moves (host_asked_by ty t options) before after words words2 values.items told count served row is), same)
   logs None values count done is more same = tt
 
-  pub refuses : (o : Option TypeFunc) → IfSome o (Done (Err error.Refused)) → log2 ≡ log → r2 ≡ cap (r + 1) → IfSome o (Answered (Err error.Refused))
+  pub refuses : (o : Option TypeFunc) → IfSome o (AskDone (Err error.Refused)) → log2 ≡ log → r2 ≡ cap (r + 1) → IfSome o (Answered (Err error.Refused))
   refuses (Some t) done same once = (same, once, done)
   refuses None done same once = tt
 
-  pub faults : (o : Option TypeFunc) (e : Fault) → IfSome o (Done (Err (error.Fault e))) → log2 ≡ log → r2 ≡ r → IfSome o (Answered (Err (error.Fault e)))
+  pub faults : (o : Option TypeFunc) (e : Fault) → IfSome o (AskDone (Err (error.Fault e))) → log2 ≡ log → r2 ≡ r → IfSome o (Answered (Err (error.Fault e)))
   faults (Some t) e done same count = (same, count, done)
   faults None e done same count = tt
 
@@ -147,13 +147,13 @@ module _ {T G : Type 0} (gives : Giving T) (may : ValuesAnswering T) (entries : 
   gave_in asked told h = let (params, lifted, lifts, (called, same, c, ends)) = h in gave _ _ _ _ c.by_log.1
 
   -- of a type that was found
-  pub found_gave : (ty options : ℕ) (values : Vec Val Global) (o : Option TypeFunc) → o ≢ None → IfSome o (λ t. AnswersInRow (λ told. ServesWith gives (Some entries) n seen moves (asked_by ty t options) may before words told after words2) (Ok values)) → P
-  found_gave ty options values (Some t) there (told, row, served) = gave_in (asked_by ty t options) told served
-  found_gave ty options values None there served = absurd (there refl)
+  pub found_gave : (ty options : ℕ) (values : Vec Val Global) (o : Option TypeFunc) → o ≢ None → IfSome o (λ t. AnswersInRow (λ told. ServesWith gives (Some entries) n seen moves (host_asked_by ty t options) may before words told after words2) (Ok values)) → P
+  found_gave ty options values (Some t) ask_there (told, row, served) = gave_in (host_asked_by ty t options) told served
+  found_gave ty options values None ask_there served = absurd (ask_there refl)
 
 -- a function of the table is found
-pub there : {G T : Type 0} (before : Parts T G) (ty : ℕ) → HasFunc (component_types before) ty → slice_get (component_types before).funcs ty ≢ None
-there before ty inside none = ⊎_elim (λ at. absurd (none-some at.0 (sym none ∙ at.2))) (λ past. absurd (omega (arith, inside, past.0))) (slice_get_cases (component_types before).funcs ty).1
+pub ask_there : {G T : Type 0} (before : Parts T G) (ty : ℕ) → HasFunc (component_types before) ty → slice_get (component_types before).funcs ty ≢ None
+ask_there before ty inside none = ⊎_elim (λ at. absurd (none-some at.0 (sym none ∙ at.2))) (λ past. absurd (omega (arith, inside, past.0))) (slice_get_cases (component_types before).funcs ty).1
 
 -- ---- one ask over Rust types
 
@@ -178,10 +178,10 @@ module _ {F T G P R : Type 0} (g : StaticClosure F (HostView T) P (Result R Host
   module _ (ty options : ℕ) (before after : Parts T G) (words words2 : List ℕ) where
     -- what `entrypoint` says of a function of a type
     abbrev pub DoneTyped : Result (Unit {0}) HostError → TypeFunc → Type 0
-    DoneTyped result t = ServesTyped g f types.reading types.walks types.gives seen moves (asked_by ty t options) before words result after words2
+    DoneTyped result t = ServesTyped g f types.reading types.walks types.gives seen moves (host_asked_by ty t options) before words result after words2
 
-    abbrev pub Fits : TypeFunc → Type 0
-    Fits t = FitRustTypes types.fits_params types.fits_results before.component.types t
+    abbrev pub AskFits : TypeFunc → Type 0
+    AskFits t = FitRustTypes types.fits_params types.fits_results before.component.types t
 
     abbrev pub IsSync : TypeFunc → Type 0
     IsSync t = t.async_ ≡ false
@@ -191,10 +191,10 @@ module _ {F T G P R : Type 0} (g : StaticClosure F (HostView T) P (Result R Host
 
     -- this closure served the ask, or the type was refused
     abbrev pub ServedTyped : Result (Unit {0}) HostError → TypeFunc → Type 0
-    ServedTyped result t = ServedByTyped g f types seen moves (asked_by ty t options) before words result after words2
+    ServedTyped result t = ServedByTyped g f types seen moves (host_asked_by ty t options) before words result after words2
 
     -- which closure served
-    pub served_typed : (o : Option TypeFunc) (result : Result (Unit {0}) HostError) → IfSome o IsSync → IfSome o Fits → IfSome o (DoneTyped result) → IfSome o (ServedTyped result)
+    pub served_typed : (o : Option TypeFunc) (result : Result (Unit {0}) HostError) → IfSome o IsSync → IfSome o AskFits → IfSome o (DoneTyped result) → IfSome o (ServedTyped result)
     served_typed (Some t) result sync fits done = inr ((sync, fits), done)
     served_typed None result sync fits done = tt
 
@@ -205,18 +205,18 @@ module _ {F T G P R : Type 0} (g : StaticClosure F (HostView T) P (Result R Host
     -- with the counts of refusals
     module _ (r r2 : ℕ) where
       abbrev pub AnsweredTyped : Result (Unit {0}) HostError → TypeFunc → Type 0
-      AnsweredTyped result t = ServesTypes types May None seen moves (asked_by ty t options) None r r2 before words result after words2
+      AnsweredTyped result t = ServesTypes types May None seen moves (host_asked_by ty t options) None r r2 before words result after words2
 
-      pub typed_serves : (o : Option TypeFunc) → IfSome o IsSync → IfSome o Fits → IfSome o (DoneTyped (Ok tt)) → r2 ≡ r → IfSome o (AnsweredTyped (Ok tt))
-      typed_serves (Some t) sync fits (told, served) same = (told, typed_import (asked_by ty t options) before after words words2 (Ok told) (sync, fits) served, refl, same)
+      pub typed_serves : (o : Option TypeFunc) → IfSome o IsSync → IfSome o AskFits → IfSome o (DoneTyped (Ok tt)) → r2 ≡ r → IfSome o (AnsweredTyped (Ok tt))
+      typed_serves (Some t) sync fits (told, served) same = (told, typed_import (host_asked_by ty t options) before after words words2 (Ok told) (sync, fits) served, refl, same)
       typed_serves None sync fits done same = tt
 
-      pub typed_refuses : (o : Option TypeFunc) → IfSome o IsSync → IfSome o Fits → IfSome o (DoneTyped (Err error.Refused)) → r2 ≡ cap (r + 1) → IfSome o (AnsweredTyped (Err error.Refused))
-      typed_refuses (Some t) sync fits done once = (refl, once, typed_import (asked_by ty t options) before after words words2 (Err error.Refused) (sync, fits) done)
+      pub typed_refuses : (o : Option TypeFunc) → IfSome o IsSync → IfSome o AskFits → IfSome o (DoneTyped (Err error.Refused)) → r2 ≡ cap (r + 1) → IfSome o (AnsweredTyped (Err error.Refused))
+      typed_refuses (Some t) sync fits done once = (refl, once, typed_import (host_asked_by ty t options) before after words words2 (Err error.Refused) (sync, fits) done)
       typed_refuses None sync fits done once = tt
 
-      pub typed_faults : (o : Option TypeFunc) (e : Fault) → IfSome o IsSync → IfSome o Fits → IfSome o (DoneTyped (Err (error.Fault e))) → r2 ≡ r → IfSome o (AnsweredTyped (Err (error.Fault e)))
-      typed_faults (Some t) e sync fits done same = (refl, same, typed_import (asked_by ty t options) before after words words2 (Err (error.Fault e)) (sync, fits) done)
+      pub typed_faults : (o : Option TypeFunc) (e : Fault) → IfSome o IsSync → IfSome o AskFits → IfSome o (DoneTyped (Err (error.Fault e))) → r2 ≡ r → IfSome o (AnsweredTyped (Err (error.Fault e)))
+      typed_faults (Some t) e sync fits done same = (refl, same, typed_import (host_asked_by ty t options) before after words words2 (Err (error.Fault e)) (sync, fits) done)
       typed_faults None e sync fits done same = tt
 
       -- nothing was done since `typecheck` refused the type

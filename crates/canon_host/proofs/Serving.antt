@@ -33,7 +33,7 @@ use Rattle.canon_val.specs.declared.val.Val.{Val}
 use Rattle.canon_val.specs.declared.val.Val.TheVariants as val
 use Rattle.canon_value_parts.proofs.Values.{have_count}
 use Rattle.canon_host.specs.Asked.{RestStays, row_words}
-use Rattle.canon_host.specs.Serves.{Answers, AnswersBy, AskValues, Calling, CallsFunction, CallsBlank, Concludes, ConcludesBy, EndsAsk, AnswersInRow, LiftsAsked, LoweringRelation, LowersGiven, Serves, ServesBy, ServesEntered, ServesEnteredBy, Steps, Values, blank, value_steps, params_and_results}
+use Rattle.canon_host.specs.Serves.{Answers, AnswersBy, AskValues, Calling, CallsFunction, CallsBlank, ConcludesAsk, ConcludesBy, EndsAsk, AnswersInRow, LiftsAsked, LoweringRelation, LowersGiven, Serves, ServesBy, ServesEntered, ServesEnteredBy, Steps, Values, blank, value_steps, params_and_results}
 use Rattle.canon_host.specs.declared.asked.Asked.{Asked}
 use Rattle.canon_host.specs.declared.error.HostError.{HostError}
 use Rattle.canon_lowering.specs.Stages.{Stage}
@@ -45,12 +45,12 @@ take_all : {A : Type 0} (xs : List A) → take (length xs) xs ≡ xs
 take_all xs = ap (take (length xs)) (sym (append-nil xs)) ∙ take-append_seam xs []
 
 -- the items past some
-pub past : {A : Type 0} (n : ℕ) (xs nv : List A) → xs ≡ nv → take (length xs - n) (drop n xs) ≡ drop n nv
-past n xs nv is = ap (λ m. take m (drop n xs)) (sym (length-drop n xs)) ∙ (take_all (drop n xs) ∙ ap (drop n) is)
+pub ask_past : {A : Type 0} (n : ℕ) (xs nv : List A) → xs ≡ nv → take (length xs - n) (drop n xs) ≡ drop n nv
+ask_past n xs nv is = ap (λ m. take m (drop n xs)) (sym (length-drop n xs)) ∙ (take_all (drop n xs) ∙ ap (drop n) is)
 
 -- the slice after a write to all of it
-pub whole : {A : Type 0} (n : ℕ) (nv items : List A) → n ≡ length items → length nv ≡ length items → take n (nv ++ drop (length nv) items) ≡ nv
-whole n nv items hn hl =
+pub ask_whole : {A : Type 0} (n : ℕ) (nv items : List A) → n ≡ length items → length nv ≡ length items → take n (nv ++ drop (length nv) items) ≡ nv
+ask_whole n nv items hn hl =
     ap (λ m. take n (nv ++ drop m items)) hl ∙ (ap (λ xs. take n (nv ++ xs)) (drop-length items) ∙ (ap (take n) (append-nil nv) ∙ (ap (λ m. take m nv) (hn ∙ sym hl) ∙ take_all nv)))
 
 module _ {F T G : Type 0} (g : Closure F (HostView T) Val (Result (Unit {0}) HostStop)) (f : F) (asked : Asked) where
@@ -147,12 +147,12 @@ module _ {F T G : Type 0} (g : Closure F (HostView T) Val (Result (Unit {0}) Hos
     split : nv ≡ params ++ drop n nv
     split = sym (take-append-drop n nv) ∙ ap (λ xs. xs ++ drop n nv) (hp ∙ front)
 
-    pub answered_ok : (final : List Val) → final ≡ nv → Concludes seen moves asked made shown words (Ok tt) after words2
+    pub answered_ok : (final : List Val) → final ≡ nv → ConcludesAsk seen moves asked made shown words (Ok tt) after words2
         → (told : AskValues) × (final ≡ told.params ++ told.results) × Answers (CallsBlank g f asked) seen moves asked before params words (Ok told) after words2
-    answered_ok final is h = (params_and_results params (drop n nv), is ∙ split, (made, refl, calls, subst (λ xs. Concludes seen moves asked made xs words (Ok tt) after words2) hs h))
+    answered_ok final is h = (params_and_results params (drop n nv), is ∙ split, (made, refl, calls, subst (λ xs. ConcludesAsk seen moves asked made xs words (Ok tt) after words2) hs h))
 
-    pub answered_err : (x : Fault) → Concludes seen moves asked made shown words (Err x) after words2 → Answers (CallsBlank g f asked) seen moves asked before params words (Err (error.Fault x)) after words2
-    answered_err x h = inr (inr (drop n nv, made, x, refl, calls, subst (λ xs. Concludes seen moves asked made xs words (Err x) after words2) hs h))
+    pub answered_err : (x : Fault) → ConcludesAsk seen moves asked made shown words (Err x) after words2 → Answers (CallsBlank g f asked) seen moves asked before params words (Err (error.Fault x)) after words2
+    answered_err x h = inr (inr (drop n nv, made, x, refl, calls, subst (λ xs. ConcludesAsk seen moves asked made xs words (Err x) after words2) hs h))
 
 -- ---- the whole ask
 
@@ -168,10 +168,10 @@ module _ {T G A P R S : Type 0} (how : Steps T G A P R S) (asked : Asked) where
   served_by before mid after words words2 (Err e) is h = inr (subst (λ k. ServesEnteredBy how asked k words (Err e) after words2) is h)
 
 module _ {T G : Type 0} (C : Calling T G) (seen : G → Seen) (moves : GuestIn G → List Event → GuestIn G → Type 0) (asked : Asked) where
-  pub entered : (before lifted after : Parts T G) (words words2 : List ℕ) (params : Vec Val Global) (r : Result (Vec Val Global) HostError) → LiftsAsked asked before words (Ok params) lifted
+  pub ask_entered : (before lifted after : Parts T G) (words words2 : List ℕ) (params : Vec Val Global) (r : Result (Vec Val Global) HostError) → LiftsAsked asked before words (Ok params) lifted
       → AnswersInRow (λ told. Answers C seen moves asked lifted params.items words told after words2) r → AnswersInRow (λ told. ServesEntered C seen moves asked before words told after words2) r
-  entered before lifted after words words2 params (Ok values) lifts h = (h.0, h.1, entered_by (value_steps C seen moves asked) asked before lifted after words words2 params (Ok h.0) lifts h.2)
-  entered before lifted after words words2 params (Err e) lifts h = entered_by (value_steps C seen moves asked) asked before lifted after words words2 params (Err e) lifts h
+  ask_entered before lifted after words words2 params (Ok values) lifts h = (h.0, h.1, entered_by (value_steps C seen moves asked) asked before lifted after words words2 params (Ok h.0) lifts h.2)
+  ask_entered before lifted after words words2 params (Err e) lifts h = entered_by (value_steps C seen moves asked) asked before lifted after words words2 params (Err e) lifts h
 
   pub served : (before mid after : Parts T G) (words words2 : List ℕ) (r : Result (Vec Val Global) HostError) → mid ≡ record before { ledger = enter before.ledger }
       → AnswersInRow (λ told. ServesEntered C seen moves asked mid words told after words2) r → AnswersInRow (λ told. Serves C seen moves asked before words told after words2) r
@@ -179,11 +179,11 @@ module _ {T G : Type 0} (C : Calling T G) (seen : G → Seen) (moves : GuestIn G
   served before mid after words words2 (Err e) is h = served_by (value_steps C seen moves asked) asked before mid after words words2 (Err e) is h
 
   -- there are as many parameters as the type has
-  pub params_count : (before lifted : Parts T G) (words : List ℕ) (params : Vec Val Global) → LiftsAsked asked before words (Ok params) lifted → length params.items ≡ member_count (param_members (component_types before) asked.func)
-  params_count before lifted words params lifts = have_count true (param_members (component_types before) asked.func) params.items lifts.0.1.ok.its_trees lifts.0.1.ok.have
+  pub ask_params_count : (before lifted : Parts T G) (words : List ℕ) (params : Vec Val Global) → LiftsAsked asked before words (Ok params) lifted → length params.items ≡ member_count (param_members (component_types before) asked.func)
+  ask_params_count before lifted words params lifts = have_count true (param_members (component_types before) asked.func) params.items lifts.0.1.ok.its_trees lifts.0.1.ok.have
 
   pub told_count : (before after : Parts T G) (words words2 : List ℕ) (told : AskValues) → Serves C seen moves asked before words (Ok told) after words2 → length told.params ≡ member_count (param_members (component_types before) asked.func)
-  told_count before after words words2 told h = ap length h.3.1 ∙ params_count (record before { ledger = enter before.ledger }) h.1 words h.0 h.2
+  told_count before after words words2 told h = ap length h.3.1 ∙ ask_params_count (record before { ledger = enter before.ledger }) h.1 words h.0 h.2
 
 -- of the type that was found
 pub found_at : {Q T G : Type 0} (Is : Q → Asked → Parts T G → List ℕ → Type 0) (f f2 : Q) (asked : Asked) (ty options : ℕ) (made after : Parts T G) (words2 words3 : List ℕ) (o : Option TypeFunc)
@@ -196,7 +196,7 @@ found_at Is f f2 asked ty options made after words2 words3 o ef found ety eopt h
 
 -- nothing after the call changes them
 pub concluded_state : {T G : Type 0} (seen : G → Seen) (moves : GuestIn G → List Event → GuestIn G → Type 0) (asked : Asked) (before after : Parts T G) (results : List Val) (words words2 : List ℕ) (r : Result (Unit {0}) Fault)
-    → Concludes seen moves asked before results words r after words2 → after.state ≡ before.state
+    → ConcludesAsk seen moves asked before results words r after words2 → after.state ≡ before.state
 concluded_state {T} {G} seen moves asked before after results words words2 (Ok x) h = ap (λ (k : Parts T G). k.state) h.4.same ∙ ap (λ (k : Parts T G). k.state) h.3.1
 concluded_state {T} {G} seen moves asked before after results words words2 (Err e) (inl (none, same, words_same)) = ap (λ (k : Parts T G). k.state) same
 concluded_state {T} {G} seen moves asked before after results words words2 (Err e) (inr (at, place, inl (x, is, ends, words_same))) = ap (λ (k : Parts T G). k.state) ends.1

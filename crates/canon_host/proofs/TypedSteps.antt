@@ -7,7 +7,7 @@ use Rattle.canon_context.specs.declared.component.Component.{Component}
 use Rattle.canon_context.specs.declared.fault.Fault.{Fault}
 use Rattle.canon_context.specs.declared.host.HostStop.{HostStop}
 use Rattle.canon_context.specs.declared.host.HostView.{HostView}
-use Rattle.canon_host.proofs.Leaving.{ended_leaves}
+use Rattle.canon_ledger.proofs.LeavingLemmas.{ended_leaves}
 use Rattle.canon_host.specs.Serves.{ConcludesBy, Ends}
 use Rattle.canon_host.specs.ServesTyped.{CallsTyped, LiftsTyped, LowersTyped}
 use Rattle.canon_host.specs.TypedAsks.{RefusedIsPartway, ServedIsThrough, WasCalled, asked_parts, asked_steps, given_parts, given_steps, param_words}
@@ -69,29 +69,29 @@ unended l n x handles did =
 module _ {F T G P R : Type 0} (g : StaticClosure F (HostView T) P (Result R HostStop)) (f : F) (reading : Reading P) (walks : R → Tree → Type 0) (gives : Instance → Shape → R → List (List Part))
     (seen : G → Seen) (moves : GuestIn G → List Event → GuestIn G → Type 0) (law : AreTaken reading) where
   module _ (asked : Asked) (before after : Parts T G) (words words2 : List ℕ) where
-    abbrev entered : Parts T G
-    entered = record before { ledger = enter before.ledger }
+    abbrev ask_entered : Parts T G
+    ask_entered = record before { ledger = enter before.ledger }
 
     abbrev s : Shape
     s = product of_places (param_members (component_types before) asked.func)
 
     -- ---- up to the call
 
-    lifted_through : (params : P) (lifted : Parts T G) → LiftsTyped reading asked entered words (Ok params) lifted → Through before.ledger (asked_steps reading asked before words) lifted.ledger
+    lifted_through : (params : P) (lifted : Parts T G) → LiftsTyped reading asked ask_entered words (Ok params) lifted → Through before.ledger (asked_steps reading asked before words) lifted.ledger
     lifted_through params lifted ((remains, (read, spent)), same) =
         let (hs, took) = passed_taken reading law (nat_le (flat s) max_params) (setting_in before asked.options) (flat_in (param_words asked before words) 0) s (enter before.ledger) lifted.ledger params read in
         (0, refl, leaves_through (enter before.ledger) lifted.ledger (asked_parts reading asked before words) hs took)
 
-    pub was_called : (params : P) (result : Result R HostStop) (lifted called : Parts T G) → LiftsTyped reading asked entered words (Ok params) lifted → CallsTyped g f lifted params result called
+    pub was_called : (params : P) (result : Result R HostStop) (lifted called : Parts T G) → LiftsTyped reading asked ask_entered words (Ok params) lifted → CallsTyped g f lifted params result called
         → WasCalled g f reading walks gives seen moves asked before words params result lifted called
     was_called params result lifted called lifts calls = record { lifts = lifts; calls = calls; first = lifted_through params lifted lifts; steps = calls.steps }
 
-    unlifted : (x : Fault) → LiftsTyped reading asked entered words (Err x) after → Partway before.ledger (asked_steps reading asked before words) after.ledger
+    unlifted : (x : Fault) → LiftsTyped reading asked ask_entered words (Err x) after → Partway before.ledger (asked_steps reading asked before words) after.ledger
     unlifted x ((remains, refused), same) = inr (inr (0, refl, leaves_partway (stop_of x) (enter before.ledger) after.ledger (asked_parts reading asked before words) refused.stops))
 
     -- ---- from the call on
 
-    module _ (params : P) (results : R) (lifted called : Parts T G) (lifts : LiftsTyped reading asked entered words (Ok params) lifted) (calls : CallsTyped g f lifted params (Ok results) called) where
+    module _ (params : P) (results : R) (lifted called : Parts T G) (lifts : LiftsTyped reading asked ask_entered words (Ok params) lifted) (calls : CallsTyped g f lifted params (Ok results) called) where
       same_component : (ended : Parts T G) → Ends called (Ok tt) ended → ended.component ≡ before.component
       same_component ended e = ap (λ (x : Parts T G). x.component) e.1 ∙ (ap (λ (x : Parts T G). x.component) calls.same ∙ ap (λ (x : Parts T G). x.component) lifts.1)
 

@@ -164,8 +164,8 @@ module _ {T G : Type 0} (seen : G → Seen) (moves : GuestIn G → List Event �
         → QuietBut (have_handle (result_members (component_types before) asked.func)) (all_passes (result_members (component_types before) asked.func) results) (have_block (result_members (component_types before) asked.func)) (SameButLedger before after) result
     pub same : SameButHandles before after
 
-  abbrev pub Concludes : Parts T G → List Val → List ℕ → Result (Unit {0}) Fault → Parts T G → List ℕ → Type 0
-  Concludes before results words result after words2 = ConcludesBy LowersGiven asked before results words result after words2
+  abbrev pub ConcludesAsk : Parts T G → List Val → List ℕ → Result (Unit {0}) Fault → Parts T G → List ℕ → Type 0
+  ConcludesAsk before results words result after words2 = ConcludesBy LowersGiven asked before results words result after words2
 
 -- ---- all of them
 

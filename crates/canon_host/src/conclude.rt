@@ -8,7 +8,7 @@ ghost use Rattle.canon_types.specs.Table.{result_members, tuple_members};
 ghost use Rattle.canon_context.specs.Asks.{SameButHandles};
 ghost use Rattle.canon_context.specs.Core.{SameButLedger, component_types};
 ghost use Rattle.canon_host.specs.Asked.{HasWordsEnough, IsAsked, RestStays};
-ghost use Rattle.canon_host.specs.Serves.{Concludes, EndsAsk, IsNoPlace, IsResultPlace, LowersGiven};
+ghost use Rattle.canon_host.specs.Serves.{ConcludesAsk, EndsAsk, IsNoPlace, IsResultPlace, LowersGiven};
 
 use crate::Asked;
 use crate::asked::{first_words, params_words, results_words};
@@ -25,7 +25,7 @@ pub(crate) fn conclude<T, G: Guest>(
     requires asked { IsAsked core.old.component asked.now }
     requires room { HasWordsEnough (component_types core.old) asked.now storage.old }
     requires count { length results.now ≡ member_count (tuple_members (component_types core.old) asked.now.func.results) }
-    ensures concludes { Concludes G.seen G.moves asked.now core.old results.now storage.old result core.new storage.new }
+    ensures concludes { ConcludesAsk G.seen G.moves asked.now core.old results.now storage.old result core.new storage.new }
     ensures same { SameButHandles core.old core.new }
 {
     match end_ask(core, asked, storage) {

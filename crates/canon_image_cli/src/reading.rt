@@ -2,7 +2,7 @@
 
 ghost use Rattle.std.specs.Prelude.{◌≡◌, option_map};
 ghost use Rattle.serde_json.specs.View.{view};
-ghost use Rattle.canon_json.specs.Json.{Gives};
+ghost use Rattle.canon_json.specs.Json.{ReadsAs};
 ghost use Rattle.canon_image_cli.specs.Task as spec;
 
 use crate::task::{Given, ImageTask};
@@ -14,7 +14,7 @@ use std::alloc::Global;
 
 /// What a JSON value asks: an object of `types`, `type`, and one of `value` and `hex`. `BadScript` says that it asks nothing.
 pub fn image_task_of_json(alloc: Global, v: &Value) -> Result<ImageTask, ScriptError>
-    ensures { Gives spec.task_view result (spec.image_task_of (view v.now)) }
+    ensures { ReadsAs spec.task_view result (spec.image_task_of (view v.now)) }
 {
     if !has_len(v, 3) {
         return Err(ScriptError::BadScript);
@@ -33,7 +33,7 @@ pub fn image_task_of_json(alloc: Global, v: &Value) -> Result<ImageTask, ScriptE
 
 /// A value or hex, of which one is there.
 fn given_of(alloc: Global, value: Option<&Value>, hex: Option<&Value>) -> Result<Given, ScriptError>
-    ensures { Gives spec.given_view result (spec.given_of (option_map (λ x. view x.now) value.entry) (option_map (λ x. view x.now) hex.entry)) }
+    ensures { ReadsAs spec.given_view result (spec.given_of (option_map (λ x. view x.now) value.entry) (option_map (λ x. view x.now) hex.entry)) }
 {
     match (value, hex) {
         (Some(value), None) => Ok(Given::Value(value_of_json(alloc, value)?)),

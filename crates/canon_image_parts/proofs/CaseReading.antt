@@ -19,7 +19,7 @@ use Rattle.canon_val.specs.declared.val.Val.{Val}
 use Rattle.canon_value_parts.proofs.Cases.{case_no_handle, case_shallow}
 use Rattle.canon_value_parts.proofs.FlagNames.{names_are}
 use Rattle.canon_image_parts.proofs.Fetching.{number_here}
-use Rattle.canon_image_parts.proofs.Reading.{PartsRead, have_count}
+use Rattle.canon_image_parts.proofs.Reading.{PartsRead, image_have_count}
 use Rattle.canon_image_parts.specs.Read.{ReadsTo}
 use Rattle.canon_image_parts.specs.declared.error.ImageError.TheVariants as error
 
@@ -42,7 +42,7 @@ module _ (s : Shape) (k : VariantKind) (is : s ≡ variant k (variant_cases s)) 
   payload_no_handle d ms e h = subst HaveNoHandle (sym e) (case_no_handle (variant_cases s) d (subst HasNoHandle is h))
 
 pub payload_count : (bs : List ℕ) (from to : ℕ) (ms ns : Members) (vs : List Val) → ms ≡ ns → PartsRead bs from to ms vs → length vs ≡ member_count ns
-payload_count bs from to ms ns vs e (ts, xs, span, images, are) = have_count ms vs ts are ∙ ap member_count e
+payload_count bs from to ms ns vs e (ts, xs, span, images, are) = image_have_count ms vs ts are ∙ ap member_count e
 
 pub flags_many : (t : TypeTable) (i : ℕ) (f : TypeFlags) (n : ℕ) → IsDefined t (ty.Flags i) (flags_type f) → n ≡ length f.names.keys → n ≡ length (flag_names t i)
 flags_many t i f n is e =

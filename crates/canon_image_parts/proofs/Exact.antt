@@ -1,9 +1,8 @@
 -- One answer comes exactly where its cause stands: two causes stand together only where they are the same.
-use Rattle.std.proofs.Common.{Err, List, Ok, Result, Vec, [], append-nil, ap, arith, length, length-append, refl, subst, sym, ℕ, ◌∙◌, ◌∷◌, ◌≡◌, inl}
+use Rattle.std.proofs.Common.{Err, List, Ok, Result, Vec, [], append-nil, ap, arith, length, length-append, refl, sym, ℕ, ◌∙◌, ◌∷◌, ◌≡◌, inl}
 use Rattle.std.specs.declared.alloc.Global.{Global}
 use Rattle.canon_model.proofs.Images.{image_bytes, image_front}
 use Rattle.canon_model.specs.Image.{Image}
-use Rattle.canon_model.specs.Same.{Carried, CarriedTrees}
 use Rattle.canon_model.specs.Shape.{Shape, member, no_members}
 use Rattle.canon_model.specs.Text.{utf8}
 use Rattle.canon_model.specs.Tree.{Tree, no_trees, tree}
@@ -13,7 +12,7 @@ use Rattle.canon_value_parts.specs.Fails.{BlamesValue, Failure, FailsAt, IsTypeF
 use Rattle.canon_val.specs.Value.{HasTree}
 use Rattle.canon_val.specs.declared.val.Val.{Val}
 use Rattle.canon_value_parts.proofs.Values.{failure_excludes}
-use Rattle.canon_value_parts.proofs.OneValue.{trees_one}
+use Rattle.canon_value_parts.proofs.OneValue.{tree_one}
 use Rattle.canon_image_parts.proofs.Stopping.{image_good, stops_at_one}
 use Rattle.canon_image_parts.specs.Read.{IsRead, IsSameReading}
 use Rattle.canon_image_parts.specs.Stops.{IsFollowed, Stop, StopsAt, malformed, truncated}
@@ -23,16 +22,8 @@ use Rattle.canon_image_parts.specs.declared.error.ImageError.TheVariants as erro
 
 -- ---- writing
 
--- the trees of one value
-only_one : (t u : Tree) → CarriedTrees (tree t no_trees) (tree u no_trees) → Carried t u
-only_one t u (w, us, e, c, cs) = let same : w ≡ u = cc in subst (Carried t) same c
-
-one_tree : (s : Shape) (v : Val) (t u : Tree) → HasTree s v t → HasTree s v u → Carried t u
-one_tree s v t u h g =
-    only_one t u (trees_one (member [] s no_members) (v ∷ []) (tree t no_trees) (tree u no_trees) (v, [], t, no_trees, refl, refl, h, (refl, refl)) (v, [], u, no_trees, refl, refl, g, (refl, refl)))
-
 -- a reported fault stands at a value
-failing : (s : Shape) (v : Val) (e : Fault) → IsTypeFault e → BlamesValue utf8 s v e → (how : Failure) × (j : ℕ) × IsTypeFailure how × FailsAt how s v j
+pub failing : (s : Shape) (v : Val) (e : Fault) → IsTypeFault e → BlamesValue utf8 s v e → (how : Failure) × (j : ℕ) × IsTypeFailure how × FailsAt how s v j
 failing s v (fault.TypeMismatch k) h (j, e, f) = (mismatch, j, tt, f)
 failing s v (fault.FieldName k) h (j, e, f) = (field_name, j, tt, f)
 failing s v (fault.LengthMismatch k) h (j, e, f) = (wrong_length, j, tt, f)
@@ -50,7 +41,7 @@ no_tree s v e t told blames has =
 pub same_image : (s : Shape) (v : Val) (r q : Result (Vec ℕ Global) ImageError) → IsImaged s v r → IsImaged s v q → IsSameImage r q
 same_image s v (Err error.OutOfMemory) q h g = tt
 same_image s v (Ok a) (Err error.OutOfMemory) h g = tt
-same_image s v (Ok a) (Ok b) (no_handle, (t, has, is)) (also, (u, has2, is2)) = image_bytes s t u a.items b.items is is2 (one_tree s v t u has has2)
+same_image s v (Ok a) (Ok b) (no_handle, (t, has, is)) (also, (u, has2, is2)) = image_bytes s t u a.items b.items is is2 (tree_one s v t u has has2)
 same_image s v (Ok a) (Err error.Resource) (no_handle, h) g = absurd (g no_handle)
 same_image s v (Ok a) (Err (error.NotOfType e)) (no_handle, (t, has, is)) (also, told, blames) = absurd (no_tree s v e t told blames has)
 same_image s v (Ok a) (Err (error.Truncated p)) h g = absurd g

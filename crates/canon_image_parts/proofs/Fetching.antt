@@ -29,8 +29,8 @@ use Rattle.canon_plan.proofs.ScalarTypes.{scalar_shape}
 use Rattle.canon_val.specs.Value.{HasScalar, IsLiftedFrom}
 use Rattle.canon_val.specs.declared.val.Val.{Val}
 use Rattle.canon_val.specs.declared.val.Val.TheVariants as val
-use Rattle.canon_image_parts.proofs.Bytes.{le_number_bytes}
-use Rattle.canon_image_parts.proofs.Fields.{length-le_bytes}
+use Rattle.canon_model.proofs.NumberBytes.{le_number_bytes}
+use Rattle.canon_model.proofs.ImageFields.{length-le_bytes}
 use Rattle.canon_image_parts.proofs.Reading.{first_span}
 use Rattle.canon_image_parts.specs.Read.{NumberReadTo, ReadsTo, Spans}
 use Rattle.canon_image_parts.specs.Stops.{IsSpelling}

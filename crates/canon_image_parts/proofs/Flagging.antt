@@ -18,7 +18,7 @@ use Rattle.canon_context.specs.declared.fault.Fault.{Fault}
 use Rattle.canon_context.specs.declared.fault.Fault.TheVariants as fault
 use Rattle.canon_val.specs.declared.val.Val.TheVariants as val
 use Rattle.canon_value_parts.proofs.MapsAndFlags.{places_flags}
-use Rattle.canon_image_parts.proofs.Bytes.{le_number_bytes}
+use Rattle.canon_model.proofs.NumberBytes.{le_number_bytes}
 use Rattle.canon_image_parts.specs.Written.{AreMarkedAt, MarksTo, WritesTo}
 
 -- what stands before them stays

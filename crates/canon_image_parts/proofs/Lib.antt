@@ -1,6 +1,4 @@
-pub mod Fields
 pub mod Stopping
-pub mod Bytes
 pub mod Counting
 pub mod Writing
 pub mod PairsWriting

@@ -19,8 +19,8 @@ use Rattle.canon_value_parts.proofs.Contents.{each_count}
 use Rattle.canon_plan.proofs.Lookups.{both, drop_all}
 use Rattle.canon_value_parts.proofs.PairRows.{places_map}
 use Rattle.canon_value_parts.proofs.Steps.{blames_first, blames_later}
-use Rattle.canon_image_parts.proofs.Counting.{count_members}
-use Rattle.canon_image_parts.proofs.Writing.{join, parts_cons, parts_none, parts_stop}
+use Rattle.canon_image_parts.proofs.Counting.{image_count_members}
+use Rattle.canon_image_parts.proofs.Writing.{join, image_parts_cons, image_parts_none, image_parts_stop}
 use Rattle.canon_image_parts.specs.Written.{CountsPlaces, PairsWriteTo, PartsWriteTo, WritesTo}
 
 -- ---- the pairs of a map
@@ -45,14 +45,14 @@ pairs_counted k u p ps from mid (Err e) em b =
 -- a key and its value
 one_pair : (a b c : List ℕ) (k u : Shape) (p : Val × Val) (from mid : ℕ) (r : Result ℕ Fault) → WritesTo a b k p.0 from (Ok mid) → WritesTo b c u p.1 mid r → PartsWriteTo a c 0 (pair_members k u) ([] ∷ [] ∷ []) (p.0 ∷ p.1 ∷ []) from r
 one_pair a b c k u p from mid (Ok to) h g =
-    parts_cons a b c 0 [] [] k (member [] u no_members) ([] ∷ []) p.0 (p.1 ∷ []) from mid (Ok to) refl h
-    (parts_cons b c c 0 [] [] u no_members [] p.1 [] mid to (Ok to) refl g (parts_none c 0 to (omega (arith, g.counted))))
+    image_parts_cons a b c 0 [] [] k (member [] u no_members) ([] ∷ []) p.0 (p.1 ∷ []) from mid (Ok to) refl h
+    (image_parts_cons b c c 0 [] [] u no_members [] p.1 [] mid to (Ok to) refl g (image_parts_none c 0 to (omega (arith, g.counted))))
 one_pair a b c k u p from mid (Err e) h g =
-    parts_cons a b c 0 [] [] k (member [] u no_members) ([] ∷ []) p.0 (p.1 ∷ []) from mid (Err e) refl h (parts_stop b c 0 [] [] u no_members [] p.1 [] mid e g)
+    image_parts_cons a b c 0 [] [] k (member [] u no_members) ([] ∷ []) p.0 (p.1 ∷ []) from mid (Err e) refl h (image_parts_stop b c 0 [] [] u no_members [] p.1 [] mid e g)
 
 pair_count : (k u : Shape) (p : Val × Val) (from : ℕ) (a c : List ℕ) (r : Result ℕ Fault) → PartsWriteTo a c 0 (pair_members k u) ([] ∷ [] ∷ []) (p.0 ∷ p.1 ∷ []) from r
     → CountsPlaces (λ how j. MemberFails how (pair_members k u) (p.0 ∷ p.1 ∷ []) j) from (all_places (p.0 ∷ p.1 ∷ [])) r
-pair_count k u p from a c r h = count_members 0 (pair_members k u) ([] ∷ [] ∷ []) (p.0 ∷ p.1 ∷ []) from r refl h.counted
+pair_count k u p from a c r h = image_count_members 0 (pair_members k u) ([] ∷ [] ∷ []) (p.0 ∷ p.1 ∷ []) from r refl h.counted
 
 pairs_stop : (a c : List ℕ) (k u : Shape) (p : Val × Val) (ps : List (Val × Val)) (from : ℕ) (e : Fault) → PartsWriteTo a c 0 (pair_members k u) ([] ∷ [] ∷ []) (p.0 ∷ p.1 ∷ []) from (Err e)
     → PairsWriteTo a c (pair_of k u) (p ∷ ps) from (Err e)
@@ -92,7 +92,7 @@ module _ (a : List ℕ) (s k u : Shape) (is : s ≡ pair_of k u) (pairs : List (
     rest_told z r g = h.rest z r (subst (λ (x : Shape). PairsWriteTo now z x (drop i pairs) next r) (sym is) (subst (λ (ps : List (Val × Val)). PairsWriteTo now z (pair_of k u) ps next r) (sym here) g))
 
     pub key_stops : (z : List ℕ) (e : Fault) → WritesTo now z k p.0 next (Err e) → PairsWriteTo a z s pairs from (Err e)
-    key_stops z e g = rest_told z (Err e) (pairs_stop now z k u p (drop (i + 1) pairs) next e (parts_stop now z 0 [] [] k (member [] u no_members) ([] ∷ []) p.0 (p.1 ∷ []) next e g))
+    key_stops z e g = rest_told z (Err e) (pairs_stop now z k u p (drop (i + 1) pairs) next e (image_parts_stop now z 0 [] [] k (member [] u no_members) ([] ∷ []) p.0 (p.1 ∷ []) next e g))
 
     pub value_stops : (m z : List ℕ) (mid : ℕ) (e : Fault) → WritesTo now m k p.0 next (Ok mid) → WritesTo m z u p.1 mid (Err e) → PairsWriteTo a z s pairs from (Err e)
     value_stops m z mid e f g = rest_told z (Err e) (pairs_stop now z k u p (drop (i + 1) pairs) next e (one_pair now m z k u p next mid (Err e) f g))
@@ -103,8 +103,8 @@ module _ (a : List ℕ) (s k u : Shape) (is : s ≡ pair_of k u) (pairs : List (
       rest = λ y r more. rest_told y r (pairs_cons now z y k u p (drop (i + 1) pairs) next to r (one_pair now m z k u p next mid (Ok to) f g) (subst (λ (x : Shape). PairsWriteTo z y x (drop (i + 1) pairs) to r) is more));
     }
 
-  pub pairs_end : i ≡ length pairs → PairsWriteTo a now s pairs from (Ok next)
-  pairs_end e = h.rest now (Ok next) (subst (λ (ps : List (Val × Val)). PairsWriteTo now now s ps next (Ok next)) (sym (drop_all pairs i e)) (pairs_none now s next h.few))
+  pub image_pairs_end : i ≡ length pairs → PairsWriteTo a now s pairs from (Ok next)
+  image_pairs_end e = h.rest now (Ok next) (subst (λ (ps : List (Val × Val)). PairsWriteTo now now s ps next (Ok next)) (sym (drop_all pairs i e)) (pairs_none now s next h.few))
 
 -- ---- a map from its pairs
 

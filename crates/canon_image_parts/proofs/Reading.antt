@@ -17,7 +17,7 @@ use Rattle.canon_val.specs.Value.{AreLiftedFrom}
 use Rattle.canon_val.specs.declared.val.Val.{Val}
 use Rattle.canon_val.specs.declared.val.Val.TheVariants as val
 use Rattle.canon_value_parts.proofs.Walks.{copies_have}
-use Rattle.canon_image_parts.proofs.Fields.{length-le_bytes}
+use Rattle.canon_model.proofs.ImageFields.{length-le_bytes}
 use Rattle.canon_image_parts.proofs.Writing.{case_imaged, copies_image}
 use Rattle.canon_image_parts.specs.Read.{NumberReadTo, ReadsTo, Spans, StopsFrom}
 use Rattle.canon_image_parts.specs.Stops.{CaseStops, FirstStops, MembersStop, RowStops, Stop, StopsAt, malformed, truncated}
@@ -103,9 +103,9 @@ copies_stop (suc n) s bs p how (inr (t, xs, rest, j, e, image, ep, h)) = inr (t,
 
 -- ---- a value from its members
 
-pub have_count : (ms : Members) (vs : List Val) (ts : Trees) → AreLiftedFrom ms vs ts → length vs ≡ member_count ms
-have_count no_members vs ts (ev, et) = ap length ev
-have_count (member name s ms) vs ts (v, others, t, rest, ev, et, has, have) = ap length ev ∙ ap suc (have_count ms others rest have)
+pub image_have_count : (ms : Members) (vs : List Val) (ts : Trees) → AreLiftedFrom ms vs ts → length vs ≡ member_count ms
+image_have_count no_members vs ts (ev, et) = ap length ev
+image_have_count (member name s ms) vs ts (v, others, t, rest, ev, et, has, have) = ap length ev ∙ ap suc (image_have_count ms others rest have)
 
 pub whole_read : (bs : List ℕ) (from to : ℕ) (s : Shape) (ms : Members) (vs : List Val) (v : Val) → LiesAs s ms → PartsRead bs from to ms vs → IsRebuilt s vs v → ReadsTo bs from to s (Ok v)
 whole_read bs from to (product k ns) ms vs v e (ts, xs, span, images, are) made = (parts ts, xs, span, (ts, refl, subst (λ l. MembersImage l ts xs) e images), made ts (subst (λ l. AreLiftedFrom l vs ts) e are))
@@ -133,8 +133,8 @@ whole_stops bs from to (variant k cs) ms e is h = absurd is
 whole_stops bs from to (flags ns) ms e is h = absurd is
 
 pub whole_count : (bs : List ℕ) (from to : ℕ) (s : Shape) (ms : Members) (vs : List Val) → LiesAs s ms → PartsRead bs from to ms vs → length vs ≡ member_count (parts_of s (length vs))
-whole_count bs from to (product k ns) ms vs e (ts, xs, span, images, are) = have_count ns vs ts (subst (λ l. AreLiftedFrom l vs ts) e are)
-whole_count bs from to (fixed n s) ms vs e (ts, xs, span, images, are) = have_count (copies n s) vs ts (subst (λ l. AreLiftedFrom l vs ts) e are)
+whole_count bs from to (product k ns) ms vs e (ts, xs, span, images, are) = image_have_count ns vs ts (subst (λ l. AreLiftedFrom l vs ts) e are)
+whole_count bs from to (fixed n s) ms vs e (ts, xs, span, images, are) = image_have_count (copies n s) vs ts (subst (λ l. AreLiftedFrom l vs ts) e are)
 whole_count bs from to (scalar k) ms vs e h = absurd e
 whole_count bs from to string ms vs e h = absurd e
 whole_count bs from to (own r) ms vs e h = absurd e
@@ -186,9 +186,9 @@ case_stops (payload name s cs) zero bs p how (inl h) = h
 case_stops (payload name s cs) zero bs p how (inr (t, xs, rest, j, e, image, ep, h)) = absurd h
 case_stops (payload name s cs) (suc d) bs p how h = case_stops cs d bs p how h
 
-pub case_read : (bs : List ℕ) (from mid to d : ℕ) (s : Shape) (k : VariantKind) (vs : List Val) (v : Val) → s ≡ variant k (variant_cases s) → d < case_count (variant_cases s) → IsField (tag_size (case_count (variant_cases s))) d (drop from bs) (drop mid bs)
+pub image_case_read : (bs : List ℕ) (from mid to d : ℕ) (s : Shape) (k : VariantKind) (vs : List Val) (v : Val) → s ≡ variant k (variant_cases s) → d < case_count (variant_cases s) → IsField (tag_size (case_count (variant_cases s))) d (drop from bs) (drop mid bs)
     → mid ≡ from + tag_size (case_count (variant_cases s)) → PartsRead bs mid to (case_members (variant_cases s) d) vs → IsCaseRebuilt s d vs v → ReadsTo bs from to s (Ok v)
-case_read bs from mid to d s k vs v is lt field em (ts, xs, span, images, are) made =
+image_case_read bs from mid to d s k vs v is lt field em (ts, xs, span, images, are) made =
     let cs = variant_cases s in (
       case_tree d ts,
       le_bytes (tag_size (case_count cs)) d ++ xs,
@@ -197,9 +197,9 @@ case_read bs from mid to d s k vs v is lt field em (ts, xs, span, images, are) m
       made ts are,
     )
 
-pub case_stopped : (bs : List ℕ) (from mid to d : ℕ) (s : Shape) (k : VariantKind) (e : ImageError) → s ≡ variant k (variant_cases s) → IsField (tag_size (case_count (variant_cases s))) d (drop from bs) (drop mid bs)
+pub image_case_stopped : (bs : List ℕ) (from mid to d : ℕ) (s : Shape) (k : VariantKind) (e : ImageError) → s ≡ variant k (variant_cases s) → IsField (tag_size (case_count (variant_cases s))) d (drop from bs) (drop mid bs)
     → mid ≡ from + tag_size (case_count (variant_cases s)) → StopsFrom (MembersStop (case_members (variant_cases s) d) (drop mid bs)) mid e → ReadsTo bs from to s (Err e)
-case_stopped bs from mid to d s k e is field em h =
+image_case_stopped bs from mid to d s k e is field em h =
     let cs = variant_cases s in
     subst (λ (x : Shape). StopsFrom (StopsAt x (drop from bs)) from e) (sym is)
     (first_stops bs from mid (tag_size (case_count cs)) d field em (λ i. i < case_count cs) (λ i l j w. CaseStops cs i l j w) e

@@ -7,7 +7,7 @@ use Rattle.canon_model.specs.Image.{CaseImage, EachImage, Image, IsField, Member
 use Rattle.canon_model.specs.Layout.{flags_size, scalar_size, tag_size}
 use Rattle.canon_model.specs.Shape.{Cases, Members, Shape, bare, borrow, case_count, fixed, flags, list, member, no_cases, no_members, own, payload, product, scalar, string, variant}
 use Rattle.canon_model.specs.Tree.{Tree, Trees, no_trees, tree, tree_count}
-use Rattle.canon_image_parts.proofs.Fields.{field_length, field_once, field_then, length-join}
+use Rattle.canon_model.proofs.ImageFields.{field_length, field_once, field_then, length-join}
 use Rattle.canon_image_parts.specs.Laws.{StopsOnce}
 use Rattle.canon_image_parts.specs.Stops.{CaseStops, FirstStops, IsSpelling, MembersStop, NumberStops, RowStops, Stop, StopsAt, TextStops, malformed, truncated}
 

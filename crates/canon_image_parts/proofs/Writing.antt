@@ -35,8 +35,8 @@ use Rattle.canon_value_parts.proofs.Steps.{blames_first, blames_itself, blames_l
 use Rattle.canon_value_parts.proofs.StoreSteps.{heads, least_low}
 use Rattle.canon_value_parts.proofs.WalkCases.{tag_fits}
 use Rattle.canon_value_parts.proofs.Walks.{copies_fail, copies_have, copies_names}
-use Rattle.canon_image_parts.proofs.Bytes.{le_bytes_low}
-use Rattle.canon_image_parts.proofs.Counting.{case_counted, count_members, fields_count, fixed_counted, product_counts}
+use Rattle.canon_model.proofs.NumberBytes.{le_bytes_low}
+use Rattle.canon_image_parts.proofs.Counting.{image_case_counted, image_count_members, image_fields_count, image_fixed_counted, image_product_counts}
 use Rattle.canon_image_parts.specs.Written.{CountsFields, IsTold, PartsWriteTo, WritesTo}
 
 -- ---- bytes after bytes
@@ -46,40 +46,40 @@ join a b c xs ys e f = f ∙ ap (λ l. l ++ ys) e ∙ append_assoc a xs ys
 
 -- ---- members in a row
 
-pub parts_none : (a : List ℕ) (place from : ℕ) → from < 2 ^ 64 → PartsWriteTo a a place no_members [] [] from (Ok from)
-parts_none a place from few = record {
+pub image_parts_none : (a : List ℕ) (place from : ℕ) → from < 2 ^ 64 → PartsWriteTo a a place no_members [] [] from (Ok from)
+image_parts_none a place from few = record {
   written = (no_trees, [], sym (append-nil a), (refl, refl), (refl, refl));
   counted = (refl, omega (arith, few));
   told = tt;
 }
 
-pub parts_cons : (a b c : List ℕ) (place : ℕ) (name named : Name) (s : Shape) (ms : Members) (names : List Name) (v : Val) (vs : List Val) (from mid : ℕ) (r : Result ℕ Fault) → named ≡ name
+pub image_parts_cons : (a b c : List ℕ) (place : ℕ) (name named : Name) (s : Shape) (ms : Members) (names : List Name) (v : Val) (vs : List Val) (from mid : ℕ) (r : Result ℕ Fault) → named ≡ name
     → WritesTo a b s v from (Ok mid) → PartsWriteTo b c place ms names vs mid r → PartsWriteTo a c place (member name s ms) (named ∷ names) (v ∷ vs) from r
-parts_cons a b c place name named s ms names v vs from mid (Err e) en h k = record {
+image_parts_cons a b c place name named s ms names v vs from mid (Err e) en h k = record {
   written = tt;
-  counted = fields_count place name named s ms names v vs from mid (Err e) en h.counted k.counted;
+  counted = image_fields_count place name named s ms names v vs from mid (Err e) en h.counted k.counted;
   told = k.told;
 }
-parts_cons a b c place name named s ms names v vs from mid (Ok to) en h k =
+image_parts_cons a b c place name named s ms names v vs from mid (Ok to) en h k =
     let (t, xs, eb, has, is) = h.written in
     let (ts, ys, ec, have, are) = k.written in
     record {
       written = (tree t ts, xs ++ ys, join a b c xs ys eb ec, (v, vs, t, ts, refl, refl, has, have), (t, ts, xs, ys, refl, refl, is, are));
-      counted = fields_count place name named s ms names v vs from mid (Ok to) en h.counted k.counted;
+      counted = image_fields_count place name named s ms names v vs from mid (Ok to) en h.counted k.counted;
       told = tt;
     }
 
-pub parts_stop : (a b : List ℕ) (place : ℕ) (name named : Name) (s : Shape) (ms : Members) (names : List Name) (v : Val) (vs : List Val) (from : ℕ) (e : Fault) → WritesTo a b s v from (Err e)
+pub image_parts_stop : (a b : List ℕ) (place : ℕ) (name named : Name) (s : Shape) (ms : Members) (names : List Name) (v : Val) (vs : List Val) (from : ℕ) (e : Fault) → WritesTo a b s v from (Err e)
     → PartsWriteTo a b place (member name s ms) (named ∷ names) (v ∷ vs) from (Err e)
-parts_stop a b place name named s ms names v vs from e h = record {
+image_parts_stop a b place name named s ms names v vs from e h = record {
   written = tt;
   counted = inr (blames_first utf8 (λ how k. FailsAt how s v k) (λ how k. MemberFails how (member name s ms) (v ∷ vs) k) from e (λ how j f. inl f) h.counted);
   told = h.told;
 }
 
-pub parts_named : (a : List ℕ) (place : ℕ) (name named : Name) (s : Shape) (ms : Members) (names : List Name) (v : Val) (vs : List Val) (from : ℕ) → ¬ (named ≡ name)
+pub image_parts_named : (a : List ℕ) (place : ℕ) (name named : Name) (s : Shape) (ms : Members) (names : List Name) (v : Val) (vs : List Val) (from : ℕ) → ¬ (named ≡ name)
     → PartsWriteTo a a place (member name s ms) (named ∷ names) (v ∷ vs) from (Err (fault.FieldName place))
-parts_named a place name named s ms names v vs from other = record {
+image_parts_named a place name named s ms names v vs from other = record {
   written = tt;
   counted = inl (refl, λ same. other (heads named name names (member_names ms) same));
   told = tt;
@@ -103,24 +103,24 @@ module _ (a : List ℕ) (place : ℕ) (ms : Members) (names : List Name) (vs : L
         (subst (λ (xs : List Name). PartsWriteTo now z place (member is.name s (members_from (i + 1) ms)) xs (drop i vs) next r) (sym is.names)
         (subst (λ (xs : List Val). PartsWriteTo now z place (member is.name s (members_from (i + 1) ms)) (is.named ∷ drop (i + 1) names) xs next r) (sym is.values) g))
 
-    pub go_on : (now2 : List ℕ) (next2 : ℕ) → IsTrue m.is_named → next2 < 2 ^ 64 → WritesTo now now2 s m.value.now next (Ok next2) → AreWritten a place ms names vs from now2 next2 (i + 1)
-    go_on now2 next2 named few g = record {
+    pub image_go_on : (now2 : List ℕ) (next2 : ℕ) → IsTrue m.is_named → next2 < 2 ^ 64 → WritesTo now now2 s m.value.now next (Ok next2) → AreWritten a place ms names vs from now2 next2 (i + 1)
+    image_go_on now2 next2 named few g = record {
       few = few;
-      rest = λ z r more. h.rest z r (told z r (parts_cons now now2 z place is.name is.named s (members_from (i + 1) ms) (drop (i + 1) names) m.value.now (drop (i + 1) vs) next next2 r (is.same.0 named) g more));
+      rest = λ z r more. h.rest z r (told z r (image_parts_cons now now2 z place is.name is.named s (members_from (i + 1) ms) (drop (i + 1) names) m.value.now (drop (i + 1) vs) next next2 r (is.same.0 named) g more));
     }
 
-    pub stop : (now2 : List ℕ) (e : Fault) → WritesTo now now2 s m.value.now next (Err e) → PartsWriteTo a now2 place ms names vs from (Err e)
-    stop now2 e g = h.rest now2 (Err e) (told now2 (Err e) (parts_stop now now2 place is.name is.named s (members_from (i + 1) ms) (drop (i + 1) names) m.value.now (drop (i + 1) vs) next e g))
+    pub image_stop : (now2 : List ℕ) (e : Fault) → WritesTo now now2 s m.value.now next (Err e) → PartsWriteTo a now2 place ms names vs from (Err e)
+    image_stop now2 e g = h.rest now2 (Err e) (told now2 (Err e) (image_parts_stop now now2 place is.name is.named s (members_from (i + 1) ms) (drop (i + 1) names) m.value.now (drop (i + 1) vs) next e g))
 
-    pub misnamed : ¬ (IsTrue m.is_named) → PartsWriteTo a now place ms names vs from (Err (fault.FieldName place))
-    misnamed other = h.rest now (Err (fault.FieldName place)) (told now (Err (fault.FieldName place))
-        (parts_named now place is.name is.named s (members_from (i + 1) ms) (drop (i + 1) names) m.value.now (drop (i + 1) vs) next (λ e. other (is.same.1 e))))
+    pub image_misnamed : ¬ (IsTrue m.is_named) → PartsWriteTo a now place ms names vs from (Err (fault.FieldName place))
+    image_misnamed other = h.rest now (Err (fault.FieldName place)) (told now (Err (fault.FieldName place))
+        (image_parts_named now place is.name is.named s (members_from (i + 1) ms) (drop (i + 1) names) m.value.now (drop (i + 1) vs) next (λ e. other (is.same.1 e))))
 
-  pub end : i ≡ member_count ms → i ≡ length names → i ≡ length vs → PartsWriteTo a now place ms names vs from (Ok next)
-  end em en ev = h.rest now (Ok next)
+  pub image_end : i ≡ member_count ms → i ≡ length names → i ≡ length vs → PartsWriteTo a now place ms names vs from (Ok next)
+  image_end em en ev = h.rest now (Ok next)
       (subst (λ (xs : Members). PartsWriteTo now now place xs (drop i names) (drop i vs) next (Ok next)) (sym (members_from-all ms i em))
       (subst (λ (xs : List Name). PartsWriteTo now now place no_members xs (drop i vs) next (Ok next)) (sym (drop_all names i en))
-      (subst (λ (xs : List Val). PartsWriteTo now now place no_members [] xs next (Ok next)) (sym (drop_all vs i ev)) (parts_none now place next h.few))))
+      (subst (λ (xs : List Val). PartsWriteTo now now place no_members [] xs next (Ok next)) (sym (drop_all vs i ev)) (image_parts_none now place next h.few))))
 
 pub begin : (a : List ℕ) (place : ℕ) (ms : Members) (names : List Name) (vs : List Val) (from : ℕ) → from < 2 ^ 64 → AreWritten a place ms names vs from a from 0
 begin a place ms names vs from few = record { few = few; rest = λ z r h. h }
@@ -139,7 +139,7 @@ pub members_written : (a b : List ℕ) (place : ℕ) (s : Shape) (ms : Members) 
     → LiesAs s ms → HasMembers s names vs v → length vs ≡ member_count ms → PartsWriteTo a b place ms names vs (cap (place + 1)) r → WritesTo a b s v place r
 members_written a b place (product k ns) ms names vs v (Err e) few el p count h = record {
   written = tt;
-  counted = product_counts place k ns names vs v (Err e) few p (count ∙ ap member_count el) (subst (λ (xs : Members). CountsFields place xs names vs (cap (place + 1)) (Err e)) el h.counted);
+  counted = image_product_counts place k ns names vs v (Err e) few p (count ∙ ap member_count el) (subst (λ (xs : Members). CountsFields place xs names vs (cap (place + 1)) (Err e)) el h.counted);
   told = h.told;
 }
 members_written a b place (product k ns) ms names vs v (Ok to) few el p count h =
@@ -147,7 +147,7 @@ members_written a b place (product k ns) ms names vs v (Ok to) few el p count h 
     let named : names ≡ member_names ns = h.counted.0 ∙ ap member_names el in
     record {
       written = (parts ts, bs, eb, (vs, ts, subst (λ (xs : List Name). IsProduct k xs vs v) named p, refl, subst (λ xs. HaveTrees xs vs ts) el have), (ts, refl, subst (λ xs. MembersImage xs ts bs) el are));
-      counted = product_counts place k ns names vs v (Ok to) few p (count ∙ ap member_count el) (subst (λ (xs : Members). CountsFields place xs names vs (cap (place + 1)) (Ok to)) el h.counted);
+      counted = image_product_counts place k ns names vs v (Ok to) few p (count ∙ ap member_count el) (subst (λ (xs : Members). CountsFields place xs names vs (cap (place + 1)) (Ok to)) el h.counted);
       told = tt;
     }
 members_written a b place (fixed n s) ms names vs v r few el (en, (xs, ev, same)) count h =
@@ -158,7 +158,7 @@ members_written a b place (fixed n s) ms names vs v r few el (en, (xs, ev, same)
     fixed_written : (r : Result ℕ Fault) → PartsWriteTo a b place (copies n s) names vs (cap (place + 1)) r → length vs ≡ n → names ≡ member_names (copies n s) → WritesTo a b (fixed n s) v place r
     fixed_written (Err e) h enough named = record {
       written = tt;
-      counted = fixed_counted n s names vs v place (Err e) enough (xs, ev, same) (count_members place (copies n s) names vs (cap (place + 1)) (Err e) named h.counted);
+      counted = image_fixed_counted n s names vs v place (Err e) enough (xs, ev, same) (image_count_members place (copies n s) names vs (cap (place + 1)) (Err e) named h.counted);
       told = h.told;
     }
     fixed_written (Ok to) h enough named =
@@ -167,7 +167,7 @@ members_written a b place (fixed n s) ms names vs v r few el (en, (xs, ev, same)
         let (images, many) = copies_image n s ts bs are in
         record {
           written = (parts ts, bs, eb, (vs, ts, (xs, ev, same), enough, refl, each), (ts, refl, many, images));
-          counted = fixed_counted n s names vs v place (Ok to) enough (xs, ev, same) (count_members place (copies n s) names vs (cap (place + 1)) (Ok to) named h.counted);
+          counted = image_fixed_counted n s names vs v place (Ok to) enough (xs, ev, same) (image_count_members place (copies n s) names vs (cap (place + 1)) (Ok to) named h.counted);
           told = tt;
         }
 members_written a b place (scalar k) ms names vs v r few el p count h = absurd el
@@ -186,7 +186,7 @@ items_written a b c place n s xs (Err e) en few eb h = record {
   written = tt;
   counted = blames_later utf8 (λ how k. MemberFails how (copies (length xs.items) s) xs.items k) (λ how k. FailsAt how (list of_items s) (val.List xs) k) 1 place (cap (place + 1)) e refl
       (λ how j f. inr (xs.items, j, (xs, refl, refl), refl, copies_fail how (length xs.items) s xs.items j f))
-      (count_members place (copies (length xs.items) s) (no_names xs.items) xs.items (cap (place + 1)) (Err e) (copies_names (length xs.items) s xs.items refl) h.counted);
+      (image_count_members place (copies (length xs.items) s) (no_names xs.items) xs.items (cap (place + 1)) (Err e) (copies_names (length xs.items) s xs.items refl) h.counted);
   told = h.told;
 }
 items_written a b c place n s xs (Ok to) en few eb h =
@@ -194,7 +194,7 @@ items_written a b c place n s xs (Ok to) en few eb h =
     let (l, each) = copies_have false (length xs.items) s xs.items ts have in
     let (images, many) = copies_image (length xs.items) s ts bs are in
     let field : IsField 8 (tree_count ts) (le_bytes 8 n ++ bs) bs = record { fits = omega (arith, few, en, many); is = ap (λ i. le_bytes 8 i ++ bs) (en ∙ sym many) } in
-    let counted = count_members place (copies (length xs.items) s) (no_names xs.items) xs.items (cap (place + 1)) (Ok to) (copies_names (length xs.items) s xs.items refl) h.counted in
+    let counted = image_count_members place (copies (length xs.items) s) (no_names xs.items) xs.items (cap (place + 1)) (Ok to) (copies_names (length xs.items) s xs.items refl) h.counted in
     record {
       written = (items ts, le_bytes 8 n ++ bs, join a b c (le_bytes 8 n) bs eb ec, (xs.items, ts, (xs, refl, refl), refl, each), (ts, bs, refl, field, images));
       counted = omega (arith, counted, places_list xs);
@@ -215,7 +215,7 @@ pub case_written : (a b c : List ℕ) (place d n : ℕ) (k : VariantKind) (cs : 
     → names ≡ member_names (case_members cs d) → n ≡ tag_size (case_count cs) → b ≡ a ++ le_bytes n d → PartsWriteTo b c place (case_members cs d) names vs (cap (place + 1)) r → WritesTo a c (variant k cs) v place r
 case_written a b c place d n k cs names vs v (Err e) lt few of named en eb h = record {
   written = tt;
-  counted = case_counted k cs d vs v place (Err e) of (count_members place (case_members cs d) names vs (cap (place + 1)) (Err e) named h.counted);
+  counted = image_case_counted k cs d vs v place (Err e) of (image_count_members place (case_members cs d) names vs (cap (place + 1)) (Err e) named h.counted);
   told = h.told;
 }
 case_written a b c place d n k cs names vs v (Ok to) lt few of named en eb h =
@@ -223,7 +223,7 @@ case_written a b c place d n k cs names vs v (Ok to) lt few of named en eb h =
     let field : IsField (tag_size (case_count cs)) d (le_bytes n d ++ bs) bs = record { fits = tag_fits (case_count cs) d lt few; is = ap (λ i. le_bytes i d ++ bs) en } in
     record {
       written = (case_tree d ts, le_bytes n d ++ bs, join a b c (le_bytes n d) bs eb ec, (d, vs, ts, of, refl, case_has false cs d vs ts lt have), (d, bs, field, case_imaged cs d d ts bs lt are));
-      counted = case_counted k cs d vs v place (Ok to) of (count_members place (case_members cs d) names vs (cap (place + 1)) (Ok to) named h.counted);
+      counted = image_case_counted k cs d vs v place (Ok to) of (image_count_members place (case_members cs d) names vs (cap (place + 1)) (Ok to) named h.counted);
       told = tt;
     }
 
@@ -249,9 +249,9 @@ scalar_written t a b type v w n place next en (k, u, e, has, is, least) eb count
     below : (w k : ℕ) → w % 256 ^ k < 256 ^ k
     below w k = mod-lt w (omega (arith, one-le-pow k 256 (omega arith)))
 
-pub text_written : (a b c : List ℕ) (s : String Global) (place n next : ℕ) → n ≡ length (string_bytes s) → n < 2 ^ 64 → b ≡ a ++ le_bytes 8 n → c ≡ b ++ string_bytes s → next ≡ cap (place + 1)
+pub image_text_written : (a b c : List ℕ) (s : String Global) (place n next : ℕ) → n ≡ length (string_bytes s) → n < 2 ^ 64 → b ≡ a ++ le_bytes 8 n → c ≡ b ++ string_bytes s → next ≡ cap (place + 1)
     → WritesTo a c string (val.String s) place (Ok next)
-text_written a b c s place n next en few eb ec counted =
+image_text_written a b c s place n next en few eb ec counted =
     let (cs, h) = spelled s in
     let same : string_bytes s ≡ encode_utf8_all cs = sym h.is in
     let many : n ≡ length (encode_utf8_all cs) = en ∙ ap length same in
@@ -280,9 +280,9 @@ seen_no_handle t s v x h seen = subst HaveNoHandle (sym seen.shapes) (case_no_ha
 
 -- ---- what a step of the walk left, said of what it was asked
 
-pub case_told : (t : TypeTable) (a b c : List ℕ) (place n m first : ℕ) (s : Shape) (x : Case) (v : Val) (r : Result ℕ Fault) → IsCaseSeen t s v x → n ≡ tag_bytes x.info.size → m ≡ x.tag → b ≡ a ++ le_bytes n m → first ≡ cap (place + 1)
+pub image_case_told : (t : TypeTable) (a b c : List ℕ) (place n m first : ℕ) (s : Shape) (x : Case) (v : Val) (r : Result ℕ Fault) → IsCaseSeen t s v x → n ≡ tag_bytes x.info.size → m ≡ x.tag → b ≡ a ++ le_bytes n m → first ≡ cap (place + 1)
     → PartsWriteTo b c place (viewed_shapes t x.payload) (viewed_names x.payload) (viewed_values x.payload) first r → WritesTo a c s v place r
-case_told t a b c place n m first s x v r seen en em eb ef h =
+image_case_told t a b c place n m first s x v r seen en em eb ef h =
     subst (λ (y : Shape). WritesTo a c y v place r) (sym seen.shape)
     (case_written a b c place x.tag n seen.kind seen.cases (viewed_names x.payload) (viewed_values x.payload) v r seen.inside (omega (arith, seen.inside, seen.info.few)) seen.is (seen.names ∙ ap member_names seen.shapes)
     (en ∙ seen.info.size)
@@ -296,8 +296,8 @@ items_told a b c place n first s xs ys r ey en few eb ef h =
     items_written a b c place n s xs r en few eb
     (subst (λ (zs : List Val). PartsWriteTo b c place (copies (length zs) s) (no_names zs) zs (cap (place + 1)) r) ey (subst (λ (f : ℕ). PartsWriteTo b c place (copies (length ys) s) (no_names ys) ys f r) ef h))
 
-pub parts_told : (a b : List ℕ) (place first : ℕ) (ms : Members) (names : List Name) (vs : List Val) (r : Result ℕ Fault) → first ≡ cap (place + 1) → PartsWriteTo a b place ms names vs first r → PartsWriteTo a b place ms names vs (cap (place + 1)) r
-parts_told a b place first ms names vs r ef h = subst (λ (f : ℕ). PartsWriteTo a b place ms names vs f r) ef h
+pub image_parts_told : (a b : List ℕ) (place first : ℕ) (ms : Members) (names : List Name) (vs : List Val) (r : Result ℕ Fault) → first ≡ cap (place + 1) → PartsWriteTo a b place ms names vs first r → PartsWriteTo a b place ms names vs (cap (place + 1)) r
+image_parts_told a b place first ms names vs r ef h = subst (λ (f : ℕ). PartsWriteTo a b place ms names vs f r) ef h
 
 -- a fault of a view is reported
 told_itself : (s : Shape) (v : Val) (place : ℕ) (e : Fault) → BlamesItself s v place e → IsTold e

@@ -7,10 +7,10 @@ use Rattle.canon_json.specs.declared.error.ScriptError.{ScriptError}
 use Rattle.canon_json.specs.declared.error.ScriptError.TheVariants as refused
 
 -- what a reader gives, seen by view, is what the definition gives, unless memory ran out
-abbrev pub Gives : {X Y : Type 0} → (X → Y) → Result X ScriptError → Option Y → Type 0
-Gives view (Ok x) given = given ≡ Some (view x)
-Gives view (Err refused.BadScript) given = given ≡ None
-Gives view (Err refused.OutOfMemory) given = Unit {0}
+abbrev pub ReadsAs : {X Y : Type 0} → (X → Y) → Result X ScriptError → Option Y → Type 0
+ReadsAs view (Ok x) given = given ≡ Some (view x)
+ReadsAs view (Err refused.BadScript) given = given ≡ None
+ReadsAs view (Err refused.OutOfMemory) given = Unit {0}
 
 -- ---- objects
 

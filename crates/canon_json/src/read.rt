@@ -113,7 +113,7 @@ pub trait Reader {
 
     /// What this value is read as, `BadScript` where there is none, or out of memory.
     fn read(&self, alloc: Global, v: &Value) -> Result<Self::Item, ScriptError>
-        ensures { spec.Gives seen result (reads self.now (view v.now)) };
+        ensures { spec.ReadsAs seen result (reads self.now (view v.now)) };
 }
 
 /// Each item of an array.
@@ -122,7 +122,7 @@ pub fn each_of<R: Reader>(
     reader: &R,
     v: Option<&Value>,
 ) -> Result<Vec<R::Item>, ScriptError>
-    ensures { spec.Gives (λ xs. map R.seen xs.items) result (option_and_then (spec.each_of (R.reads reader.now)) (option_map (λ x. view x.now) v.entry)) }
+    ensures { spec.ReadsAs (λ xs. map R.seen xs.items) result (option_and_then (spec.each_of (R.reads reader.now)) (option_map (λ x. view x.now) v.entry)) }
 {
     let Some(v) = v else {
         return Err(ScriptError::BadScript);
@@ -139,7 +139,7 @@ pub fn each<R: Reader>(
     reader: &R,
     items: &[Value],
 ) -> Result<Vec<R::Item>, ScriptError>
-    ensures { spec.Gives (λ xs. map R.seen xs.items) result (spec.each (R.reads reader.now) (items_view items.now)) }
+    ensures { spec.ReadsAs (λ xs. map R.seen xs.items) result (spec.each (R.reads reader.now) (items_view items.now)) }
 {
     let mut found = Vec::new(alloc);
     for item in items {

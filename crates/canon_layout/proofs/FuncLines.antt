@@ -6,12 +6,12 @@ use Rattle.canon_types.specs.declared.types.TypeFunc.{TypeFunc}
 use Rattle.canon_layout.specs.Lines.{func_line, func_lines}
 
 -- the element at a place, and those after it
-record Next {A : Type 0} (xs : List A) (i : ℕ) : Type 0 where
+record NextLine {A : Type 0} (xs : List A) (i : ℕ) : Type 0 where
   one : A
   here : slice_get xs i ≡ Some one
   rest : drop i xs ≡ one ∷ drop (i + 1) xs
 
-next : {A : Type 0} (xs : List A) (i : ℕ) → i < length xs → Next xs i
+next : {A : Type 0} (xs : List A) (i : ℕ) → i < length xs → NextLine xs i
 next [] i lt = absurd (omega arith)
 next (x ∷ xs) zero lt = record { one = x; here = refl; rest = refl }
 next (x ∷ xs) (suc i) lt =

@@ -47,7 +47,7 @@ knows_new t (FlagsType ns) = has_new is_flags t (FlagsType ns) (length t.definit
 knows_new t (FixedListType x n) = has_new is_fixed_list t (FixedListType x n) (length t.definitions) refl refl
 
 -- types that are known, and no functions yet
-pub record Begun (l : Listed) : Type 0 where
+pub record LayoutBegun (l : Listed) : Type 0 where
   pub known : All (Knows l.table) l.types
   pub none : length l.table.funcs ≡ 0
 
@@ -55,25 +55,25 @@ one_more : (t new : TypeTable) (types : List InterfaceType) (type : InterfaceTyp
     → All (Knows t) types → Knows new type → All (Knows new) (types ++ type ∷ [])
 one_more t new types type keeps known is = All-push (Knows new) types type (λ k d lt. keeps _ (known k d lt)) is
 
-keeps_entry : (l m : Listed) (e : Entry) → Begun l → entry_added l e ≡ Some m → Begun m
+keeps_entry : (l m : Listed) (e : Entry) → LayoutBegun l → entry_added l e ≡ Some m → LayoutBegun m
 keeps_entry l m (defines d) begun e =
     let new : TypeTable = with_definition l.table d in
     let type : InterfaceType = type_at (length l.table.definitions) d in
     let grew : grown new l.types type ≡ m = accepted_is (refusal l.table d) _ m e in
-    subst Begun grew (record { known = one_more l.table new l.types type (λ x h. knows-with l.table d x h) begun.known (knows_new l.table d); none = begun.none })
+    subst LayoutBegun grew (record { known = one_more l.table new l.types type (λ x h. knows-with l.table d x h) begun.known (knows_new l.table d); none = begun.none })
 keeps_entry l m (handle t) begun e = by_test (knows l.table t) (Some (grown l.table l.types t)) m e (λ is same.
-    subst Begun (same_Some _ m same) (record { known = one_more l.table l.table l.types t (λ x h. h) begun.known is; none = begun.none }))
+    subst LayoutBegun (same_Some _ m same) (record { known = one_more l.table l.table l.types t (λ x h. h) begun.known is; none = begun.none }))
 
-keeps_types : (l m : Listed) (d : Data) → Begun l → add_entry l d ≡ Some m → Begun m
+keeps_types : (l m : Listed) (d : Data) → LayoutBegun l → add_entry l d ≡ Some m → LayoutBegun m
 keeps_types l m d begun e = option_and_then_some (entry_added l) (entry_by_member l.types d) m e (λ x s h. keeps_entry l m x begun h)
 
-pub types_begun : (t : TypeTable) (ds : Items) (l : Listed) → length t.funcs ≡ 0 → types_over t ds ≡ Some l → Begun l
-types_begun t ds l none e = onward_keeps Begun add_entry keeps_types (listed_so_far t []) l ds (record { known = All-nil (Knows t); none = none }) e
+pub types_begun : (t : TypeTable) (ds : Items) (l : Listed) → length t.funcs ≡ 0 → types_over t ds ≡ Some l → LayoutBegun l
+types_begun t ds l none e = onward_keeps LayoutBegun add_entry keeps_types (listed_so_far t []) l ds (record { known = All-nil (Knows t); none = none }) e
 
 -- ---- functions
 
 -- types that are known, and few functions, each with whether it has a post-return function
-pub record Stands (types : List InterfaceType) (fs : Funcs) : Type 0 where
+pub record LineStands (types : List InterfaceType) (fs : Funcs) : Type 0 where
   pub known : All (Knows fs.table) types
   pub few : length fs.table.funcs ≤ 1048576
   pub told : length fs.posts ≡ length fs.table.funcs
@@ -111,7 +111,7 @@ knows_more t new more grown same (ty.Own r) h = subst (λ (rs : List TypeResourc
 knows_more t new more grown same (ty.Borrow r) h = subst (λ (rs : List TypeResourceTable). IsTrue (nat_lt r (length rs))) (sym same) h
 knows_more t new more grown same _ h = refl
 
-keeps_parts : (types : List InterfaceType) (fs gs : Funcs) (f : FuncParts) → Stands types fs → with_parts fs f ≡ Some gs → Stands types gs
+keeps_parts : (types : List InterfaceType) (fs gs : Funcs) (f : FuncParts) → LineStands types fs → with_parts fs f ≡ Some gs → LineStands types gs
 keeps_parts types fs gs f stands e =
     let t = fs.table in
     let new = with_func t f.params f.results f.async in
@@ -120,17 +120,17 @@ keeps_parts types fs gs f stands e =
     let more : List Definition = TupleType f.params ∷ TupleType f.results ∷ [] in
     let grew = append_assoc t.definitions (TupleType f.params ∷ []) (TupleType f.results ∷ []) in
     let longer = length-append t.funcs (record { params = length t.definitions; results = length t.definitions + 1; async_ = f.async } ∷ []) in
-    subst (Stands types) (accepted_is refused (funcs_so_far new (fs.posts ++ f.post ∷ [])) gs e) (record {
+    subst (LineStands types) (accepted_is refused (funcs_so_far new (fs.posts ++ f.post ∷ [])) gs e) (record {
       known = λ k d lt. knows_more t new more grew refl _ (stands.known k d lt);
       few = omega (arith, free, longer);
       told = omega (arith, stands.told, length-append fs.posts (f.post ∷ []), longer);
     })
 
-keeps_funcs : (types : List InterfaceType) (fs gs : Funcs) (d : Data) → Stands types fs → add_func types fs d ≡ Some gs → Stands types gs
+keeps_funcs : (types : List InterfaceType) (fs gs : Funcs) (d : Data) → LineStands types fs → add_func types fs d ≡ Some gs → LineStands types gs
 keeps_funcs types fs gs d stands e = option_and_then_some (with_parts fs) (func_of types d) gs e (λ f s h. keeps_parts types fs gs f stands h)
 
-pub funcs_stand : (ds : Items) (l : Listed) (fs : Funcs) → Begun l → funcs_over ds l ≡ Some fs → Stands l.types fs
-funcs_stand ds l fs begun e = onward_keeps (Stands l.types) (add_func l.types) (keeps_funcs l.types) (funcs_so_far l.table []) fs ds
+pub funcs_stand : (ds : Items) (l : Listed) (fs : Funcs) → LayoutBegun l → funcs_over ds l ≡ Some fs → LineStands l.types fs
+funcs_stand ds l fs begun e = onward_keeps (LineStands l.types) (add_func l.types) (keeps_funcs l.types) (funcs_so_far l.table []) fs ds
     (record { known = begun.known; few = omega (arith, begun.none); told = sym begun.none }) e
 
 -- ---- all of it
@@ -143,24 +143,24 @@ pub resources_begun : (ds : Items) (t : TypeTable) → onward add_resource empty
 resources_begun ds t e = onward_keeps (λ x. length x.funcs ≡ 0) add_resource keeps_resources empty_type_table t ds refl e
 
 -- what is known of a listing
-pub record IsKnown (l : Listed) : Type 0 where
+pub record IsKnownLine (l : Listed) : Type 0 where
   pub known : All (Knows l.table) l.types
   pub few : length l.table.funcs ≤ 1048576
 
-pub listing_known : (resources types funcs : Items) (l : Listed) → listing_over resources types funcs ≡ Some l → IsKnown l
+pub listing_known : (resources types funcs : Items) (l : Listed) → listing_over resources types funcs ≡ Some l → IsKnownLine l
 listing_known resources types funcs l e =
     option_and_then_some (λ t. option_and_then (with_funcs funcs) (types_over t types)) (onward add_resource empty_type_table resources) l e (λ t s more.
     option_and_then_some (with_funcs funcs) (types_over t types) l more (λ m made last.
     by_map (λ fs. listed_so_far fs.table m.types) (funcs_over funcs m) l last (λ fs over is.
     let none = resources_begun resources t s in
     let stands = funcs_stand funcs m fs (types_begun t types m none made) over in
-    subst IsKnown is (record { known = stands.known; few = stands.few }))))
+    subst IsKnownLine is (record { known = stands.known; few = stands.few }))))
 
-pub layout_known : (d : Data) (l : Listed) → layout_of d ≡ Some l → IsKnown l
+pub layout_known : (d : Data) (l : Listed) → layout_of d ≡ Some l → IsKnownLine l
 layout_known d l e = by_test (has_len (layout_members d) (as_object d)) _ l e (λ counted e0.
     option_and_then_some _ (items_of (get (codes "resources") d)) l e0 (λ resources s1 e1.
     option_and_then_some _ (items_of (get (codes "types") d)) l e1 (λ types s2 e2.
     option_and_then_some _ (items_of (get (codes "funcs") d)) l e2 (λ funcs s3 e3. listing_known resources types funcs l e3))))
 
-pub types_known : (d : Data) (l : Listed) → types_listed d ≡ Some l → Begun l
+pub types_known : (d : Data) (l : Listed) → types_listed d ≡ Some l → LayoutBegun l
 types_known d l e = option_and_then_some (types_over empty_type_table) (as_array d) l e (λ ds s h. types_begun empty_type_table ds l refl h)

@@ -20,9 +20,9 @@ drop_next xs i x h is =
     let e : suc i ≡ i + 1 = omega arith in
     drop-cons xs i x h ∙ (ap (λ y. y ∷ drop (suc i) xs) (sym is) ∙ ap (λ n. x ∷ drop n xs) e)
 
-pub next_type : (known : List Shape) (types : List InterfaceType) (i : ℕ) (x : InterfaceType) → i < length types → x ≡ slice_index_or types i x
+pub layout_next_type : (known : List Shape) (types : List InterfaceType) (i : ℕ) (x : InterfaceType) → i < length types → x ≡ slice_index_or types i x
     → members_in known (drop i types) ≡ member [] (shape_in known x) (members_in known (drop (i + 1) types))
-next_type known types i x h is = ap (members_in known) (drop_next types i x h is)
+layout_next_type known types i x h is = ap (members_in known) (drop_next types i x h is)
 
 pub next_field : (known : List Shape) (fields : List RecordField) (i : ℕ) (x : RecordField) → i < length fields → x ≡ slice_index_or fields i x
     → fields_in known (map (λ f. (string_bytes f.name, f.ty)) (drop i fields)) ≡ member (string_bytes x.name) (shape_in known x.ty) (fields_in known (map (λ f. (string_bytes f.name, f.ty)) (drop (i + 1) fields)))
@@ -64,5 +64,5 @@ known_at t [] i d known lt = absurd (omega arith)
 known_at t (f ∷ fs) zero d known lt = known 0 f.ty (omega arith)
 known_at t (f ∷ fs) (suc i) d known lt = known_at t fs i d (All-tail (Knows t) f.ty (parts (fields_type fs)) known) (omega arith)
 
-pub field_known : (t : TypeTable) (fields : List RecordField) (i : ℕ) (x : RecordField) → All (Knows t) (parts (fields_type fields)) → i < length fields → x ≡ slice_index_or fields i x → Knows t x.ty
-field_known t fields i x known lt is = subst (λ (f : RecordField). Knows t f.ty) (sym is) (known_at t fields i x known lt)
+pub layout_field_known : (t : TypeTable) (fields : List RecordField) (i : ℕ) (x : RecordField) → All (Knows t) (parts (fields_type fields)) → i < length fields → x ≡ slice_index_or fields i x → Knows t x.ty
+layout_field_known t fields i x known lt is = subst (λ (f : RecordField). Knows t f.ty) (sym is) (known_at t fields i x known lt)

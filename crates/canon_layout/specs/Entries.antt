@@ -38,11 +38,11 @@ optional_type_of before null = Some None
 optional_type_of before d = option_map (λ t. Some t) (reference_of before d)
 
 -- two values, each read in its way
-abbrev pub both : {A B : Type 0} → (Data → Option A) → (Data → Option B) → Data × Data → Option (A × B)
-both first second p = option_and_then (λ a. option_map (λ b. (a, b)) (second p.1)) (first p.0)
+abbrev pub both_of : {A B : Type 0} → (Data → Option A) → (Data → Option B) → Data × Data → Option (A × B)
+both_of first second p = option_and_then (λ a. option_map (λ b. (a, b)) (second p.1)) (first p.0)
 
 abbrev pub array_of_two : {A B : Type 0} → (Data → Option A) → (Data → Option B) → Data → Option (A × B)
-array_of_two first second d = option_and_then (both first second) (two d)
+array_of_two first second d = option_and_then (both_of first second) (two d)
 
 -- a name and a type
 abbrev pub name_and_type : List InterfaceType → Data → Option (Name × InterfaceType)

@@ -2,7 +2,7 @@
 
 ghost use Rattle.std.specs.Prelude.{◌≡◌, ◌≢◌, List, Option, Some, Err, Ok, IfOk, option_and_then};
 ghost use Rattle.serde_json.specs.View.{view, items_view};
-ghost use Rattle.canon_json.specs.Json.{Gives};
+ghost use Rattle.canon_json.specs.Json.{ReadsAs};
 ghost use Rattle.canon_json.specs.declared.error.ScriptError.TheVariants as refused;
 ghost use Rattle.canon_layout.specs.Asked as spec;
 ghost use Rattle.canon_layout.specs.Entries.{entry_by};
@@ -22,7 +22,7 @@ pub fn add_entries(
     builder: &mut TypeBuilder,
     items: &[Value],
 ) -> Result<Vec<InterfaceType>, ScriptError>
-    ensures { Gives (λ types. spec.listed_so_far builder.new types.items) result (spec.types_over builder.old (items_view items.now)) }
+    ensures { ReadsAs (λ types. spec.listed_so_far builder.new types.items) result (spec.types_over builder.old (items_view items.now)) }
 {
     let mut types = Vec::new(alloc);
     for item in items {
@@ -39,7 +39,7 @@ pub fn add_entry(
     before: &[InterfaceType],
     v: &Value,
 ) -> Result<InterfaceType, ScriptError>
-    ensures { Gives (spec.grown builder.new before.now) result (spec.add_entry (spec.listed_so_far builder.old before.now) (view v.now)) }
+    ensures { ReadsAs (spec.grown builder.new before.now) result (spec.add_entry (spec.listed_so_far builder.old before.now) (view v.now)) }
 {
     let Some((member, form)) = only_member(v) else {
         return Err(ScriptError::BadScript);
@@ -68,7 +68,7 @@ fn add_list(
     before: &[InterfaceType],
     form: &Value,
 ) -> Result<InterfaceType, ScriptError>
-    ensures { Gives (spec.grown builder.new before.now) result (option_and_then (spec.entry_added (spec.listed_so_far builder.old before.now)) (entry_by Kind.List before.now (view form.now))) }
+    ensures { ReadsAs (spec.grown builder.new before.now) result (option_and_then (spec.entry_added (spec.listed_so_far builder.old before.now)) (entry_by Kind.List before.now (view form.now))) }
 {
     let element = type_of_json(form, before)?;
     accepted(builder.add_list(element))
@@ -79,7 +79,7 @@ fn add_option(
     before: &[InterfaceType],
     form: &Value,
 ) -> Result<InterfaceType, ScriptError>
-    ensures { Gives (spec.grown builder.new before.now) result (option_and_then (spec.entry_added (spec.listed_so_far builder.old before.now)) (entry_by Kind.Option before.now (view form.now))) }
+    ensures { ReadsAs (spec.grown builder.new before.now) result (option_and_then (spec.entry_added (spec.listed_so_far builder.old before.now)) (entry_by Kind.Option before.now (view form.now))) }
 {
     let some = type_of_json(form, before)?;
     accepted(builder.add_option(some))
@@ -90,7 +90,7 @@ fn add_map(
     before: &[InterfaceType],
     form: &Value,
 ) -> Result<InterfaceType, ScriptError>
-    ensures { Gives (spec.grown builder.new before.now) result (option_and_then (spec.entry_added (spec.listed_so_far builder.old before.now)) (entry_by Kind.Map before.now (view form.now))) }
+    ensures { ReadsAs (spec.grown builder.new before.now) result (option_and_then (spec.entry_added (spec.listed_so_far builder.old before.now)) (entry_by Kind.Map before.now (view form.now))) }
 {
     let Some((key, value)) = type_pair_of(form, before) else {
         return Err(ScriptError::BadScript);
@@ -104,7 +104,7 @@ fn add_record(
     before: &[InterfaceType],
     form: &Value,
 ) -> Result<InterfaceType, ScriptError>
-    ensures { Gives (spec.grown builder.new before.now) result (option_and_then (spec.entry_added (spec.listed_so_far builder.old before.now)) (entry_by Kind.Record before.now (view form.now))) }
+    ensures { ReadsAs (spec.grown builder.new before.now) result (option_and_then (spec.entry_added (spec.listed_so_far builder.old before.now)) (entry_by Kind.Record before.now (view form.now))) }
 {
     let fields = each_of(alloc, &Fields { before }, Some(form))?;
     accepted(builder.add_record(fields))
@@ -116,7 +116,7 @@ fn add_tuple(
     before: &[InterfaceType],
     form: &Value,
 ) -> Result<InterfaceType, ScriptError>
-    ensures { Gives (spec.grown builder.new before.now) result (option_and_then (spec.entry_added (spec.listed_so_far builder.old before.now)) (entry_by Kind.Tuple before.now (view form.now))) }
+    ensures { ReadsAs (spec.grown builder.new before.now) result (option_and_then (spec.entry_added (spec.listed_so_far builder.old before.now)) (entry_by Kind.Tuple before.now (view form.now))) }
 {
     let types = each_of(alloc, &Types { before }, Some(form))?;
     accepted(builder.add_tuple(types))
@@ -128,7 +128,7 @@ fn add_variant(
     before: &[InterfaceType],
     form: &Value,
 ) -> Result<InterfaceType, ScriptError>
-    ensures { Gives (spec.grown builder.new before.now) result (option_and_then (spec.entry_added (spec.listed_so_far builder.old before.now)) (entry_by Kind.Variant before.now (view form.now))) }
+    ensures { ReadsAs (spec.grown builder.new before.now) result (option_and_then (spec.entry_added (spec.listed_so_far builder.old before.now)) (entry_by Kind.Variant before.now (view form.now))) }
 {
     let cases = each_of(alloc, &Cases { before }, Some(form))?;
     accepted(builder.add_variant(cases))
@@ -140,7 +140,7 @@ fn add_enum(
     before: &[InterfaceType],
     form: &Value,
 ) -> Result<InterfaceType, ScriptError>
-    ensures { Gives (spec.grown builder.new before.now) result (option_and_then (spec.entry_added (spec.listed_so_far builder.old before.now)) (entry_by Kind.Enum before.now (view form.now))) }
+    ensures { ReadsAs (spec.grown builder.new before.now) result (option_and_then (spec.entry_added (spec.listed_so_far builder.old before.now)) (entry_by Kind.Enum before.now (view form.now))) }
 {
     let names = each_of(alloc, &Names, Some(form))?;
     accepted(builder.add_enum(names))
@@ -152,7 +152,7 @@ fn add_flags(
     before: &[InterfaceType],
     form: &Value,
 ) -> Result<InterfaceType, ScriptError>
-    ensures { Gives (spec.grown builder.new before.now) result (option_and_then (spec.entry_added (spec.listed_so_far builder.old before.now)) (entry_by Kind.Flags before.now (view form.now))) }
+    ensures { ReadsAs (spec.grown builder.new before.now) result (option_and_then (spec.entry_added (spec.listed_so_far builder.old before.now)) (entry_by Kind.Flags before.now (view form.now))) }
 {
     let names = each_of(alloc, &Names, Some(form))?;
     accepted(builder.add_flags(names))
@@ -163,7 +163,7 @@ fn add_result(
     before: &[InterfaceType],
     form: &Value,
 ) -> Result<InterfaceType, ScriptError>
-    ensures { Gives (spec.grown builder.new before.now) result (option_and_then (spec.entry_added (spec.listed_so_far builder.old before.now)) (entry_by Kind.Result before.now (view form.now))) }
+    ensures { ReadsAs (spec.grown builder.new before.now) result (option_and_then (spec.entry_added (spec.listed_so_far builder.old before.now)) (entry_by Kind.Result before.now (view form.now))) }
 {
     let Some((ok, err)) = payload_pair_of(form, before) else {
         return Err(ScriptError::BadScript);
@@ -176,7 +176,7 @@ fn add_fixed(
     before: &[InterfaceType],
     form: &Value,
 ) -> Result<InterfaceType, ScriptError>
-    ensures { Gives (spec.grown builder.new before.now) result (option_and_then (spec.entry_added (spec.listed_so_far builder.old before.now)) (entry_by Kind.Fixed before.now (view form.now))) }
+    ensures { ReadsAs (spec.grown builder.new before.now) result (option_and_then (spec.entry_added (spec.listed_so_far builder.old before.now)) (entry_by Kind.Fixed before.now (view form.now))) }
 {
     let Some((element, size)) = counted_type_of(form, before) else {
         return Err(ScriptError::BadScript);
@@ -189,7 +189,7 @@ fn add_own(
     before: &[InterfaceType],
     form: &Value,
 ) -> Result<InterfaceType, ScriptError>
-    ensures { Gives (spec.grown builder.new before.now) result (option_and_then (spec.entry_added (spec.listed_so_far builder.old before.now)) (entry_by Kind.Own before.now (view form.now))) }
+    ensures { ReadsAs (spec.grown builder.new before.now) result (option_and_then (spec.entry_added (spec.listed_so_far builder.old before.now)) (entry_by Kind.Own before.now (view form.now))) }
 {
     let Some(resource) = u32_of(form) else {
         return Err(ScriptError::BadScript);
@@ -202,7 +202,7 @@ fn add_borrow(
     before: &[InterfaceType],
     form: &Value,
 ) -> Result<InterfaceType, ScriptError>
-    ensures { Gives (spec.grown builder.new before.now) result (option_and_then (spec.entry_added (spec.listed_so_far builder.old before.now)) (entry_by Kind.Borrow before.now (view form.now))) }
+    ensures { ReadsAs (spec.grown builder.new before.now) result (option_and_then (spec.entry_added (spec.listed_so_far builder.old before.now)) (entry_by Kind.Borrow before.now (view form.now))) }
 {
     let Some(resource) = u32_of(form) else {
         return Err(ScriptError::BadScript);

@@ -2,7 +2,7 @@
 
 ghost use Rattle.std.specs.Prelude.{◌≡◌, []};
 ghost use Rattle.serde_json.specs.View.{view, items_view};
-ghost use Rattle.canon_json.specs.Json.{Gives, onward};
+ghost use Rattle.canon_json.specs.Json.{ReadsAs, onward};
 ghost use Rattle.canon_layout.specs.Asked as spec;
 ghost use Rattle.canon_layout.specs.Entries.{func_of, signature_of};
 
@@ -30,7 +30,7 @@ pub fn add_funcs(
     types: &[InterfaceType],
     items: &[Value],
 ) -> Result<Vec<bool>, ScriptError>
-    ensures { Gives (λ posts. spec.funcs_so_far builder.new posts.items) result (onward (spec.add_func types.now) (spec.funcs_so_far builder.old []) (items_view items.now)) }
+    ensures { ReadsAs (λ posts. spec.funcs_so_far builder.new posts.items) result (onward (spec.add_func types.now) (spec.funcs_so_far builder.old []) (items_view items.now)) }
 {
     let mut posts = Vec::new(alloc);
     for item in items {
@@ -46,7 +46,7 @@ fn add_func(
     types: &[InterfaceType],
     v: &Value,
 ) -> Result<(), ScriptError>
-    ensures { Gives (λ _. spec.funcs_so_far builder.new posts.new.items) result (spec.add_func types.now (spec.funcs_so_far builder.old posts.old.items) (view v.now)) }
+    ensures { ReadsAs (λ _. spec.funcs_so_far builder.new posts.new.items) result (spec.add_func types.now (spec.funcs_so_far builder.old posts.old.items) (view v.now)) }
 {
     let func = func_of_json(alloc, types, v)?;
     accepted(builder.add_func(func.params, func.results, func.is_async))?;
@@ -60,7 +60,7 @@ pub fn func_of_json(
     types: &[InterfaceType],
     v: &Value,
 ) -> Result<Signature, ScriptError>
-    ensures { Gives signature_of result (func_of types.now (view v.now)) }
+    ensures { ReadsAs signature_of result (func_of types.now (view v.now)) }
 {
     if !has_len(v, 2 + (there(v.get("async")) + there(v.get("post")))) {
         return Err(ScriptError::BadScript);

@@ -3,7 +3,7 @@
 ghost use Rattle.std.specs.Prelude.{◌≡◌, ◌≤◌, ◌<◌, ◌^◌, ◌++◌, All, Some, IfSome, OnOk, false, codes, length, option_map, slice_get, string_bytes};
 ghost use Rattle.serde_json.specs.View.{view};
 ghost use Rattle.canon_abi.specs.Abi.{HasInfo};
-ghost use Rattle.canon_json.specs.Json.{Gives};
+ghost use Rattle.canon_json.specs.Json.{ReadsAs};
 ghost use Rattle.canon_model.specs.Layout.{members_end};
 ghost use Rattle.canon_model.specs.Shape.{Cases};
 ghost use Rattle.canon_types.specs.Keeps.{field_members, fields_type};
@@ -27,7 +27,7 @@ const MAX_FUNCS: u32 = 1_048_576;
 /// The line of each type and of each function that a JSON value asks for. Answers BadScript where the value asks for
 /// none.
 pub fn layout_lines(alloc: Global, v: &Value) -> Result<String, ScriptError>
-    ensures { Gives (λ text. string_bytes text) result (option_map spec.layout_text (layout_of (view v.now))) }
+    ensures { ReadsAs (λ text. string_bytes text) result (option_map spec.layout_text (layout_of (view v.now))) }
 {
     let (table, types) = listing_of_json(alloc, v)?;
     let mut text = String::new(alloc);

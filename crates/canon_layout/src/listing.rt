@@ -2,7 +2,7 @@
 
 ghost use Rattle.std.specs.Prelude.{◌≡◌, All, IfOk};
 ghost use Rattle.serde_json.specs.View.{view, items_view};
-ghost use Rattle.canon_json.specs.Json.{Gives};
+ghost use Rattle.canon_json.specs.Json.{ReadsAs};
 ghost use Rattle.canon_types.specs.Table.{Knows};
 ghost use Rattle.canon_layout.specs.Asked as spec;
 
@@ -19,7 +19,7 @@ pub fn types_of_json(
     alloc: Global,
     v: &Value,
 ) -> Result<(ComponentTypes, Vec<InterfaceType>), ScriptError>
-    ensures table { Gives (λ p. spec.listed_so_far p.0 p.1.items) result (spec.types_listed (view v.now)) }
+    ensures table { ReadsAs (λ p. spec.listed_so_far p.0 p.1.items) result (spec.types_listed (view v.now)) }
     ensures known { IfOk result (λ p. All (Knows p.0) p.1.items) }
 {
     let Some(items) = v.as_array() else {
@@ -35,7 +35,7 @@ pub fn listing_of_json(
     alloc: Global,
     v: &Value,
 ) -> Result<(ComponentTypes, Vec<InterfaceType>), ScriptError>
-    ensures table { Gives (λ p. spec.listed_so_far p.0 p.1.items) result (spec.layout_of (view v.now)) }
+    ensures table { ReadsAs (λ p. spec.listed_so_far p.0 p.1.items) result (spec.layout_of (view v.now)) }
     ensures known { IfOk result (λ p. All (Knows p.0) p.1.items) }
 {
     if !has_len(v, members(v)) {
@@ -66,7 +66,7 @@ fn listing_over(
     types: &[Value],
     funcs: &[Value],
 ) -> Result<(ComponentTypes, Vec<InterfaceType>), ScriptError>
-    ensures table { Gives (λ p. spec.listed_so_far p.0 p.1.items) result (spec.listing_over (items_view resources.now) (items_view types.now) (items_view funcs.now)) }
+    ensures table { ReadsAs (λ p. spec.listed_so_far p.0 p.1.items) result (spec.listing_over (items_view resources.now) (items_view types.now) (items_view funcs.now)) }
     ensures known { IfOk result (λ p. All (Knows p.0) p.1.items) }
 {
     let mut builder = TypeBuilder::new(alloc);

@@ -3,7 +3,7 @@
 ghost use Rattle.std.specs.Prelude.{◌≡◌, ℕ, List, Option, Some, IfErr, string_bytes};
 ghost use Rattle.serde_json.specs.Find.{as_str};
 ghost use Rattle.serde_json.specs.View.{view};
-ghost use Rattle.canon_json.specs.Json.{Gives, u32_of};
+ghost use Rattle.canon_json.specs.Json.{ReadsAs, u32_of};
 ghost use Rattle.canon_json.specs.declared.error.ScriptError.TheVariants as refused;
 ghost use Rattle.canon_model.specs.Shape.{Name};
 ghost use Rattle.canon_types.specs.declared.types.InterfaceType.{InterfaceType};
@@ -17,7 +17,7 @@ use std::alloc::Global;
 
 /// A type by its name, or by the number of an entry among those before.
 pub fn type_of_json(v: &Value, entries: &[InterfaceType]) -> Result<InterfaceType, ScriptError>
-    ensures value { Gives (λ t. t) result (spec.reference_of entries.now (view v.now)) }
+    ensures value { ReadsAs (λ t. t) result (spec.reference_of entries.now (view v.now)) }
     ensures cause { IfErr result (λ e. e ≡ refused.BadScript) }
 {
     match reference_of(v, entries) {

@@ -3,7 +3,7 @@
 ghost use Rattle.std.specs.Prelude.{◌≡◌, None, Some, option_map};
 ghost use Rattle.std.specs.Option.{option_map_or};
 ghost use Rattle.serde_json.specs.View.{view, items_view};
-ghost use Rattle.canon_json.specs.Json.{Gives, onward};
+ghost use Rattle.canon_json.specs.Json.{ReadsAs, onward};
 ghost use Rattle.canon_layout.specs.Asked as spec;
 ghost use Rattle.canon_layout.specs.Entries as entry_spec;
 
@@ -14,7 +14,7 @@ use serde_json::Value;
 
 /// Adds these resources. After an error the table may hold the first of them.
 pub fn add_resources(builder: &mut TypeBuilder, items: &[Value]) -> Result<(), ScriptError>
-    ensures { Gives (λ _. builder.new) result (onward spec.add_resource builder.old (items_view items.now)) }
+    ensures { ReadsAs (λ _. builder.new) result (onward spec.add_resource builder.old (items_view items.now)) }
 {
     for item in items {
         add_resource(builder, item)?;
@@ -23,7 +23,7 @@ pub fn add_resources(builder: &mut TypeBuilder, items: &[Value]) -> Result<(), S
 }
 
 fn add_resource(builder: &mut TypeBuilder, v: &Value) -> Result<(), ScriptError>
-    ensures { Gives (λ _. builder.new) result (spec.add_resource builder.old (view v.now)) }
+    ensures { ReadsAs (λ _. builder.new) result (spec.add_resource builder.old (view v.now)) }
 {
     let Some(resource) = resource_of(v) else {
         return Err(ScriptError::BadScript);

@@ -16,18 +16,18 @@ use Rattle.canon_leaves.specs.Parts.{LeafMoves, Part, Stops, borrow_in, borrow_p
 abbrev pub Does : Part → LedgerState → LedgerState → Result ℕ ResourceFault → Type 0
 Does p l m r = (last : ℕ) → Did (do_part last p l) r l m
 
-stopped : (last : ℕ) (p : Part) (ps : List Part) (l n : LedgerState) (e : ResourceFault) → Did (do_part last p l) (Err e) l n → Stops (refusal_of e) last l (p ∷ ps) n
-stopped last p ps l n e (inl d) = inr (inl (e, refl, d.0, d.1))
-stopped last p ps l n e (inr d) = inl (ap refusal_of d.0, d.1)
+pub leaf_stopped : (last : ℕ) (p : Part) (ps : List Part) (l n : LedgerState) (e : ResourceFault) → Did (do_part last p l) (Err e) l n → Stops (refusal_of e) last l (p ∷ ps) n
+leaf_stopped last p ps l n e (inl d) = inr (inl (e, refl, d.0, d.1))
+leaf_stopped last p ps l n e (inr d) = inl (ap refusal_of d.0, d.1)
 
 -- alone
 pub moves_one : (l n : LedgerState) (p : Part) (r : Result ℕ ResourceFault) → Does p l n r → LeafMoves l n (p ∷ []) r
 moves_one l n p (Ok a) d = record { answers = a ∷ []; takes = λ last. (a, [], refl, (d last).0, (refl, (d last).1)); handle = λ last. refl }
-moves_one l n p (Err e) d = λ last. stopped last p [] l n e (d last)
+moves_one l n p (Err e) d = λ last. leaf_stopped last p [] l n e (d last)
 
 -- the first was refused
 pub moves_not : (l n : LedgerState) (p : Part) (ps : List Part) (e : ResourceFault) → Does p l n (Err e) → LeafMoves l n (p ∷ ps) (Err e)
-moves_not l n p ps e d last = stopped last p ps l n e (d last)
+moves_not l n p ps e d last = leaf_stopped last p ps l n e (d last)
 
 -- the second on what the first answered
 module _ (l m n : LedgerState) (p q : Part) (a : ℕ) (first : Does p l m (Ok a)) where
@@ -43,7 +43,7 @@ module _ (l m n : LedgerState) (p q : Part) (a : ℕ) (first : Does p l m (Ok a)
     takes = λ last. (a, h ∷ [], refl, (first last).0, (h, [], refl, (second_at last (Ok h) d).0, (refl, (second_at last (Ok h) d).1)));
     handle = λ last. refl;
   }
-  moves_both (Err e) d = λ last. inr (inr (a, (first last).0, stopped a q [] _ n e (second_at last (Err e) d)))
+  moves_both (Err e) d = λ last. inr (inr (a, (first last).0, leaf_stopped a q [] _ n e (second_at last (Err e) d)))
 
 -- ---- what is passed
 

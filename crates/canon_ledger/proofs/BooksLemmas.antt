@@ -28,8 +28,8 @@ sum_by-tables f (x ∷ xs) =
 
 -- A call on table n
 module _ (tables : List (TableState Entry)) (counter : Counter) (scopes : List Context) (n : ℕ) (s : TableState Entry) (within : n < length tables) (read : s ≡ get_or tables n s) where
-  abbrev before : Handles
-  before = handles_of tables counter scopes
+  abbrev ledger_before : Handles
+  ledger_before = handles_of tables counter scopes
 
   pub counted : sum_over_tables stands (handles_of tables counter scopes) + sum_over_tables lends_of (handles_of tables counter scopes) ≤ counter.live → held_count s.table ≤ counter.live
   counted c =
@@ -55,22 +55,22 @@ module _ (tables : List (TableState Entry)) (counter : Counter) (scopes : List C
     abbrev afterwards : Handles
     afterwards = handles_of (set tables n s') c' scopes
 
-    step_is : finished before n i (f s.table counter) ≡ on_table before n i f
-    step_is = ap (λ (t : Table Entry). finished before n i (f t counter)) (sym table_read)
+    step_is : finished ledger_before n i (f s.table counter) ≡ on_table ledger_before n i f
+    step_is = ap (λ (t : Table Entry). finished ledger_before n i (f t counter)) (sym table_read)
 
-    unchanged : s'.table ≡ s.table → c' ≡ counter → afterwards ≡ before
+    unchanged : s'.table ≡ s.table → c' ≡ counter → afterwards ≡ ledger_before
     unchanged t c =
         with_table_is s' c'
-        ∙ (λ j. with_table before n (t j) (c j))
-        ∙ ap (λ (t : Table Entry). with_table before n t counter) (sym table_read)
-        ∙ same_table before n
+        ∙ (λ j. with_table ledger_before n (t j) (c j))
+        ∙ ap (λ (t : Table Entry). with_table ledger_before n t counter) (sym table_read)
+        ∙ same_table ledger_before n
 
     taken_at : (r : Result A HandleError) → DoesWithMemory (f s.table counter) r s s' counter c'
         → Takes (on_table (handles_of tables counter scopes) n i f) (at_index i r) (handles_of tables counter scopes) (handles_of (set tables n s') c' scopes)
-    taken_at (Ok a) step = sym step_is ∙ ap (finished before n i) step ∙ ap (λ (h : Handles). Ok (a, h)) (sym (with_table_is s' c'))
+    taken_at (Ok a) step = sym step_is ∙ ap (finished ledger_before n i) step ∙ ap (λ (h : Handles). Ok (a, h)) (sym (with_table_is s' c'))
     taken_at (Err e) step = (
       elim step.0 [
-        | inl refused ↦ inl (sym step_is ∙ ap (finished before n i) refused)
+        | inl refused ↦ inl (sym step_is ∙ ap (finished ledger_before n i) refused)
         | inr memory ↦ inr (ap (fault_at i) memory.0)
       ],
       unchanged step.1 step.2,
@@ -78,8 +78,8 @@ module _ (tables : List (TableState Entry)) (counter : Counter) (scopes : List C
 
     taken_surely_at : (r : Result A HandleError) → Does (f s.table counter) r s s' counter c'
         → TakesSurely (on_table (handles_of tables counter scopes) n i f) (at_index i r) (handles_of tables counter scopes) (handles_of (set tables n s') c' scopes)
-    taken_surely_at (Ok a) step = sym step_is ∙ ap (finished before n i) step ∙ ap (λ (h : Handles). Ok (a, h)) (sym (with_table_is s' c'))
-    taken_surely_at (Err e) step = (sym step_is ∙ ap (finished before n i) step.0, unchanged step.1 step.2)
+    taken_surely_at (Ok a) step = sym step_is ∙ ap (finished ledger_before n i) step ∙ ap (λ (h : Handles). Ok (a, h)) (sym (with_table_is s' c'))
+    taken_surely_at (Err e) step = (sym step_is ∙ ap (finished ledger_before n i) step.0, unchanged step.1 step.2)
 
     pub taken : (r : Result A HandleError) (answer : Result A ResourceFault) → answer ≡ at_index i r → DoesWithMemory (f s.table counter) r s s' counter c'
         → Takes (on_table (handles_of tables counter scopes) n i f) answer (handles_of tables counter scopes) (handles_of (set tables n s') c' scopes)

@@ -242,7 +242,7 @@ same-exit_in (Some k) h =
 -- What a step does to the host's indexes
 
 -- No insertion: where an index is taken out, the generation is raised.
-record Keeps (l l' : LedgerState) : Type 0 where
+record HostKeeps (l l' : LedgerState) : Type 0 where
   slots : l'.host.slots ≡ l.host.slots
   indexes : FewerIndexes l.handles l'.handles
   generation : (SameIndexes l.handles l'.handles × (l'.host.generation ≡ l.host.generation)) ⊎ (l'.host.generation ≡ l.host.generation + 1)
@@ -258,12 +258,12 @@ record Inserts (l l' : LedgerState) (n : ℕ) (made : Option (TypedResource × O
 
 -- A step that may be an insertion keeps the host's indexes, or is one that answers the new index.
 abbrev Effect : Bool → Result ℕ ResourceFault → Option (TypedResource × Option ℕ) → TableSlot → LedgerState → LedgerState → Type 0
-Effect insertion answer made slot l l' = Keeps l l' ⊎ ((n : ℕ) × (insertion ≡ true) × (answer ≡ Ok n) × Inserts l l' n made slot)
+Effect insertion answer made slot l l' = HostKeeps l l' ⊎ ((n : ℕ) × (insertion ≡ true) × (answer ≡ Ok n) × Inserts l l' n made slot)
 
-keeps_same : (l l' : LedgerState) → l'.host ≡ l.host → SameIndexes l.handles l'.handles → Keeps l l'
+keeps_same : (l l' : LedgerState) → l'.host ≡ l.host → SameIndexes l.handles l'.handles → HostKeeps l l'
 keeps_same l l' e s = record { slots = ap (λ (h : HostIndexes). h.slots) e; indexes = fewer l.handles l'.handles s; generation = inl (s, ap (λ (h : HostIndexes). h.generation) e) }
 
-keeps-plainly : {A : Type 0} (r : StepAnswer A) (l : LedgerState) → IfOk r (λ w. SameIndexes l.handles w.1) → Keeps l (plainly r l).after
+keeps-plainly : {A : Type 0} (r : StepAnswer A) (l : LedgerState) → IfOk r (λ w. SameIndexes l.handles w.1) → HostKeeps l (plainly r l).after
 keeps-plainly (Ok w) l s = keeps_same l _ refl s
 keeps-plainly (Err e) l s = keeps_same l l refl (same_self l.handles)
 
@@ -274,37 +274,37 @@ effect-inserting zero instance dtor made (Ok w) l more same = inr (w.0, refl, re
 effect-inserting zero instance dtor made (Err e) l more same = inl (keeps_same l l refl (same_self l.handles))
 effect-inserting (suc q) instance dtor made r l more same = inl (keeps-plainly r l (same q refl))
 
-keeps-raised : {A : Type 0} (r : StepAnswer A) (l : LedgerState) → IfOk r (λ w. FewerIndexes l.handles w.1) → Keeps l (plainly r (with_generation_raised l)).after
+keeps-raised : {A : Type 0} (r : StepAnswer A) (l : LedgerState) → IfOk r (λ w. FewerIndexes l.handles w.1) → HostKeeps l (plainly r (with_generation_raised l)).after
 keeps-raised (Ok w) l f = record { slots = refl; indexes = f; generation = inr refl }
 keeps-raised (Err e) l f = record { slots = refl; indexes = fewer l.handles l.handles (same_self l.handles); generation = inr refl }
 
-keeps-host_removing : {A : Type 0} (b : Bool) (step : Handles → StepAnswer A) (l : LedgerState) → IfOk (step l.handles) (λ w. FewerIndexes l.handles w.1) → Keeps l (host_removing b step l).after
+keeps-host_removing : {A : Type 0} (b : Bool) (step : Handles → StepAnswer A) (l : LedgerState) → IfOk (step l.handles) (λ w. FewerIndexes l.handles w.1) → HostKeeps l (host_removing b step l).after
 keeps-host_removing true step l f = keeps_same l l refl (same_self l.handles)
 keeps-host_removing false step l f = keeps-raised (step l.handles) l f
 
-keeps-unless_stale : {A : Type 0} (b : Bool) (l : LedgerState) (d : Done A) → Keeps l d.after → Keeps l (unless_stale l b d).after
+keeps-unless_stale : {A : Type 0} (b : Bool) (l : LedgerState) (d : Done A) → HostKeeps l d.after → HostKeeps l (unless_stale l b d).after
 keeps-unless_stale true l d e = keeps_same l l refl (same_self l.handles)
 keeps-unless_stale false l d e = e
 
-keeps-leaving : (b : Bool) (l : LedgerState) → Keeps l (leaving b l).after
+keeps-leaving : (b : Bool) (l : LedgerState) → HostKeeps l (leaving b l).after
 keeps-leaving true l = keeps_same l _ refl (record { as_long = refl; stands = λ i. refl; handle = λ i. refl })
 keeps-leaving false l = keeps_same l l refl (same_self l.handles)
 
-keeps-drop : (p : ℕ) (idx : TypedResourceIndex) (l : LedgerState) → Keeps l (resource_drop l p idx).after
+keeps-drop : (p : ℕ) (idx : TypedResourceIndex) (l : LedgerState) → HostKeeps l (resource_drop l p idx).after
 keeps-drop zero idx l = keeps-host_removing (nat_le last_generation l.host.generation) (λ h. handles.resource_drop h 0 idx) l (fewer-drop l.handles 0 idx)
 keeps-drop (suc q) idx l = keeps-plainly (handles.resource_drop l.handles (suc q) idx) l (same-drop l.handles q idx)
 
-keeps-lift_own : (p : ℕ) (idx : TypedResourceIndex) (l : LedgerState) → Keeps l (resource_lift_own l p idx).after
+keeps-lift_own : (p : ℕ) (idx : TypedResourceIndex) (l : LedgerState) → HostKeeps l (resource_lift_own l p idx).after
 keeps-lift_own zero idx l = keeps-host_removing (nat_le last_generation l.host.generation) (λ h. handles.resource_lift_own h 0 idx) l (fewer-lift_own l.handles 0 idx)
 keeps-lift_own (suc q) idx l = keeps-plainly (handles.resource_lift_own l.handles (suc q) idx) l (same-lift_own l.handles q idx)
 
-keeps-lift_borrow : (scope : Option ℕ) (p : ℕ) (idx : TypedResourceIndex) (l : LedgerState) → Keeps l (resource_lift_borrow scope l p idx).after
+keeps-lift_borrow : (scope : Option ℕ) (p : ℕ) (idx : TypedResourceIndex) (l : LedgerState) → HostKeeps l (resource_lift_borrow scope l p idx).after
 keeps-lift_borrow scope p idx l = keeps-plainly (handles.resource_lift_borrow scope l.handles p idx) l (same-lift_in (opened l.handles scope) l.handles p idx)
 
-keeps-host_drop : (x : GivenIndex) (l : LedgerState) → Keeps l (host_resource_drop l x).after
+keeps-host_drop : (x : GivenIndex) (l : LedgerState) → HostKeeps l (host_resource_drop l x).after
 keeps-host_drop x l = keeps-unless_stale (is_stale l.host x) l _ (keeps-drop 0 (HostIndex x.index) l)
 
-keeps-once_told : (r : Result ℕ ResourceFault) (x : GivenIndex) (l : LedgerState) → Keeps l (removed_once_told r l x).after
+keeps-once_told : (r : Result ℕ ResourceFault) (x : GivenIndex) (l : LedgerState) → HostKeeps l (removed_once_told r l x).after
 keeps-once_told (Ok rep) x l = keeps-host_drop x l
 keeps-once_told (Err e) x l = keeps_same l l refl (same_self l.handles)
 
@@ -354,7 +354,7 @@ false_or_true : (b : Bool) → (b ≡ false) ⊎ (b ≡ true)
 false_or_true false = inl refl
 false_or_true true = inr refl
 
-host-keeps : (l l' : LedgerState) → Keeps l l' → IsHostSound l → IsHostSound l'
+host-keeps : (l l' : LedgerState) → HostKeeps l l' → IsHostSound l → IsHostSound l'
 host-keeps l l' k s =
     let slot : (i : ℕ) → slot_at l'.host i ≡ slot_at l.host i = λ i. ap (λ (xs : List (Option TableSlot)). get_or xs i None) k.slots in
     record {
@@ -469,10 +469,10 @@ still_none : (l l' : LedgerState) (i : ℕ) (b : Bool) → is_some (host_entry l
 still_none l l' i false e h none = e
 still_none l l' i true e h none = absurd (let some = h e in cc)
 
-not_less_generation : (l l' : LedgerState) → Keeps l l' → l.host.generation ≤ l'.host.generation
+not_less_generation : (l l' : LedgerState) → HostKeeps l l' → l.host.generation ≤ l'.host.generation
 not_less_generation l l' k = elim k.generation as (λ _. l.host.generation ≤ l'.host.generation) [ inl w ↦ (let e = w.1 in omega arith) | inr e ↦ omega arith ]
 
-spent-keeps : (x : GivenIndex) (l l' : LedgerState) → Keeps l l' → IsSpent x l → IsSpent x l'
+spent-keeps : (x : GivenIndex) (l l' : LedgerState) → HostKeeps l l' → IsSpent x l → IsSpent x l'
 spent-keeps x l l' k w =
     record {
       slot = w.slot;
@@ -556,7 +556,7 @@ known_when_given call l x s h g =
     let n = k.generation in let same = g.generation in
     record { slot = written_slot call l.host.generation; there = slot_new l _ x.index _ _ k h; older = omega arith }
 
-run-append : (calls more : List LedgerStep) (l : LedgerState) → run_steps (calls ++ more) l ≡ run_steps more (run_steps calls l)
+pub run-append : (calls more : List LedgerStep) (l : LedgerState) → run_steps (calls ++ more) l ≡ run_steps more (run_steps calls l)
 run-append [] more l = refl
 run-append (call ∷ calls) more l = run-append calls more (do_step call l).after
 
@@ -606,7 +606,7 @@ record IsTold (call : LedgerStep) (x : GivenIndex) (l : LedgerState) : Type 0 wh
 told_if : (call : LedgerStep) (x : GivenIndex) (l : LedgerState) → IsHostSound l → IsKnown x l → (IsAccepted x l → Names call x l) → IsTold call x l
 told_if call x l h k names = record { known = k; told = elim (spent_or_accepted x l h k) [ inl a ↦ inr (a, names a) | inr spent ↦ inl spent ] }
 
-names-keeps : (given : LedgerStep) (x : GivenIndex) (l l' : LedgerState) → Keeps l l' → Names given x l → IsAccepted x l' → Names given x l'
+names-keeps : (given : LedgerStep) (x : GivenIndex) (l l' : LedgerState) → HostKeeps l l' → Names given x l → IsAccepted x l' → Names given x l'
 names-keeps given x l l' k n a =
     record { handle = k.indexes.handle x.index a.stands ∙ n.handle; slot = ap (λ (xs : List (Option TableSlot)). get_or xs x.index None) k.slots ∙ n.slot }
 
@@ -684,11 +684,11 @@ new_sound instances limit generation =
 
 -- Where an accepted index comes from
 
-pub not_false : (b : Bool) → not b ≡ false → b ≡ true
-not_false true e = refl
-not_false false e = absurd (cc)
+pub ledger_not_false : (b : Bool) → not b ≡ false → b ≡ true
+ledger_not_false true e = refl
+ledger_not_false false e = absurd (cc)
 
-accepted-keeps : (x : GivenIndex) (l l' : LedgerState) → Keeps l l' → IsAccepted x l' → IsAccepted x l
+accepted-keeps : (x : GivenIndex) (l l' : LedgerState) → HostKeeps l l' → IsAccepted x l' → IsAccepted x l
 accepted-keeps x l l' k a =
     record { current = ap (λ (xs : List (Option TableSlot)). slot_is_stale (get_or xs x.index None) x.generation) (sym k.slots) ∙ a.current; stands = k.indexes.stands x.index a.stands }
 
@@ -701,7 +701,7 @@ accepted_or_given call x l s h a = elim (effect call l s) as (λ _. IsAccepted x
         (let slot = written_slot call l.host.generation in
         let there : slot_at (do_step call l).after.host x.index ≡ Some slot = ap (slot_at (do_step call l).after.host) at ∙ slot_new l _ w.0 _ _ w.3 h in
         let same : not (slot.generation == x.generation) ≡ false = ap (λ (o : Option TableSlot). slot_is_stale o x.generation) (sym there) ∙ a.current in
-        inr (record { insertion = w.1; index = w.2 ∙ ap Ok (sym at); generation = sym (eqb-true slot.generation x.generation (not_false _ same)) ∙ w.3.generation }))
+        inr (record { insertion = w.1; index = w.2 ∙ ap Ok (sym at); generation = sym (eqb-true slot.generation x.generation (ledger_not_false _ same)) ∙ w.3.generation }))
     | inr ne ↦ inl (record {
       current = ap (λ (o : Option TableSlot). slot_is_stale o x.generation) (sym (slot_old l _ w.0 _ _ w.3 h x.index ne)) ∙ a.current;
       stands = sym (w.3.indexes.others x.index ne) ∙ a.stands;

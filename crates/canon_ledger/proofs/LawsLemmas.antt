@@ -18,7 +18,7 @@ use Rattle.canon_ledger.specs.Laws.{IsLent, LedgerLaws}
 use Rattle.canon_ledger.proofs.HandlesLemmas.{within_or_past, there_by_entry, total_after, standing, lenders-with_scope, open_by_count, lender_here}
 use Rattle.canon_ledger.proofs.BooksLemmas.{term_le}
 use Rattle.canon_ledger.proofs.OwedLemmas.{own_by_lends}
-use Rattle.canon_ledger.proofs.HostLemmas.{not_false}
+use Rattle.canon_ledger.proofs.HostLemmas.{ledger_not_false}
 
 -- a sum of which each term is 0
 sum_zero : {A : Type 0} (f : A → ℕ) (d : A) (xs : List A) → ((i : ℕ) → f (get_or xs i d) ≡ 0) → sum_by f xs ≡ 0
@@ -76,7 +76,7 @@ module _ (h : Handles) (s : IsConsistent h) where
 
 generation_by : (o : Option TableSlot) (g : ℕ) → is_some o ≡ true → slot_is_stale o g ≡ false → option_map (λ (s : TableSlot). s.generation) o ≡ Some g
 generation_by None g some current = absurd (cc)
-generation_by (Some slot) g some current = ap Some (eqb-true slot.generation g (not_false (slot.generation == g) current))
+generation_by (Some slot) g some current = ap Some (eqb-true slot.generation g (ledger_not_false (slot.generation == g) current))
 
 pub ledger_laws : (l : LedgerState) → Holds l → l.host.generation ≤ last_generation → LedgerLaws l
 ledger_laws l h last = record {

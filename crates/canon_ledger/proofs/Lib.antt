@@ -10,3 +10,4 @@ pub mod LedgerLemmas
 pub mod OwedLemmas
 pub mod ScopeLemmas
 pub mod StepLemmas
+pub mod LeavingLemmas

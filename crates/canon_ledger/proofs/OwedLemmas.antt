@@ -77,11 +77,11 @@ undone_is h p idx s s' c' (Err e) is does =
     ap (λ (t : Table Entry). undone h (finished h p (raw_index idx) (resource_undo_lend t h.counter idx))) (sym is)
     ∙ ap (λ w. undone h (finished h p (raw_index idx) w)) does.0 ∙ sym (same_table h p) ∙ (λ i. with_table h p (sym (does.1 ∙ is) i) (sym does.2 i))
 
-pub nothing_left : (xs : List Lender) (k : ℕ) → length xs ≤ k → drop k xs ≡ []
-nothing_left [] zero h = refl
-nothing_left [] (suc k) h = refl
-nothing_left (x ∷ xs) zero h = absurd (omega arith)
-nothing_left (x ∷ xs) (suc k) h = nothing_left xs k (omega arith)
+pub ledger_nothing_left : (xs : List Lender) (k : ℕ) → length xs ≤ k → drop k xs ≡ []
+ledger_nothing_left [] zero h = refl
+ledger_nothing_left [] (suc k) h = refl
+ledger_nothing_left (x ∷ xs) zero h = absurd (omega arith)
+ledger_nothing_left (x ∷ xs) (suc k) h = ledger_nothing_left xs k (omega arith)
 
 -- the first of those that are left
 pub first_left : (xs : List Lender) (k : ℕ) (x : Lender) → slice_get xs k ≡ Some x → drop k xs ≡ x ∷ drop (k + 1) xs

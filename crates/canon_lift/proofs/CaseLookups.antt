@@ -7,7 +7,7 @@ use Rattle.canon_types.specs.Depth.{variant_cases}
 use Rattle.canon_types.specs.Table.{IsDefined, Knows, KnowsPayload, OptionType, ResultType, TypeTable, all_shapes, payload_in, shape_of}
 use Rattle.canon_types.specs.declared.types.InterfaceType.{InterfaceType}
 use Rattle.canon_types.specs.declared.types.InterfaceType.TheVariants as ty
-use Rattle.canon_lift_parts.proofs.Lookups.{error_known, error_payload, ok_known, ok_payload, option_few, option_known, option_payload, option_shape, result_few, result_shape}
+use Rattle.canon_lift_parts.proofs.Lookups.{error_known, error_payload, ok_known, ok_payload, option_few, lift_option_known, lift_option_payload, lift_option_shape, result_few, lift_result_shape}
 
 pub record IsOptionThere (t : TypeTable) (type some : InterfaceType) : Type 0 where
   pub shape : shape_of t type ≡ option_of (shape_of t some)
@@ -18,9 +18,9 @@ pub record IsOptionThere (t : TypeTable) (type some : InterfaceType) : Type 0 wh
 pub option_there : (t t2 : TypeTable) (j : ℕ) (type some : InterfaceType) (info : VariantInfo) → t2 ≡ t → type ≡ ty.Option j
     → IsDefined t2 (ty.Option j) (OptionType some) → IsOptionThere t type some
 option_there t t2 j type some info same is d = record {
-  shape = option_shape t t2 j type some info [] 0 same is d;
-  known = option_known t t2 j type some info [] 0 same is d;
-  payload = option_payload t t2 j type some info [] 0 same is d;
+  shape = lift_option_shape t t2 j type some info [] 0 same is d;
+  known = lift_option_known t t2 j type some info [] 0 same is d;
+  payload = lift_option_payload t t2 j type some info [] 0 same is d;
   few = option_few t t2 j type some info [] 0 same is d;
 }
 
@@ -35,7 +35,7 @@ pub record IsResultThere (t : TypeTable) (type : InterfaceType) (ok error : Opti
 pub result_there : (t t2 : TypeTable) (j : ℕ) (type : InterfaceType) (ok error : Option InterfaceType) → t2 ≡ t → type ≡ ty.Result j
     → IsDefined t2 (ty.Result j) (ResultType ok error) → IsResultThere t type ok error
 result_there t t2 j type ok error same is d = record {
-  shape = result_shape t t2 j type ok error same is d;
+  shape = lift_result_shape t t2 j type ok error same is d;
   ok_known = ok_known t t2 j type ok error same is d;
   error_known = error_known t t2 j type ok error same is d;
   ok_payload = ok_payload t t2 j type ok error same is d;

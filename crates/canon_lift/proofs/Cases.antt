@@ -19,7 +19,7 @@ use Rattle.canon_context.specs.Faults.{stop_of}
 use Rattle.canon_reading.specs.Readings.{CaseReads, CasesFault, cases_reach, cases_reading, OptionReads, ResultReads, nothing_reading, option_reading, payload_reading, result_reading}
 use Rattle.canon_reading.specs.Spots.{HasRoom, Spot, flat_in, payload_spot, stored, tag_in}
 use Rattle.canon_lift_parts.proofs.CaseLifting.{IsOfCases, or_left, or_right, payload_aligned, payload_inside, place_is, tag_is}
-use Rattle.canon_lift_parts.proofs.Refusals.{named_by, refused_by}
+use Rattle.canon_lift_parts.proofs.Refusals.{lift_named_by, refused_by}
 
 -- what is known of a value of cases at a spot: its discriminant, and where the payload stands
 pub record HasCase (w : Setting) (at next : Spot) (s : Shape) (n : ℕ) : Type 0 where
@@ -42,8 +42,8 @@ second_of n x y z h = subst (λ k. (if k == 0 then x else if k == 1 then y else 
 -- a fault of the payload's spot, where it is one of the whole
 payload_named : (w : Setting) (s : Shape) (at : Spot) (F G : Kind → reach.At → Type 0) → ((k : Kind) (x : reach.At) → F k x → G k x) → (k : Kind) (x : Place)
     → NamedBy (payload_spot w.memory at (variant_cases s)) F k x → NamedBy at G k x
-payload_named w s (stored a) F G f k x h = named_by (stored a) F G f k x h
-payload_named w s (flat_in ws i) F G f k x h = named_by (flat_in ws i) F G f k x h
+payload_named w s (stored a) F G f k x h = lift_named_by (stored a) F G f k x h
+payload_named w s (flat_in ws i) F G f k x h = lift_named_by (flat_in ws i) F G f k x h
 
 module _ {A B C : Type 0} (R : Reading A) (S : Reading B) (Reads : Setting → Spot → Shape → LedgerState → C → LedgerState → Type 0)
     (w : Setting) (at : Spot) (s : Shape) (before after : LedgerState) (fuel left : ℕ) where
@@ -107,22 +107,22 @@ module _ {w : Setting} {at next : Spot} {s : Shape} {n : ℕ} (h : HasCase w at 
         (placed h R one 1 same before after fuel left r lifts)
 
     module _ {A B : Type 0} (unit : Bool) (R : Reading A) (unit2 : Bool) (S : Reading B) where
-      abbrev first : Reading A
-      first = payload_reading unit R
+      abbrev lift_first : Reading A
+      lift_first = payload_reading unit R
 
       abbrev second : Reading B
       second = payload_reading unit2 S
 
       pub ok_lifts : n ≡ 0 → one ≡ payload_shape (variant_cases s) 0 → (r : Result A Fault)
-          → Lifts first w next one before fuel r after left → Lifts (result_reading unit R unit2 S) w at s before fuel (made (λ v. Ok v) r) after left
+          → Lifts lift_first w next one before fuel r after left → Lifts (result_reading unit R unit2 S) w at s before fuel (made (λ v. Ok v) r) after left
       ok_lifts is same r lifts =
-          first_by first second (ResultReads first second) w at s before after fuel left (λ v. Ok v) (λ v read. read) h.room (h.tag ∙ is) r
-          (placed h first one 0 same before after fuel left r lifts)
+          first_by lift_first second (ResultReads lift_first second) w at s before after fuel left (λ v. Ok v) (λ v read. read) h.room (h.tag ∙ is) r
+          (placed h lift_first one 0 same before after fuel left r lifts)
 
       pub error_lifts : n ≡ 1 → one ≡ payload_shape (variant_cases s) 1 → (r : Result B Fault)
           → Lifts second w next one before fuel r after left → Lifts (result_reading unit R unit2 S) w at s before fuel (made (λ v. Err v) r) after left
       error_lifts is same r lifts =
-          second_by first second (ResultReads first second) w at s before after fuel left (λ v. Err v) (λ v read. read) h.room (h.tag ∙ is) r
+          second_by lift_first second (ResultReads lift_first second) w at s before after fuel left (λ v. Err v) (λ v read. read) h.room (h.tag ∙ is) r
           (placed h second one 1 same before after fuel left r lifts)
 
 -- ---- cases in memory
@@ -140,5 +140,5 @@ module _ {D G : Type 0} (core : Parts D G) {s : Shape} {info : VariantInfo} {at 
     pub one_aligned : (at + offset) % align false one ≡ 0
     one_aligned = subst (λ (z : Shape). (at + offset) % align false z ≡ 0) (sym payload) (payload_aligned s info core.memory at h offset off d few)
 
-    pub one_inside : at + offset + size false one ≤ length core.memory
-    one_inside = omega (arith, payload_inside s info core.memory at h offset off d few, ap (size false) payload)
+    pub lift_one_inside : at + offset + size false one ≤ length core.memory
+    lift_one_inside = omega (arith, payload_inside s info core.memory at h offset off d few, ap (size false) payload)

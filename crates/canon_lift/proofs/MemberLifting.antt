@@ -20,7 +20,7 @@ use Rattle.canon_reading.specs.Reading.{AreTaken, Lifts, Reading, Refused, Setti
 use Rattle.canon_reading.specs.Readings.{RestReading, first_reading}
 use Rattle.canon_reading.specs.Rests.{rest_reading}
 use Rattle.canon_reading.specs.Spots.{Rest, Spot, first_spot, others, stored}
-use Rattle.canon_lift_parts.proofs.MemberSteps.{member_refused, members_read, next_aligned, next_end, next_inside, next_of_tuple, others_refused, place_is, rest_aligned, rest_inside, spot_of}
+use Rattle.canon_lift_parts.proofs.MemberSteps.{member_refused, members_read, lift_next_aligned, next_end, next_inside, next_of_tuple, others_refused, place_is, rest_aligned, rest_inside, spot_of}
 
 -- the members of tuple i from k on
 abbrev pub members_from : {D G : Type 0} → ℕ → ℕ → Parts D G → Members
@@ -29,7 +29,7 @@ members_from i k core = members_of (component_types core) (drop k (table.types_o
 -- ---- their types
 
 -- of members from k on, the first has the type, and each fits
-pub record IsNext {D G : Type 0} (core : Parts D G) (i k : ℕ) (Fit : Instance → InterfaceType → Type 0) (Fits : List (Instance → InterfaceType → Type 0)) (type : InterfaceType) : Type 0 where
+pub record IsNextMember {D G : Type 0} (core : Parts D G) (i k : ℕ) (Fit : Instance → InterfaceType → Type 0) (Fits : List (Instance → InterfaceType → Type 0)) (type : InterfaceType) : Type 0 where
   pub split : drop k (table.types_of (component_types core) i) ≡ type ∷ drop (k + 1) (table.types_of (component_types core) i)
   pub first : Fit core.component.types type
   pub others : AreOf Fits core.component.types (drop (k + 1) (table.types_of (component_types core) i))
@@ -37,7 +37,7 @@ pub record IsNext {D G : Type 0} (core : Parts D G) (i k : ℕ) (Fit : Instance 
 pub next : {D G : Type 0} (core : Parts D G) (i k : ℕ) (Fit : Instance → InterfaceType → Type 0) (Fits : List (Instance → InterfaceType → Type 0)) (t2 : TypeTable) (items : List InterfaceType)
     (type : InterfaceType)
     → t2 ≡ component_types core → items ≡ table.types_of t2 i → type ≡ slice_index_or items k type → AreOf (Fit ∷ Fits) core.component.types (drop k (table.types_of (component_types core) i))
-    → IsNext core i k Fit Fits type
+    → IsNextMember core i k Fit Fits type
 next core i k Fit Fits t2 items type same are is fits =
     let split = next_of_tuple (component_types core) t2 i k items type Fit Fits core.component.types same are is fits in
     let (first, others) = subst (λ types. AreOf (Fit ∷ Fits) core.component.types types) split fits in
@@ -46,7 +46,7 @@ next core i k Fit Fits t2 items type same are is fits =
 -- ---- where they stand in memory
 
 -- a member at a start behind an end, and those behind it
-pub record IsPlaced (s : Shape) (more : Members) (memory : List ℕ) (at end start after : ℕ) : Type 0 where
+pub record IsPlacedMember (s : Shape) (more : Members) (memory : List ℕ) (at end start after : ℕ) : Type 0 where
   pub place : stored (at + start) ≡ stored (at + begins false end s)
   pub aligned : (at + start) % align false s ≡ 0
   pub inside : at + start + size false s ≤ length memory
@@ -55,13 +55,13 @@ pub record IsPlaced (s : Shape) (more : Members) (memory : List ℕ) (at end sta
   pub more_inside : at + members_end false after more ≤ length memory
 
 module _ (t t2 : TypeTable) (types more : List InterfaceType) (type : InterfaceType) (split : types ≡ type ∷ more) (memory : List ℕ) (at end start after : ℕ) (abi : CanonicalAbiInfo) where
-  pub placed : at % members_align false (members_of t types) ≡ 0 → at + members_end false end (members_of t types) ≤ length memory → t2 ≡ t → HasLayout abi (shape_of t2 type)
-      → start ≡ align_to end abi.align32 → after ≡ align_to end abi.align32 + abi.size32 → IsPlaced (shape_of t type) (members_of t more) memory at end start after
-  placed aligned inside same layout starts stops =
+  pub lift_placed : at % members_align false (members_of t types) ≡ 0 → at + members_end false end (members_of t types) ≤ length memory → t2 ≡ t → HasLayout abi (shape_of t2 type)
+      → start ≡ align_to end abi.align32 → after ≡ align_to end abi.align32 + abi.size32 → IsPlacedMember (shape_of t type) (members_of t more) memory at end start after
+  lift_placed aligned inside same layout starts stops =
       let behind = next_end t types more type split at end memory inside aligned t2 abi same layout after stops in
       record {
         place = place_is t types more type split at end memory inside aligned t2 abi same layout start starts;
-        aligned = next_aligned t types more type split at end memory inside aligned t2 abi same layout start starts;
+        aligned = lift_next_aligned t types more type split at end memory inside aligned t2 abi same layout start starts;
         inside = next_inside t types more type split at end memory inside aligned t2 abi same layout start starts;
         behind = behind;
         more_aligned = rest_aligned t types more type split at end memory inside aligned;

@@ -31,10 +31,10 @@ use Rattle.canon_context.specs.Faults.{stop_of}
 use Rattle.canon_reading.specs.Readings.{IsGoodList, ListPointerFault, each_reach, list_reading, read_as, text_charge, text_reading}
 use Rattle.canon_reading.specs.Spots.{Faulty, HasRoom, Represents, Spot, at_of, flat_in, length_in, pointer_in, stored}
 use Rattle.canon_lift.specs.declared.wasm_list.WasmList.{WasmList}
-use Rattle.canon_lift_parts.proofs.WordRooms.{list_words}
+use Rattle.canon_lift_parts.proofs.WordRooms.{lift_list_words}
 use Rattle.canon_typed.specs.Types.{IsMapOf}
 use Rattle.canon_types.specs.declared.types.InterfaceType.TheVariants as ty
-use Rattle.canon_lift_parts.proofs.Refusals.{named_by, refused_before, refused_by, stops_nowhere}
+use Rattle.canon_lift_parts.proofs.Refusals.{lift_named_by, lift_refused_before, refused_by, stops_nowhere}
 
 -- ---- their bytes
 
@@ -59,11 +59,11 @@ module _ (Key Value : Instance → InterfaceType → Type 0) (i : Instance) (typ
   pub map_words : (at n : ℕ) → IsMapOf Key Value i type → at + flat (shape_of i.types type) ≤ n → at + 2 ≤ n
   map_words at n f words =
       let (u, v, is) = map_is Key Value i type f in
-      list_words (shape_of i.types type) (tuple (u ∷ v ∷ [])) of_pairs at n is words
+      lift_list_words (shape_of i.types type) (tuple (u ∷ v ∷ [])) of_pairs at n is words
 
-pub text_room : (bytes memory : List ℕ) (s : Shape) (at : ℕ) → s ≡ string → at + size false s ≤ length memory → bytes ≡ memory → at + 8 ≤ length bytes
+pub lift_text_room : (bytes memory : List ℕ) (s : Shape) (at : ℕ) → s ≡ string → at + size false s ≤ length memory → bytes ≡ memory → at + 8 ≤ length bytes
 unfolding size
-text_room bytes memory s at is inside same =
+lift_text_room bytes memory s at is inside same =
     let room : at + 8 ≤ length memory = subst (λ (z : Shape). at + size false z ≤ length memory) is inside in
     omega (arith, room, ap length same)
 
@@ -102,13 +102,13 @@ module _ (bytes : ℕ) (w : Setting) (e : Shape) (at : Spot) (s : Shape) (p n : 
 
     pub refused_list : (f : Fault) (left : ℕ) → ListRefused w e bytes p n place fuel f left → Refused whole w at s before fuel f after left
     refused_list (fault.PointerOutOfBounds x) left (is, wrong, same) =
-        refused_before whole w at s before after fuel left (fault.PointerOutOfBounds x)
+        lift_refused_before whole w at s before after fuel left (fault.PointerOutOfBounds x)
         (subst (λ y. NamedBy at (whole.faults w at s) out_of_bounds y) (sym is) (named (whole.faults w at s) out_of_bounds (inr (record { kind_is = refl; at_is = refl }, not_inside wrong))))
         (λ oom. cc) refl kept (omega (arith, same))
     refused_list fault.HostcallFuelExhausted left (inside, few, same) =
-        refused_before whole w at s before after fuel left fault.HostcallFuelExhausted (omega (arith, few, range_inside inside)) (λ oom. cc) refl kept (omega (arith, same))
+        lift_refused_before whole w at s before after fuel left fault.HostcallFuelExhausted (omega (arith, few, range_inside inside)) (λ oom. cc) refl kept (omega (arith, same))
     refused_list (fault.PointerMisaligned x) left (is, wrong, same) =
-        refused_before whole w at s before after fuel left (fault.PointerMisaligned x)
+        lift_refused_before whole w at s before after fuel left (fault.PointerMisaligned x)
         (subst (λ y. NamedBy at (whole.faults w at s) misaligned y) (sym is) (named (whole.faults w at s) misaligned (inl (record { kind_is = refl; at_is = refl }, not_aligned wrong))))
         (λ oom. cc) refl kept (omega (arith, same))
     refused_list _ left h = absurd h
@@ -148,7 +148,7 @@ pub range_refused : {A B : Type 0} (Fit : Instance → InterfaceType → Type 0)
 range_refused {A} Fit bytes R f w at s before after fuel left e r =
     let whole = read_as f (list_reading bytes R) in
     refused_by (wasm_list_reading {A = A} Fit bytes) whole w at at s s before before after fuel fuel left e
-    (named_by at (ListPointerFault w.memory (element_shape s) at) (whole.faults w at s) (λ k x h. inl h))
+    (lift_named_by at (ListPointerFault w.memory (element_shape s) at) (whole.faults w at s) (λ k x h. inl h))
     (λ low. omega (
       arith,
       low,
@@ -166,28 +166,28 @@ map_range_refused {K} {V} eq bytes R S w at s before after fuel left e r =
 -- ---- a text that is owned
 
 -- a fault that is no refusal stops the ledger without one
-pub no_refusal : (e : Fault) → IsNoRefusal e → stop_of e ≡ None
-no_refusal (fault.Resource r) h = absurd h
-no_refusal (fault.PointerMisaligned x) h = refl
-no_refusal (fault.PointerOutOfBounds x) h = refl
-no_refusal (fault.InvalidUtf8 x) h = refl
-no_refusal (fault.InvalidUtf16 x) h = refl
-no_refusal (fault.InvalidChar x) h = refl
-no_refusal (fault.BadDiscriminant x n) h = refl
-no_refusal fault.HostcallFuelExhausted h = refl
-no_refusal fault.OutOfMemory h = refl
-no_refusal (fault.TypeMismatch k) h = refl
-no_refusal (fault.FieldName k) h = refl
-no_refusal (fault.LengthMismatch k) h = refl
-no_refusal (fault.UnknownCase k) h = refl
-no_refusal (fault.UnknownFlag k) h = refl
-no_refusal (fault.PayloadExpected k) h = refl
-no_refusal (fault.PayloadNotExpected k) h = refl
-no_refusal (fault.StringTooLong n) h = refl
-no_refusal (fault.SizeOverflow n) h = refl
-no_refusal (fault.ReallocMisaligned a) h = refl
-no_refusal (fault.ReallocOutOfBounds a) h = refl
-no_refusal fault.GuestTrap h = refl
+pub lift_no_refusal : (e : Fault) → IsNoRefusal e → stop_of e ≡ None
+lift_no_refusal (fault.Resource r) h = absurd h
+lift_no_refusal (fault.PointerMisaligned x) h = refl
+lift_no_refusal (fault.PointerOutOfBounds x) h = refl
+lift_no_refusal (fault.InvalidUtf8 x) h = refl
+lift_no_refusal (fault.InvalidUtf16 x) h = refl
+lift_no_refusal (fault.InvalidChar x) h = refl
+lift_no_refusal (fault.BadDiscriminant x n) h = refl
+lift_no_refusal fault.HostcallFuelExhausted h = refl
+lift_no_refusal fault.OutOfMemory h = refl
+lift_no_refusal (fault.TypeMismatch k) h = refl
+lift_no_refusal (fault.FieldName k) h = refl
+lift_no_refusal (fault.LengthMismatch k) h = refl
+lift_no_refusal (fault.UnknownCase k) h = refl
+lift_no_refusal (fault.UnknownFlag k) h = refl
+lift_no_refusal (fault.PayloadExpected k) h = refl
+lift_no_refusal (fault.PayloadNotExpected k) h = refl
+lift_no_refusal (fault.StringTooLong n) h = refl
+lift_no_refusal (fault.SizeOverflow n) h = refl
+lift_no_refusal (fault.ReallocMisaligned a) h = refl
+lift_no_refusal (fault.ReallocOutOfBounds a) h = refl
+lift_no_refusal fault.GuestTrap h = refl
 
 text_represents : (enc : Encoding) (m : Memory) (at : Spot) (t : Tree) → HasRoom m at string → IsText (Inside m) false enc m (pointer_in m at) (length_in m at) t → Represents m enc at string t
 unfolding size
@@ -222,7 +222,7 @@ module _ (w : Setting) (at : Spot) (s : Shape) (p n : ℕ) (shape : s ≡ string
   text_lifts (Ok v) left named room loaded err unrefused falls = text_lifted v left room loaded
   text_lifts (Err e) left named room loaded err unrefused falls =
       let same : text_reach w.encoding w.memory p n ≡ text_charge w at = ap₂ (λ a b. text_reach w.encoding w.memory a b) pointer count in
-      refused_before text w at s before after fuel left e
+      lift_refused_before text w at s before after fuel left e
       (blamed_by (Exactly (TextFault w.encoding w.memory (place_of place) p n)) (NamedBy at (text.faults w at s)) (fuel < text_reach w.encoding w.memory p n) (fuel < text.reach w at s)
-      (λ k x f. named_by at (TextFault w.encoding w.memory (at_of at) p n) (text.faults w at s) fault_there k x (named k x f)) (λ low. omega (arith, low, same)) e err)
-      (λ oom. refl) (no_refusal e unrefused) kept falls
+      (λ k x f. lift_named_by at (TextFault w.encoding w.memory (at_of at) p n) (text.faults w at s) fault_there k x (named k x f)) (λ low. omega (arith, low, same)) e err)
+      (λ oom. refl) (lift_no_refusal e unrefused) kept falls

@@ -26,7 +26,7 @@ use Rattle.canon_reading.specs.Readings.{EachFault, EachReads, IsGoodList, each_
 use Rattle.canon_reading.specs.Spots.{Spot, behind, flat_in, stored}
 use Rattle.canon_reading.specs.Taken.{each_counted}
 use Rattle.canon_lift.specs.declared.wasm_list.WasmList.{WasmList}
-use Rattle.canon_lift_parts.proofs.Refusals.{named_by, refused_by, stops_after, stops_first, stops_second}
+use Rattle.canon_lift_parts.proofs.Refusals.{lift_named_by, refused_by, lift_stops_after, stops_first, stops_second}
 use Rattle.canon_lift_parts.proofs.Settings.{same_setting, same_shape}
 
 -- ---- where items stand
@@ -110,7 +110,7 @@ module _ {A : Type 0} (R : Reading A) (w : Setting) (s : Shape) where
       item_refused e r =
           refused_by R (vec_reading n R) w (item_spot w.memory s at k) at s s mid before after now fuel left e
           (λ l x f. item_named w.memory s (EachFault R w s at n) at k l x
-          (named_by (item_spot w.memory s at k) (R.faults w (item_spot w.memory s at k) s) (EachFault R w s at n) (λ j y g. (k, few, g)) l x f))
+          (lift_named_by (item_spot w.memory s at k) (R.faults w (item_spot w.memory s at k) s) (EachFault R w s at n) (λ j y g. (k, few, g)) l x f))
           (λ low. omega (arith, low, h.spent, behind_reach k n at few))
           (λ is. refl)
           (λ stops. subst (λ (ps : List (List Part)). LeavesStop (stop_of e) before ps after) (sym (behind_steps k n at few))
@@ -124,7 +124,7 @@ module _ {A : Type 0} (R : Reading A) (w : Setting) (s : Shape) where
         memory = λ is. refl;
         stops = subst (λ (ps : List (List Part)). LeavesStop None before ps after) (sym (behind_steps k n at few))
             (stops_second None before mid after _ _ (each_counted R taken w s at k before mid xs h.count h.each)
-            (stops_first None mid after _ _ (stops_after mid after _ None refl (taken w (item_spot w.memory s at k) s mid after x read))));
+            (stops_first None mid after _ _ (lift_stops_after mid after _ None refl (taken w (item_spot w.memory s at k) s mid after x read))));
         falls = omega (arith, h.spent, spent);
       }
 
@@ -149,8 +149,8 @@ fixed_refused n R f w at s u before after fuel left e is r =
     record { cause = h.cause; memory = h.memory; stops = h.stops; falls = h.falls }
 
 -- item k of so many ends where they end, or before
-pub row_room : (p k count step size n : ℕ) → k < count → step ≡ size → p + count * size ≤ n → p + k * step + size ≤ n
-row_room p k count step size n few is room =
+pub lift_row_room : (p k count step size n : ℕ) → k < count → step ≡ size → p + count * size ≤ n → p + k * step + size ≤ n
+lift_row_room p k count step size n few is room =
     let all : (k + 1) * size ≤ count * size = mul-le-mul_right size (omega (arith, few)) in
     let one : (k + 1) * size ≡ k * size + size = add-mul k 1 size ∙ ap (λ j. k * size + j) (one-mul size) in
     let here : k * step ≡ k * size = ap (λ j. k * j) is in
@@ -180,10 +180,10 @@ module _ {A : Type 0} (w : Setting) (element : InterfaceType) (p n : ℕ) (v : W
         (subst (λ k. IsGoodList w.memory (shape_of w.types.types element) k v.count) (sym is.pointer) (subst (λ k. IsGoodList w.memory (shape_of w.types.types element) p k) (sym is.count) good));
   }
 
-  pub row_refused : (R : Reading A) (before after : LedgerState) (fuel left : ℕ) (e : Fault)
+  pub lift_row_refused : (R : Reading A) (before after : LedgerState) (fuel left : ℕ) (e : Fault)
       → Refused (vec_reading v.count R) w (stored v.pointer) (shape_of w.types.types v.element) before fuel e after left
       → Refused (vec_reading n R) w (stored p) (shape_of w.types.types element) before fuel e after left
-  row_refused R before after fuel left e r =
+  lift_row_refused R before after fuel left e r =
       subst (λ k. Refused (vec_reading k R) w (stored p) (shape_of w.types.types element) before fuel e after left) is.count
       (subst (λ k. Refused (vec_reading v.count R) w (stored k) (shape_of w.types.types element) before fuel e after left) is.pointer
       (subst (λ t. Refused (vec_reading v.count R) w (stored v.pointer) (shape_of w.types.types t) before fuel e after left) is.element_is r))

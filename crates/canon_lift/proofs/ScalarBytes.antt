@@ -25,9 +25,9 @@ use Rattle.canon_reading.specs.Spots.{Faulty, Spot, flat_in, stored}
 use Rattle.canon_lift.specs.Scalars.{StandsForNone}
 
 -- its bytes are inside
-pub scalar_room : (bytes memory : List ℕ) (s : Shape) (k : Scalar) (at : ℕ) → s ≡ scalar k → at + size false s ≤ length memory → bytes ≡ memory → at + scalar_size k ≤ length bytes
+pub lift_scalar_room : (bytes memory : List ℕ) (s : Shape) (k : Scalar) (at : ℕ) → s ≡ scalar k → at + size false s ≤ length memory → bytes ≡ memory → at + scalar_size k ≤ length bytes
 unfolding size
-scalar_room bytes memory s k at is inside same =
+lift_scalar_room bytes memory s k at is inside same =
     let room : at + scalar_size k ≤ length memory = subst (λ (z : Shape). at + size false z ≤ length memory) is inside in
     omega (arith, room, ap length same)
 
@@ -37,7 +37,7 @@ pub scalar_lifts : {D G A : Type 0} (Means : A → Tree → Type 0) (core : Part
     → Lifts (scalar_reading Means) (setting_in core o) (stored at) (shape_of (component_types core) type) core.ledger fuel (Ok v) core.ledger fuel
 scalar_lifts Means core o type k at fuel n bytes v t is inside same number stands means =
     let here : n ≡ num (narrow core.memory) at (scalar_size k) = number ∙ ap (λ xs. num (narrow xs) at (scalar_size k)) same in
-    let room : at + scalar_size k ≤ length core.memory = scalar_room core.memory core.memory (shape_of (component_types core) type) k at is inside refl in (
+    let room : at + scalar_size k ≤ length core.memory = lift_scalar_room core.memory core.memory (shape_of (component_types core) type) k at is inside refl in (
       subst (λ (s : Shape). TreeReads Means (setting_in core o) (stored at) s core.ledger v core.ledger) (sym is)
           (t, (room, subst (λ j. ScalarIs k j t) here stands, λ strict. cc), means, refl),
       omega arith,
@@ -68,9 +68,9 @@ none_refused : {A : Type 0} (Means : A → Tree → Type 0) (w : Setting) (at : 
     → Refused (scalar_reading Means) w at s l fuel (fault.InvalidChar x) l fuel
 none_refused Means w at s l fuel x named = record { cause = named; memory = λ e. cc; stops = stops_at_once l l [] refl; falls = omega arith }
 
-pub scalar_refused : {D G A : Type 0} (Means : A → Tree → Type 0) (core : Parts D G) (o : ℕ) (type : InterfaceType) (k : Scalar) (at fuel : ℕ) (bytes : List ℕ) → shape_of (component_types core) type ≡ scalar k → bytes ≡ core.memory
+pub lift_scalar_refused : {D G A : Type 0} (Means : A → Tree → Type 0) (core : Parts D G) (o : ℕ) (type : InterfaceType) (k : Scalar) (at fuel : ℕ) (bytes : List ℕ) → shape_of (component_types core) type ≡ scalar k → bytes ≡ core.memory
     → StandsForNone k (num (narrow bytes) at (scalar_size k)) → Refused (scalar_reading Means) (setting_in core o) (stored at) (shape_of (component_types core) type) core.ledger fuel (fault.InvalidChar (place.Address at)) core.ledger fuel
-scalar_refused Means core o type k at fuel bytes is same none =
+lift_scalar_refused Means core o type k at fuel bytes is same none =
     let w : Setting = setting_in core o in
     let here : StandsForNone k (num w.memory at (scalar_size k)) = subst (λ xs. StandsForNone k (num (narrow xs) at (scalar_size k))) same none in
     none_refused Means w (stored at) (shape_of (component_types core) type) core.ledger fuel (place.Address at)

@@ -1,6 +1,6 @@
 //! Maps.
 
-ghost use Rattle.std.specs.Prelude.{◌≡◌, ◌≤◌, ◌<◌, ◌+◌, ◌*◌, ◌%◌, ◌^◌, ◌&&◌, ◌++◌, ◌∷◌, [], List, OnOk, false, length};
+ghost use Rattle.std.specs.Prelude.{◌≡◌, ◌≤◌, ◌+◌, ◌*◌, ◌%◌, ◌&&◌, ◌++◌, ◌∷◌, [], List, OnOk, false, length};
 ghost use Rattle.canon_context.specs.Core.{component_types};
 ghost use Rattle.canon_reading.specs.Scopes.{map_kept};
 ghost use Rattle.canon_model.specs.Layout.{align, begins, ends, size};
@@ -129,8 +129,6 @@ fn lift_map<K: Lift + Eq + Hash, V: Lift, U, G>(
     at: At,
 ) -> Result<HashMap<K, V>, Fault>
     requires fits { IsMapOf K.fits V.fits cx.old.core.now.component.types ty }
-    requires narrow { pointer < 2 ^ 32 }
-    requires narrow_count { count < 2 ^ 32 }
     ensures lifts { (spot : Spot) → StandAt (narrow cx.old.core.now.memory) spot pointer count at → HasRoom (narrow cx.old.core.now.memory) spot (shape_of (component_types cx.old.core.now) ty)
         → Lifts (map_reading K.eq (cap (K.host_bytes + V.host_bytes)) K.reading V.reading) (setting_in cx.old.core.now cx.old.options) spot (shape_of (component_types cx.old.core.now) ty)
         cx.old.core.now.ledger cx.old.fuel result cx.new.core.now.ledger cx.new.fuel }

@@ -1,6 +1,6 @@
 //! Lists that stay in memory.
 
-ghost use Rattle.std.specs.Prelude.{◌≡◌, ◌↔◌, ◌≤◌, ◌<◌, ◌+◌, ◌*◌, ◌%◌, ◌^◌, IfNone, IfSome, IsNone, IsTrue, false, ℕ};
+ghost use Rattle.std.specs.Prelude.{◌≡◌, ◌↔◌, ◌≤◌, ◌<◌, ◌+◌, ◌*◌, ◌%◌, IfNone, IfSome, IsNone, IsTrue, false, ℕ};
 ghost use Rattle.canon_context.specs.Core.{component_types};
 ghost use Rattle.std.proofs.Common.{refl};
 ghost use Rattle.canon_reading.specs.Scopes.{plain_kept};
@@ -22,7 +22,7 @@ ghost use Rattle.canon_lift.specs.Views.{ListFits};
 ghost use Rattle.canon_model.specs.Memory.{bytes_at, cap};
 
 use crate::Lift;
-use canon_bytes::load_u32;
+use canon_bytes::{ends_inside, load_u32};
 use canon_context::{At, Core, Fault, LiftContext, MemoryView};
 use canon_lift_parts::{is_row, word_at, word_u32};
 use canon_memory::ValRaw;
@@ -51,13 +51,11 @@ pub(crate) fn test_range<T: ComponentType, U, G>(
     count: u64,
     at: At,
 ) -> Result<(), Fault>
-    requires narrow { pointer < 2 ^ 32 }
-    requires narrow_count { count < 2 ^ 32 }
     requires aligned { 0 < abi.now.align32 }
     ensures tested { (s : Shape) → HasLayout abi.now s → RangeTested (setting_in cx.old.core.now cx.old.options) s (cap T.host_bytes) pointer count at cx.old.fuel result cx.new.fuel }
     ensures same { cx.new ≡ record cx.old { fuel = cx.new.fuel } }
 {
-    if pointer + count * u64::from(abi.size32) > cx.memory().len() as u64 {
+    if !ends_inside(cx.memory(), pointer, count, abi.size32) {
         return Err(Fault::PointerOutOfBounds(at));
     }
     match cx.consume_fuel_array(count, T::host_size()) {
@@ -79,8 +77,6 @@ pub(crate) fn list_from<T: ComponentType, U, G>(
     at: At,
 ) -> Result<WasmList<T>, Fault>
     requires known { Knows (component_types cx.old.core.now) element }
-    requires narrow { pointer < 2 ^ 32 }
-    requires narrow_count { count < 2 ^ 32 }
     ensures tested { ListTested (setting_in cx.old.core.now cx.old.options) (shape_of (component_types cx.old.core.now) element) (cap T.host_bytes) pointer count at cx.old.fuel element result cx.new.fuel }
     ensures same { cx.new ≡ record cx.old { fuel = cx.new.fuel } }
 {
@@ -136,8 +132,8 @@ impl<T: ComponentType> WasmList<T> {
                 view.memory(),
                 self.pointer,
                 self.count,
-                u64::from(abi.size32),
-                u64::from(abi.align32),
+                abi.size32,
+                abi.align32,
             )
         } else {
             false
@@ -161,8 +157,8 @@ impl<T: ComponentType> WasmList<T> {
                 core.memory().as_slice(),
                 self.pointer,
                 self.count,
-                u64::from(abi.size32),
-                u64::from(abi.align32),
+                abi.size32,
+                abi.align32,
             )
         } else {
             false

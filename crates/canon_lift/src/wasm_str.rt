@@ -16,7 +16,7 @@ ghost use Rattle.canon_reading.specs.Taken.{none_taken};
 ghost use Rattle.canon_lift.specs.Views.{IsDecodedText, TextFits, TextLost, WideLost, text_in};
 
 use crate::Lift;
-use canon_bytes::load_u32;
+use canon_bytes::{ends_inside, load_u32};
 use canon_context::{At, Fault, LiftContext, MemoryView};
 use canon_lift_parts::{word_at, word_u32};
 use canon_memory::ValRaw;
@@ -45,7 +45,7 @@ impl WasmStr {
     {
         if self.store == view.store_id() && view.has_options(self.options) {
             let (bytes, _) = text_range(view.options(self.options).string_encoding, self.count);
-            u64::from(self.pointer) + bytes <= view.memory().len() as u64
+            ends_inside(view.memory(), u64::from(self.pointer), bytes, 1)
         } else {
             false
         }
@@ -138,7 +138,7 @@ fn text_from<U, G>(
     if u64::from(pointer) % align != 0 {
         return Err(Fault::PointerMisaligned(at));
     }
-    if u64::from(pointer) + bytes > cx.memory().len() as u64 {
+    if !ends_inside(cx.memory(), u64::from(pointer), bytes, 1) {
         return Err(Fault::PointerOutOfBounds(at));
     }
     match cx.consume_fuel(bytes) {

@@ -25,13 +25,13 @@ module _ (s : Shape) (info : VariantInfo) (memory : List ℕ) (at : ℕ) (h : Is
   abbrev cs : Cases
   cs = variant_cases s
 
-  abbrev whole : Shape
-  whole = variant h.kind cs
+  abbrev lift_whole : Shape
+  lift_whole = variant h.kind cs
 
-  room : at + size false whole ≤ length memory
+  room : at + size false lift_whole ≤ length memory
   room = subst (λ (z : Shape). at + size false z ≤ length memory) h.is h.inside
 
-  even : at % align false whole ≡ 0
+  even : at % align false lift_whole ≡ 0
   even = subst (λ (z : Shape). at % align false z ≡ 0) h.is h.aligned
 
   pub tag_room : (bytes : List ℕ) → bytes ≡ memory → at + tag_bytes info.size ≤ length bytes

@@ -46,7 +46,7 @@ unnamed (stored a) F none k x h = none k (place_of x) h
 unnamed (flat_in ws i) F none k x (y, is, h) = none k y h
 
 -- what is left where no place has a fault and the fuel is enough
-abbrev Remains : Fault → Type 0
+abbrev pub Remains : Fault → Type 0
 Remains e = (e ≡ fault.OutOfMemory) ⊎ ((r : ResourceFault) × (stop_of e ≡ Some r))
 
 remaining : (e : Fault) → LiftBlames (λ k x. ⊥) ⊥ e → Remains e

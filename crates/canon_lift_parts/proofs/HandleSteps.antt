@@ -29,14 +29,14 @@ use Rattle.canon_reading.specs.Reading.{Lifts, NamedBy, Setting}
 use Rattle.canon_reading.specs.Spots.{HasRoom, Spot, handle_in}
 
 -- what was done to the ledger
-pub took_steps : (l n : LedgerState) (ps : List Part) (h : ℕ) → LeafTakes l ps h n → IsAfterSteps l n
-took_steps l n ps h takes = through_after l n (leaves_steps l (ps ∷ [])) (leaves_through l n (ps ∷ []) (h ∷ []) (leaves_one l n ps h takes))
+pub lift_took_steps : (l n : LedgerState) (ps : List Part) (h : ℕ) → LeafTakes l ps h n → IsAfterSteps l n
+lift_took_steps l n ps h takes = through_after l n (leaves_steps l (ps ∷ [])) (leaves_through l n (ps ∷ []) (h ∷ []) (leaves_one l n ps h takes))
 
 pub stopped_steps : (l n : LedgerState) (ps : List Part) (why : Option ResourceFault) → ((last : ℕ) → Stops why last l ps n) → IsAfterSteps l n
 stopped_steps l n ps why stops = partway_after l n (leaves_steps l (ps ∷ [])) (leaves_partway why l n (ps ∷ []) (leaves_stop_one why l n ps stops))
 
 pub lifted_steps : (i : Instance) (l n : LedgerState) (leaf : Leaf) (r : Result Any ResourceFault) → LeafLifts i l n leaf r → IsAfterSteps l n
-lifted_steps i l n leaf (Ok x) (h, is, takes) = took_steps l n (lift_parts i leaf) h takes
+lifted_steps i l n leaf (Ok x) (h, is, takes) = lift_took_steps l n (lift_parts i leaf) h takes
 lifted_steps i l n leaf (Err e) stops = stopped_steps l n (lift_parts i leaf) (refusal_of e) stops
 
 -- a refusal of the ledger, or out of memory
@@ -72,8 +72,8 @@ stops_so resource.GenerationExhausted = refl
 stops_so resource.BorrowsRemain = refl
 stops_so resource.NoScope = refl
 
-pub handle_refused : (i : Instance) (l n : LedgerState) (leaf : Leaf) (e : ResourceFault) → ((last : ℕ) → Stops (refusal_of e) last l (lift_parts i leaf) n) → HandleLifts i l n leaf (Err (resource_fault e))
-handle_refused i l n leaf e stops = (subst (λ (why : Option ResourceFault). LeavesStop why l (lift_parts i leaf ∷ []) n) (sym (stops_so e)) (leaves_stop_one (refusal_of e) l n (lift_parts i leaf) stops), is_refusal e)
+pub lift_handle_refused : (i : Instance) (l n : LedgerState) (leaf : Leaf) (e : ResourceFault) → ((last : ℕ) → Stops (refusal_of e) last l (lift_parts i leaf) n) → HandleLifts i l n leaf (Err (resource_fault e))
+lift_handle_refused i l n leaf e stops = (subst (λ (why : Option ResourceFault). LeavesStop why l (lift_parts i leaf ∷ []) n) (sym (stops_so e)) (leaves_stop_one (refusal_of e) l n (lift_parts i leaf) stops), is_refusal e)
 
 -- ---- in memory
 
@@ -83,8 +83,8 @@ handle_bytes t (ty.Own r) f = refl
 handle_bytes t (ty.Borrow r) f = refl
 handle_bytes t _ f = absurd f
 
-pub handle_room : (t : Instance) (type : InterfaceType) (bytes memory : List ℕ) (at : ℕ) → IsHandleType t type → at + size false (shape_of t.types type) ≤ length memory → bytes ≡ memory → at + 4 ≤ length bytes
-handle_room t type bytes memory at f inside same = omega (arith, inside, handle_bytes t type f, ap length same)
+pub lift_handle_room : (t : Instance) (type : InterfaceType) (bytes memory : List ℕ) (at : ℕ) → IsHandleType t type → at + size false (shape_of t.types type) ≤ length memory → bytes ≡ memory → at + 4 ≤ length bytes
+lift_handle_room t type bytes memory at f inside same = omega (arith, inside, handle_bytes t type f, ap length same)
 
 pub same_leaf : (t : Instance) (m : Memory) (at : Spot) (type : InterfaceType) (n : ℕ) → IsHandleType t type → n ≡ handle_in m at → leaf_of type n ≡ leaf_at m at (shape_of t.types type)
 same_leaf t m at (ty.Own r) n f e = ap (λ k. leaf_of (ty.Own r) k) e

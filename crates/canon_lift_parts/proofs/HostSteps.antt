@@ -3,7 +3,6 @@ use Rattle.std.proofs.Common.{◌≡◌, ◌<◌, Bool, Err, Ok, Option, Result,
 use Rattle.canon_context.specs.Faults.{resource_fault}
 use Rattle.canon_context.specs.Lifter.{IsAfterSteps}
 use Rattle.canon_context.specs.declared.fault.Fault.{Fault}
-use Rattle.canon_handles.specs.declared.handle.TypedResourceIndex.TheVariants.{Component as ComponentIndex}
 use Rattle.canon_leaves.proofs.Leaves.{leaves_stop_one}
 use Rattle.canon_leaves.proofs.Moves.{moves_one}
 use Rattle.canon_leaves.specs.Parts.{LeafMoves, LeavesStop, do_part, lend, refusal_of, table_for, take}
@@ -18,14 +17,13 @@ use Rattle.canon_types.specs.Table.{shape_of}
 use Rattle.canon_types.specs.declared.resource.ResourceType.{ResourceType}
 use Rattle.canon_types.specs.declared.types.InterfaceType.{InterfaceType}
 use Rattle.canon_types.specs.declared.types.InterfaceType.TheVariants as ty
-use Rattle.canon_typed.specs.Types.{IsHandleOf, IsHandleType}
+use Rattle.canon_typed.specs.Types.{IsHandleType}
 use Rattle.canon_reading.specs.Handles.{leaf_at, leaf_of}
 use Rattle.canon_reading.specs.HostHandles.{HeldLifts, RepLifts, held_reading}
 use Rattle.canon_reading.specs.Reading.{Lifts, NamedBy, Setting}
 use Rattle.canon_reading.specs.Spots.{HasRoom, Spot, handle_in}
 use Rattle.canon_reading.specs.Ways.{rep_parts}
-use Rattle.canon_lift_parts.proofs.HandleSteps.{blames_none, is_refusal, same_leaf, stops_so, stopped_steps, took_steps}
-use Rattle.std.proofs.lemmas.Option.{none-some}
+use Rattle.canon_lift_parts.proofs.HandleSteps.{blames_none, is_refusal, same_leaf, stops_so, stopped_steps, lift_took_steps}
 
 did_of : (d : Done ℕ) (r : Result ℕ ResourceFault) (l n : LedgerState) → DidSurely d r n → Did d r l n
 did_of d (Ok a) l n h = (sym h.0, h.1)
@@ -41,17 +39,11 @@ module _ (i : Instance) (l n : LedgerState) (table ty index : ℕ) (r : Result �
 
 -- what was done to the ledger
 pub rep_steps : (i : Instance) (l n : LedgerState) (leaf : Leaf) (r : Result ℕ ResourceFault) → LeafMoves l n (rep_parts i leaf) r → IsAfterSteps l n
-rep_steps i l n leaf (Ok h) takes = took_steps l n (rep_parts i leaf) h takes
+rep_steps i l n leaf (Ok h) takes = lift_took_steps l n (rep_parts i leaf) h takes
 rep_steps i l n leaf (Err e) stops = stopped_steps l n (rep_parts i leaf) (refusal_of e) stops
 
 pub rep_refused : (i : Instance) (l n : LedgerState) (leaf : Leaf) (e : ResourceFault) → LeafMoves l n (rep_parts i leaf) (Err e) → RepLifts i l n leaf (Err (resource_fault e))
 rep_refused i l n leaf e stops = (subst (λ (why : Option ResourceFault). LeavesStop why l (rep_parts i leaf ∷ []) n) (sym (stops_so e)) (leaves_stop_one (refusal_of e) l n (rep_parts i leaf) stops), is_refusal e)
-
--- a type of a handle of a kind is a handle's
-pub is_handle : {D : Type 0} (checked : ResourceType → Option D) (i : Instance) (type : InterfaceType) → IsHandleOf checked i type → IsHandleType i type
-is_handle checked i (ty.Own r) f = tt
-is_handle checked i (ty.Borrow r) f = tt
-is_handle checked i _ (kind, d, none, is) = none-some kind none
 
 module _ {A : Type 0} (Made : ResourceType → Bool → ℕ → A → Type 0) (w : Setting) (at : Spot) (type : InterfaceType) (n : ℕ) (before after : LedgerState) (fuel left : ℕ)
     (f : IsHandleType w.types type) (number : n ≡ handle_in w.memory at) (room : HasRoom w.memory at (shape_of w.types.types type)) (same : left ≡ fuel) where

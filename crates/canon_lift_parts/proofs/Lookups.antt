@@ -19,14 +19,14 @@ use Rattle.canon_lift_parts.proofs.CaseLifting.{IsOfCases}
 -- ---- lists
 
 module _ (t t2 : TypeTable) (j : ℕ) (type element : InterfaceType) (same : t2 ≡ t) (is : type ≡ ty.List j) (d : IsDefined t2 (ty.List j) (ListType element)) where
-  pub list_shape : shape_of t type ≡ list_of (shape_of t element)
-  list_shape = ap (shape_of t) is ∙ subst (λ (x : TypeTable). shape_of x (ty.List j) ≡ list_of (shape_of x element)) same d.shape
+  pub lift_list_shape : shape_of t type ≡ list_of (shape_of t element)
+  lift_list_shape = ap (shape_of t) is ∙ subst (λ (x : TypeTable). shape_of x (ty.List j) ≡ list_of (shape_of x element)) same d.shape
 
   pub list_element : shape_of t element ≡ element_shape (shape_of t type)
-  list_element = sym (ap element_shape list_shape)
+  list_element = sym (ap element_shape lift_list_shape)
 
-  pub list_known : Knows t element
-  list_known = subst (λ (x : TypeTable). Knows x element) same (d.known 0 element (omega arith))
+  pub lift_list_known : Knows t element
+  lift_list_known = subst (λ (x : TypeTable). Knows x element) same (d.known 0 element (omega arith))
 
 -- the element that a look-up gave fits
 pub list_fits : (Fit : Instance → InterfaceType → Type 0) (i : Instance) (t2 : TypeTable) (j : ℕ) (type element : InterfaceType) → t2 ≡ i.types → type ≡ ty.List j → IsDefined t2 (ty.List j) (ListType element) → IsListOf Fit i type → Fit i element
@@ -53,26 +53,26 @@ known_second t None (Some y) h = h 0 y (omega arith)
 known_second t (Some x) (Some y) h = h 1 y (omega arith)
 
 module _ (t t2 : TypeTable) (j : ℕ) (type some : InterfaceType) (info : VariantInfo) (memory : List ℕ) (at : ℕ) (same : t2 ≡ t) (is : type ≡ ty.Option j) (d : IsDefined t2 (ty.Option j) (OptionType some)) where
-  pub option_shape : shape_of t type ≡ option_of (shape_of t some)
-  option_shape = ap (shape_of t) is ∙ subst (λ (x : TypeTable). shape_of x (ty.Option j) ≡ option_of (shape_of x some)) same d.shape
+  pub lift_option_shape : shape_of t type ≡ option_of (shape_of t some)
+  lift_option_shape = ap (shape_of t) is ∙ subst (λ (x : TypeTable). shape_of x (ty.Option j) ≡ option_of (shape_of x some)) same d.shape
 
   pub option_cases : HasInfo info (variant_cases (shape_of t2 (ty.Option j))) → at % align false (shape_of t type) ≡ 0 → at + size false (shape_of t type) ≤ length memory → IsOfCases (shape_of t type) info memory at
   option_cases numbers aligned inside = record {
     kind = of_option;
-    is = option_shape ∙ ap (λ cs. variant of_option cs) (sym (ap variant_cases option_shape));
+    is = lift_option_shape ∙ ap (λ cs. variant of_option cs) (sym (ap variant_cases lift_option_shape));
     numbers = subst (λ x. HasInfo info (variant_cases (shape_of t x))) (sym is) (subst (λ (x : TypeTable). HasInfo info (variant_cases (shape_of x (ty.Option j)))) same numbers);
     aligned = aligned;
     inside = inside;
   }
 
-  pub option_payload : shape_of t some ≡ payload_shape (variant_cases (shape_of t type)) 1
-  option_payload = sym (ap (λ (z : Shape). payload_shape (variant_cases z) 1) option_shape)
+  pub lift_option_payload : shape_of t some ≡ payload_shape (variant_cases (shape_of t type)) 1
+  lift_option_payload = sym (ap (λ (z : Shape). payload_shape (variant_cases z) 1) lift_option_shape)
 
   pub option_few : 1 < case_count (variant_cases (shape_of t type))
-  option_few = subst (λ (z : Shape). 1 < case_count (variant_cases z)) (sym option_shape) (omega arith)
+  option_few = subst (λ (z : Shape). 1 < case_count (variant_cases z)) (sym lift_option_shape) (omega arith)
 
-  pub option_known : Knows t some
-  option_known = subst (λ (x : TypeTable). Knows x some) same (d.known 0 some (omega arith))
+  pub lift_option_known : Knows t some
+  lift_option_known = subst (λ (x : TypeTable). Knows x some) same (d.known 0 some (omega arith))
 
 -- ---- lists of fixed length
 
@@ -116,27 +116,27 @@ module _ (t t2 : TypeTable) (j : ℕ) (type : InterfaceType) (ok error : Option 
   abbrev bad : Option Shape
   bad = payload_in (all_shapes t) error
 
-  pub result_shape : shape_of t type ≡ result_of good bad
-  result_shape = ap (shape_of t) is ∙ subst (λ (x : TypeTable). shape_of x (ty.Result j) ≡ result_of (payload_in (all_shapes x) ok) (payload_in (all_shapes x) error)) same d.shape
+  pub lift_result_shape : shape_of t type ≡ result_of good bad
+  lift_result_shape = ap (shape_of t) is ∙ subst (λ (x : TypeTable). shape_of x (ty.Result j) ≡ result_of (payload_in (all_shapes x) ok) (payload_in (all_shapes x) error)) same d.shape
 
-  pub result_cases : (info : VariantInfo) (memory : List ℕ) (at : ℕ) → HasInfo info (variant_cases (shape_of t2 (ty.Result j))) → at % align false (shape_of t type) ≡ 0 → at + size false (shape_of t type) ≤ length memory
+  pub lift_result_cases : (info : VariantInfo) (memory : List ℕ) (at : ℕ) → HasInfo info (variant_cases (shape_of t2 (ty.Result j))) → at % align false (shape_of t type) ≡ 0 → at + size false (shape_of t type) ≤ length memory
       → IsOfCases (shape_of t type) info memory at
-  result_cases info memory at numbers aligned inside = record {
+  lift_result_cases info memory at numbers aligned inside = record {
     kind = of_result;
-    is = result_shape ∙ ap (λ cs. variant of_result cs) (sym (ap variant_cases result_shape));
+    is = lift_result_shape ∙ ap (λ cs. variant of_result cs) (sym (ap variant_cases lift_result_shape));
     numbers = subst (λ x. HasInfo info (variant_cases (shape_of t x))) (sym is) (subst (λ (x : TypeTable). HasInfo info (variant_cases (shape_of x (ty.Result j)))) same numbers);
     aligned = aligned;
     inside = inside;
   }
 
   pub result_few : (k : ℕ) → k < 2 → k < case_count (variant_cases (shape_of t type))
-  result_few k few = subst (λ (z : Shape). k < case_count (variant_cases z)) (sym result_shape) (subst (λ n. k < n) (sym (two_cases good bad)) few)
+  result_few k few = subst (λ (z : Shape). k < case_count (variant_cases z)) (sym lift_result_shape) (subst (λ n. k < n) (sym (two_cases good bad)) few)
 
   pub ok_payload : payload_shape (case_for good no_cases) 0 ≡ payload_shape (variant_cases (shape_of t type)) 0
-  ok_payload = first_shape good (case_for bad no_cases) ∙ sym (ap (λ (z : Shape). payload_shape (variant_cases z) 0) result_shape)
+  ok_payload = first_shape good (case_for bad no_cases) ∙ sym (ap (λ (z : Shape). payload_shape (variant_cases z) 0) lift_result_shape)
 
   pub error_payload : payload_shape (case_for bad no_cases) 0 ≡ payload_shape (variant_cases (shape_of t type)) 1
-  error_payload = sym (second_shape good (case_for bad no_cases)) ∙ sym (ap (λ (z : Shape). payload_shape (variant_cases z) 1) result_shape)
+  error_payload = sym (second_shape good (case_for bad no_cases)) ∙ sym (ap (λ (z : Shape). payload_shape (variant_cases z) 1) lift_result_shape)
 
   pub ok_known : KnowsPayload t ok
   ok_known = known_first t ok error (subst (λ (x : TypeTable). All (Knows x) (option_to_list ok ++ option_to_list error)) same d.known)

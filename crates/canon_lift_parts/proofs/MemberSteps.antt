@@ -28,7 +28,7 @@ use Rattle.canon_reading.specs.Readings.{RestReading, first_reading}
 use Rattle.canon_reading.specs.Rests.{rest_reading}
 use Rattle.canon_reading.specs.Spots.{Rest, Spot, first_spot, flat_from, flat_in, others, stored, stored_from}
 use Rattle.canon_lift_parts.proofs.CaseLifting.{or_left, or_right}
-use Rattle.canon_lift_parts.proofs.Refusals.{named_by, refused_by, stops_first, stops_second}
+use Rattle.canon_lift_parts.proofs.Refusals.{lift_named_by, refused_by, stops_first, stops_second}
 
 -- ---- the next type
 
@@ -88,8 +88,8 @@ module _ (t : TypeTable) (types more : List InterfaceType) (type : InterfaceType
     ends_inside = omega (arith, rest_inside, members_end-le false (ends false end s) rest)
 
     -- the first of them
-    pub first_inside : at + begins false end s + size false s ≤ length memory
-    first_inside = omega (arith, ends_inside)
+    pub lift_first_inside : at + begins false end s + size false s ≤ length memory
+    lift_first_inside = omega (arith, ends_inside)
 
     pub first_aligned : (at + begins false end s) % align false s ≡ 0
     unfolding align
@@ -107,18 +107,18 @@ module _ (t : TypeTable) (types more : List InterfaceType) (type : InterfaceType
       ends_so : align_to end abi.align32 + abi.size32 ≡ ends false end s
       ends_so = ap (λ n. n + abi.size32) starts_so ∙ ap (λ n. begins false end s + n) (here.size false)
 
-      pub next_fits : length memory ≤ 2 ^ 32 → align_to end abi.align32 + abi.size32 < 2 ^ 64
-      next_fits few = omega (arith, few, ends_so, ends_inside)
+      pub lift_next_fits : length memory ≤ 2 ^ 32 → align_to end abi.align32 + abi.size32 < 2 ^ 64
+      lift_next_fits few = omega (arith, few, ends_so, ends_inside)
 
       module _ (start : ℕ) (start_is : start ≡ align_to end abi.align32) where
         pub place_is : stored (at + start) ≡ stored (at + begins false end s)
         place_is = ap (λ n. stored (at + n)) (start_is ∙ starts_so)
 
         pub next_inside : at + start + size false s ≤ length memory
-        next_inside = omega (arith, start_is, starts_so, first_inside)
+        next_inside = omega (arith, start_is, starts_so, lift_first_inside)
 
-        pub next_aligned : (at + start) % align false s ≡ 0
-        next_aligned = subst (λ n. (at + n) % align false s ≡ 0) (sym (start_is ∙ starts_so)) first_aligned
+        pub lift_next_aligned : (at + start) % align false s ≡ 0
+        lift_next_aligned = subst (λ n. (at + n) % align false s ≡ 0) (sym (start_is ∙ starts_so)) first_aligned
 
       pub next_end : (after : ℕ) → after ≡ align_to end abi.align32 + abi.size32 → after ≡ ends false end s
       next_end after is = is ∙ ends_so
@@ -130,8 +130,8 @@ spot_of (stored_from a o) = stored a
 spot_of (flat_from ws i) = flat_in ws i
 
 module _ {A B C : Type 0} (first : C → A) (others_of : C → B) (R : Reading A) (S : RestReading B) (w : Setting) (from : Rest) (name : Name) (s : Shape) (ms : Members) (z : Shape) (before : LedgerState) (fuel : ℕ) where
-  abbrev whole : Reading C
-  whole = rest_reading (first_reading first others_of R S) from (member name s ms)
+  abbrev lift_whole : Reading C
+  lift_whole = rest_reading (first_reading first others_of R S) from (member name s ms)
 
   first_named : (F : Kind → reach.At → Type 0) (r : Rest) (k : Kind) (x : Place) → NamedBy (first_spot w.memory s r) F k x → NamedBy (spot_of r) F k x
   first_named F (stored_from a o) k x h = h
@@ -141,22 +141,22 @@ module _ {A B C : Type 0} (first : C → A) (others_of : C → B) (R : Reading A
   others_named F (stored_from a o) k x h = h
   others_named F (flat_from ws i) k x h = h
 
-  pub member_refused : (e : Fault) (after : LedgerState) (left : ℕ) → Refused R w (first_spot w.memory s from) s before fuel e after left → Refused whole w (spot_of from) z before fuel e after left
+  pub member_refused : (e : Fault) (after : LedgerState) (left : ℕ) → Refused R w (first_spot w.memory s from) s before fuel e after left → Refused lift_whole w (spot_of from) z before fuel e after left
   member_refused e after left r =
-      refused_by R whole w (first_spot w.memory s from) (spot_of from) s z before before after fuel fuel left e
-      (λ k x h. first_named (whole.faults w (spot_of from) z) from k x (named_by (first_spot w.memory s from) (R.faults w (first_spot w.memory s from) s) (whole.faults w (spot_of from) z) (λ j y f. inl f) k x h))
+      refused_by R lift_whole w (first_spot w.memory s from) (spot_of from) s z before before after fuel fuel left e
+      (λ k x h. first_named (lift_whole.faults w (spot_of from) z) from k x (lift_named_by (first_spot w.memory s from) (R.faults w (first_spot w.memory s from) s) (lift_whole.faults w (spot_of from) z) (λ j y f. inl f) k x h))
       (λ low. omega (arith, low)) (λ all. or_left R.allocates S.allocates all) (λ stops. stops_first (stop_of e) before after _ _ stops) (omega arith) r
 
   pub others_refused : AreTaken R → (x : A) (mid : LedgerState) (now : ℕ) → R.reads w (first_spot w.memory s from) s before x mid → fuel ≡ now + R.reach w (first_spot w.memory s from) s
-      → (e : Fault) (after : LedgerState) (left : ℕ) (y : Shape) → Refused (rest_reading S (others w.memory s from) ms) w (spot_of (others w.memory s from)) y mid now e after left → Refused whole w (spot_of from) z before fuel e after left
+      → (e : Fault) (after : LedgerState) (left : ℕ) (y : Shape) → Refused (rest_reading S (others w.memory s from) ms) w (spot_of (others w.memory s from)) y mid now e after left → Refused lift_whole w (spot_of from) z before fuel e after left
   others_refused taken x mid now read spent e after left y r =
-      refused_by (rest_reading S (others w.memory s from) ms) whole w (spot_of (others w.memory s from)) (spot_of from) y z mid before after now fuel left e
-      (λ k p h. others_named (whole.faults w (spot_of from) z) from k p (named_by (spot_of (others w.memory s from)) (S.faults w (others w.memory s from) ms) (whole.faults w (spot_of from) z) (λ j q f. inr f) k p h))
+      refused_by (rest_reading S (others w.memory s from) ms) lift_whole w (spot_of (others w.memory s from)) (spot_of from) y z mid before after now fuel left e
+      (λ k p h. others_named (lift_whole.faults w (spot_of from) z) from k p (lift_named_by (spot_of (others w.memory s from)) (S.faults w (others w.memory s from) ms) (lift_whole.faults w (spot_of from) z) (λ j q f. inr f) k p h))
       (λ low. omega (arith, low, spent)) (λ all. or_right R.allocates S.allocates all)
       (λ stops. stops_second (stop_of e) before mid after _ _ (taken w (first_spot w.memory s from) s before mid x read) stops) (omega (arith, spent)) r
 
   pub members_read : (v : C) (mid after : LedgerState) (now left : ℕ) → R.reads w (first_spot w.memory s from) s before (first v) mid → fuel ≡ now + R.reach w (first_spot w.memory s from) s
-      → S.reads w (others w.memory s from) ms mid (others_of v) after → now ≡ left + S.reach w (others w.memory s from) ms → Lifts whole w (spot_of from) z before fuel (Ok v) after left
+      → S.reads w (others w.memory s from) ms mid (others_of v) after → now ≡ left + S.reach w (others w.memory s from) ms → Lifts lift_whole w (spot_of from) z before fuel (Ok v) after left
   members_read v mid after now left read spent more cost = ((mid, read, more), omega (arith, spent, cost))
 
 -- ---- the members behind it, where only the ledger changed
@@ -196,8 +196,8 @@ module _ (all : List (Instance → InterfaceType → Type 0)) (j : Instance) (i 
 
   pub tuple_inside : (memory : List ℕ) → at + size false (shape_of j.types type) ≤ length memory → at + members_end false 0 (members_of j.types (table.types_of j.types i)) ≤ length memory
   tuple_inside memory h =
-      let whole : at + size false (product of_places (members_of j.types (table.types_of j.types i))) ≤ length memory = subst (λ (z : Shape). at + size false z ≤ length memory) (tuple_shape all j i type is f) h in
-      omega (arith, whole, members_end-le-size false of_places (members_of j.types (table.types_of j.types i)))
+      let lift_whole : at + size false (product of_places (members_of j.types (table.types_of j.types i))) ≤ length memory = subst (λ (z : Shape). at + size false z ≤ length memory) (tuple_shape all j i type is f) h in
+      omega (arith, lift_whole, members_end-le-size false of_places (members_of j.types (table.types_of j.types i)))
 
   pub tuple_words : (n : ℕ) → at + flat (shape_of j.types type) ≤ n → at + members_flat (members_of j.types (table.types_of j.types i)) ≤ n
   unfolding flat

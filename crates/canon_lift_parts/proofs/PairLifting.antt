@@ -20,7 +20,7 @@ use Rattle.canon_reading.specs.MapsOfTrees.{of_key, of_none, of_value, pair_read
 use Rattle.canon_reading.specs.Reading.{AreTaken, Lifts, Reading, Refused, Setting, setting_in}
 use Rattle.canon_reading.specs.Readings.{item_spot, none_reading}
 use Rattle.canon_reading.specs.Spots.{Spot, stored, stored_from}
-use Rattle.canon_lift_parts.proofs.MemberSteps.{first_aligned, first_inside, member_refused, others_refused, rest_aligned, rest_inside}
+use Rattle.canon_lift_parts.proofs.MemberSteps.{first_aligned, lift_first_inside, member_refused, others_refused, rest_aligned, rest_inside}
 use Rattle.canon_lift_parts.proofs.Settings.{same_setting, same_shape}
 
 starts-at-zero : (s : Shape) → begins false 0 s ≡ 0
@@ -35,10 +35,10 @@ module _ (t : TypeTable) (key value : InterfaceType) (memory : List ℕ) (at : �
   abbrev u : Shape
   u = shape_of t value
 
-  abbrev pair : Shape
-  pair = tuple (s ∷ u ∷ [])
+  abbrev lift_pair : Shape
+  lift_pair = tuple (s ∷ u ∷ [])
 
-  module _ (aligned : at % align false pair ≡ 0) (inside : at + size false pair ≤ length memory) where
+  module _ (aligned : at % align false lift_pair ≡ 0) (inside : at + size false lift_pair ≤ length memory) where
     both_aligned : at % members_align false (members_of t (key ∷ value ∷ [])) ≡ 0
     unfolding align
     both_aligned = aligned
@@ -53,7 +53,7 @@ module _ (t : TypeTable) (key value : InterfaceType) (memory : List ℕ) (at : �
         subst (λ n. n % align false s ≡ 0) here one
 
     pub key_inside : at + size false s ≤ length memory
-    key_inside = omega (arith, first_inside t (key ∷ value ∷ []) (value ∷ []) key refl at 0 memory both_inside both_aligned, starts-at-zero s)
+    key_inside = omega (arith, lift_first_inside t (key ∷ value ∷ []) (value ∷ []) key refl at 0 memory both_inside both_aligned, starts-at-zero s)
 
     module _ (offset : ℕ) (is : offset ≡ begins false (ends false 0 s) u) where
       pub value_aligned : (at + offset) % align false u ≡ 0
@@ -65,7 +65,7 @@ module _ (t : TypeTable) (key value : InterfaceType) (memory : List ℕ) (at : �
       value_inside = omega (
         arith,
         is,
-        first_inside t (value ∷ []) [] value refl at (ends false 0 s) memory (rest_inside t (key ∷ value ∷ []) (value ∷ []) key refl at 0 memory both_inside both_aligned)
+        lift_first_inside t (value ∷ []) [] value refl at (ends false 0 s) memory (rest_inside t (key ∷ value ∷ []) (value ∷ []) key refl at 0 memory both_inside both_aligned)
             (rest_aligned t (key ∷ value ∷ []) (value ∷ []) key refl at 0 memory both_inside both_aligned),
       )
 
@@ -81,17 +81,17 @@ module _ {D G K V : Type 0} (R : Reading K) (S : Reading V) (core : Parts D G) (
   abbrev vs : Shape
   vs = shape_of (component_types core) value
 
-  abbrev both : Shape
-  both = tuple (ks ∷ vs ∷ [])
+  abbrev lift_both : Shape
+  lift_both = tuple (ks ∷ vs ∷ [])
 
   key_place : stored at ≡ stored (at + begins false 0 ks)
   key_place =
       let here : at ≡ at + begins false 0 ks = omega (arith, starts-at-zero ks) in
       ap stored here
 
-  pub key_refused : (before after : LedgerState) (fuel left : ℕ) (e : Fault) → Refused R w (stored at) ks before fuel e after left → Refused (pair_reading R S) w (stored at) both before fuel e after left
+  pub key_refused : (before after : LedgerState) (fuel left : ℕ) (e : Fault) → Refused R w (stored at) ks before fuel e after left → Refused (pair_reading R S) w (stored at) lift_both before fuel e after left
   key_refused before after fuel left e r =
-      let h = member_refused of_key itself R (value_reading {K = K} S) w (stored_from at 0) [] ks (member [] vs no_members) both before fuel e after left
+      let h = member_refused of_key itself R (value_reading {K = K} S) w (stored_from at 0) [] ks (member [] vs no_members) lift_both before fuel e after left
       (subst (λ p. Refused R w p ks before fuel e after left) key_place r) in
       record { cause = h.cause; memory = h.memory; stops = h.stops; falls = h.falls }
 
@@ -105,11 +105,11 @@ module _ {D G K V : Type 0} (R : Reading K) (S : Reading V) (core : Parts D G) (
         (subst (λ (z : Shape). Lifts S w (stored (at + offset)) z now.ledger mid r after left) (same_shape core now same value)
         (subst (λ (v : Setting). Lifts S v (stored (at + offset)) (shape_of (component_types now) value) now.ledger mid r after left) (same_setting core now same o o2 eo) h))
 
-    pub value_refused : (e : Fault) → Lifts S (setting_in now o2) (stored (at + offset)) (shape_of (component_types now) value) now.ledger mid (Err e) after left → Refused (pair_reading R S) w (stored at) both before fuel e after left
-    value_refused e r =
-        let second = member_refused (of_value {K = K}) of_none S (none_reading {A = Unit {0}}) w (stored_from at (ends false 0 ks)) [] vs no_members both now.ledger mid e after left (value_lifts (Err e) r) in
-        let h = others_refused of_key itself R (value_reading {K = K} S) w (stored_from at 0) [] ks (member [] vs no_members) both before fuel taken x now.ledger mid
-        (subst (λ p. R.reads w p ks before x now.ledger) key_place read) (subst (λ p. fuel ≡ mid + R.reach w p ks) key_place spent) e after left both second in
+    pub lift_value_refused : (e : Fault) → Lifts S (setting_in now o2) (stored (at + offset)) (shape_of (component_types now) value) now.ledger mid (Err e) after left → Refused (pair_reading R S) w (stored at) lift_both before fuel e after left
+    lift_value_refused e r =
+        let second = member_refused (of_value {K = K}) of_none S (none_reading {A = Unit {0}}) w (stored_from at (ends false 0 ks)) [] vs no_members lift_both now.ledger mid e after left (value_lifts (Err e) r) in
+        let h = others_refused of_key itself R (value_reading {K = K} S) w (stored_from at 0) [] ks (member [] vs no_members) lift_both before fuel taken x now.ledger mid
+        (subst (λ p. R.reads w p ks before x now.ledger) key_place read) (subst (λ p. fuel ≡ mid + R.reach w p ks) key_place spent) e after left lift_both second in
         record { cause = h.cause; memory = h.memory; stops = h.stops; falls = h.falls }
 
 -- ---- pairs in a row

@@ -18,9 +18,9 @@ use Rattle.canon_reading.specs.Spots.{Spot, flat_in, stored}
 
 -- ---- places
 
-pub named_by : (at : Spot) (F G : Kind → reach.At → Type 0) → ((k : Kind) (x : reach.At) → F k x → G k x) → (k : Kind) (x : Place) → NamedBy at F k x → NamedBy at G k x
-named_by (stored a) F G f k x h = f k (place_of x) h
-named_by (flat_in ws i) F G f k x (y, is, h) = (y, is, f k y h)
+pub lift_named_by : (at : Spot) (F G : Kind → reach.At → Type 0) → ((k : Kind) (x : reach.At) → F k x → G k x) → (k : Kind) (x : Place) → NamedBy at F k x → NamedBy at G k x
+lift_named_by (stored a) F G f k x h = f k (place_of x) h
+lift_named_by (flat_in ws i) F G f k x (y, is, h) = (y, is, f k y h)
 
 -- a fault in memory, of what a pointer at a spot points to
 pub named_in : (at : Spot) (p : ℕ) (F G : Kind → reach.At → Type 0) → ((k : Kind) (x : reach.At) → F k x → G k x) → (k : Kind) (x : Place) → NamedBy (stored p) F k x → NamedBy at G k x
@@ -30,12 +30,12 @@ named_in (flat_in ws i) p F G f k x h = (place_of x, is_its_place x, f k (place_
 -- ---- the ledger
 
 -- it stopped without a refusal, before anything
-pub stops_before : (l n : LedgerState) (ps : List (List Part)) (why : Option ResourceFault) → why ≡ None → n ≡ l → LeavesStop why l ps n
-stops_before l n ps why none same = subst (λ (z : Option ResourceFault). LeavesStop z l ps n) (sym none) (stops_at_once l n ps same)
+pub lift_stops_before : (l n : LedgerState) (ps : List (List Part)) (why : Option ResourceFault) → why ≡ None → n ≡ l → LeavesStop why l ps n
+lift_stops_before l n ps why none same = subst (λ (z : Option ResourceFault). LeavesStop z l ps n) (sym none) (stops_at_once l n ps same)
 
 -- and after all
-pub stops_after : (l n : LedgerState) (ps : List (List Part)) (why : Option ResourceFault) → why ≡ None → ((hs : List ℕ) × LeavesTake l ps hs n) → LeavesStop why l ps n
-stops_after l n ps why none (hs, took) = subst (λ (z : Option ResourceFault). LeavesStop z l ps n) (sym none)
+pub lift_stops_after : (l n : LedgerState) (ps : List (List Part)) (why : Option ResourceFault) → why ≡ None → ((hs : List ℕ) × LeavesTake l ps hs n) → LeavesStop why l ps n
+lift_stops_after l n ps why none (hs, took) = subst (λ (z : Option ResourceFault). LeavesStop z l ps n) (sym none)
     (subst (λ (qs : List (List Part)). LeavesStop None l qs n) (append-nil ps) (leaves_stop_then None l n n ps [] hs took refl))
 
 -- where there were none
@@ -64,10 +64,10 @@ module _ {A B : Type 0} (R : Reading A) (S : Reading B) (w : Setting) (at at2 : 
 
 -- nothing but the fault
 module _ {A : Type 0} (R : Reading A) (w : Setting) (at : Spot) (s : Shape) (before after : LedgerState) (fuel left : ℕ) (e : Fault) where
-  pub refused_before : LiftBlames (NamedBy at (R.faults w at s)) (fuel < R.reach w at s) e → (e ≡ fault.OutOfMemory → R.allocates ≡ true) → stop_of e ≡ None → after ≡ before → left ≤ fuel → Refused R w at s before fuel e after left
-  refused_before cause allocates none same less = record { cause = cause; memory = allocates; stops = stops_before before after (R.steps w at s) (stop_of e) none same; falls = less }
+  pub lift_refused_before : LiftBlames (NamedBy at (R.faults w at s)) (fuel < R.reach w at s) e → (e ≡ fault.OutOfMemory → R.allocates ≡ true) → stop_of e ≡ None → after ≡ before → left ≤ fuel → Refused R w at s before fuel e after left
+  lift_refused_before cause allocates none same less = record { cause = cause; memory = allocates; stops = lift_stops_before before after (R.steps w at s) (stop_of e) none same; falls = less }
 
 -- out of memory, after all handles were taken
 module _ {A : Type 0} (R : Reading A) (w : Setting) (at : Spot) (s : Shape) (before after : LedgerState) (fuel left : ℕ) where
   pub out_of_memory_after : R.allocates ≡ true → ((hs : List ℕ) × LeavesTake before (R.steps w at s) hs after) → left ≤ fuel → Refused R w at s before fuel fault.OutOfMemory after left
-  out_of_memory_after allocates took less = record { cause = tt; memory = λ is. allocates; stops = stops_after before after (R.steps w at s) None refl took; falls = less }
+  out_of_memory_after allocates took less = record { cause = tt; memory = λ is. allocates; stops = lift_stops_after before after (R.steps w at s) None refl took; falls = less }

@@ -14,11 +14,11 @@ module _ {D G : Type 0} (core now : Parts D G) (same : now ≡ record core { led
   pub same_setting : (o o2 : ℕ) → o2 ≡ o → setting_in now o2 ≡ setting_in core o
   same_setting o o2 e = ap₂ (λ (c : Parts D G) n. setting_in c n) same e
 
-  pub same_types : component_types now ≡ component_types core
-  same_types = ap (λ (c : Parts D G). component_types c) same
+  pub lift_same_types : component_types now ≡ component_types core
+  lift_same_types = ap (λ (c : Parts D G). component_types c) same
 
   pub same_shape : (type : InterfaceType) → shape_of (component_types now) type ≡ shape_of (component_types core) type
-  same_shape type = ap (λ (t : TypeTable). shape_of t type) same_types
+  same_shape type = ap (λ (t : TypeTable). shape_of t type) lift_same_types
 
 -- what a look-up gave of a type's size and alignment
 module _ (t t2 : TypeTable) (type : InterfaceType) (abi : CanonicalAbiInfo) (same : t2 ≡ t) (layout : HasLayout abi (shape_of t2 type)) where

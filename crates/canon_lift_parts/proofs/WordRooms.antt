@@ -8,19 +8,19 @@ use Rattle.canon_types.specs.declared.types.InterfaceType.{InterfaceType}
 use Rattle.canon_types.specs.declared.types.InterfaceType.TheVariants as ty
 use Rattle.canon_typed.specs.Types.{IsHandleType}
 
-pub text_words : (s : Shape) (at n : ℕ) → s ≡ string → at + flat s ≤ n → at + 2 ≤ n
+pub lift_text_words : (s : Shape) (at n : ℕ) → s ≡ string → at + flat s ≤ n → at + 2 ≤ n
 unfolding flat
-text_words s at n is h = subst (λ (z : Shape). at + flat z ≤ n) is h
+lift_text_words s at n is h = subst (λ (z : Shape). at + flat z ≤ n) is h
 
-pub list_words : (s u : Shape) (k : ListKind) (at n : ℕ) → s ≡ list k u → at + flat s ≤ n → at + 2 ≤ n
+pub lift_list_words : (s u : Shape) (k : ListKind) (at n : ℕ) → s ≡ list k u → at + flat s ≤ n → at + 2 ≤ n
 unfolding flat
-list_words s u k at n is h = subst (λ (z : Shape). at + flat z ≤ n) is h
+lift_list_words s u k at n is h = subst (λ (z : Shape). at + flat z ≤ n) is h
 
-pub handle_words : (t : Instance) (type : InterfaceType) (at n : ℕ) → IsHandleType t type → at + flat (shape_of t.types type) ≤ n → at < n
+pub lift_handle_words : (t : Instance) (type : InterfaceType) (at n : ℕ) → IsHandleType t type → at + flat (shape_of t.types type) ≤ n → at < n
 unfolding flat
-handle_words t (ty.Own r) at n f h = omega (arith, h)
-handle_words t (ty.Borrow r) at n f h = omega (arith, h)
-handle_words t _ at n f h = absurd f
+lift_handle_words t (ty.Own r) at n f h = omega (arith, h)
+lift_handle_words t (ty.Borrow r) at n f h = omega (arith, h)
+lift_handle_words t _ at n f h = absurd f
 
 pub option_words : (s u : Shape) (at n : ℕ) → s ≡ option_of u → at + flat s ≤ n → at + 1 + flat u ≤ n
 unfolding flat
@@ -53,9 +53,9 @@ module _ (at n : ℕ) where
     pub error_words : at + 1 + flat (payload_shape (case_for bad no_cases) 0) ≤ n
     error_words = error_fits good bad whole
 
-pub fixed_words : (s u : Shape) (k at n : ℕ) → s ≡ fixed k u → at + flat s ≤ n → at + k * flat u ≤ n
+pub lift_fixed_words : (s u : Shape) (k at n : ℕ) → s ≡ fixed k u → at + flat s ≤ n → at + k * flat u ≤ n
 unfolding flat
-fixed_words s u k at n is h = subst (λ (z : Shape). at + flat z ≤ n) is h
+lift_fixed_words s u k at n is h = subst (λ (z : Shape). at + flat z ≤ n) is h
 
 pub member_words : (ms : Members) (name : Name) (s : Shape) (more : Members) (at n : ℕ) → ms ≡ member name s more → at + members_flat ms ≤ n → at + flat s + members_flat more ≤ n
 unfolding flat

@@ -19,7 +19,6 @@ pub fn text_of<U, G>(
     length: u64,
     at: At,
 ) -> Result<String, Fault>
-    requires narrow { pointer < 2 ^ 32 }
     requires narrow_length { length < 2 ^ 32 }
     ensures ok { IfOk result (IsTextLoaded (encoding_by cx.old.core.now cx.old.options) (narrow cx.old.core.now.memory) pointer length cx.old.fuel cx.new.fuel) }
     ensures err { IfErr result (LiftBlames (Exactly (TextFault (encoding_by cx.old.core.now cx.old.options) (narrow cx.old.core.now.memory) (place_of at) pointer length))

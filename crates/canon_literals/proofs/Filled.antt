@@ -34,8 +34,8 @@ module _ (f : Any → Any) where
         views xs ∙ (ap (λ (ls : List Literal). told (literals_of ls)) (e ∙ ap (λ (ws : List Val). map (replaced f) (literals_view ws)) es)
         ∙ (ap told (all_filled (literals_view ys.items)) ∙ (sym (puts (literals_of (literals_view ys.items))) ∙ (ap (replaced f) (sym (views ys)) ∙ ap (λ (w : Val). replaced f (literal_view w)) (sym ev)))))
 
-    pub list_filled : (xs ys : Vec Val Global) (vs : List Val) → v ≡ val.List ys → vs ≡ ys.items → literals_view xs.items ≡ map (replaced f) (literals_view vs) → literal_view (val.List xs) ≡ replaced f (literal_view v)
-    list_filled = in_row val.List list literal-List (λ ys. refl)
+    pub literal_list_filled : (xs ys : Vec Val Global) (vs : List Val) → v ≡ val.List ys → vs ≡ ys.items → literals_view xs.items ≡ map (replaced f) (literals_view vs) → literal_view (val.List xs) ≡ replaced f (literal_view v)
+    literal_list_filled = in_row val.List list literal-List (λ ys. refl)
 
     pub tuple_filled : (xs ys : Vec Val Global) (vs : List Val) → v ≡ val.Tuple ys → vs ≡ ys.items → literals_view xs.items ≡ map (replaced f) (literals_view vs) → literal_view (val.Tuple xs) ≡ replaced f (literal_view v)
     tuple_filled = in_row val.Tuple tuple literal-Tuple (λ ys. refl)

@@ -7,11 +7,12 @@ use Rattle.canon_value_parts.specs.Resources.{all_resources, joined, resources, 
 use Rattle.canon_val.specs.Value.{values_in}
 use Rattle.canon_val.specs.declared.val.Val.{Val, the_lemmas}
 use Rattle.canon_val.specs.declared.val.Val.TheFolds.{fold-roll-Val, ind-Val, map-Val}
-use Rattle.canon_val.specs.declared.val.Val.TheOpen.{Val-F, Val-F as F}
+use Rattle.canon_val.specs.declared.val.Val.TheOpen.{Val-F}
 use Rattle.canon_val.specs.declared.val.Val.TheShapes.{former-Val-Map-0-at-2, former-Val-Record-0-at-2}
 use Rattle.canon_val.specs.declared.val.Val.TheVariants as val
 use Rattle.canon_literals.specs.Resources.{pair_resources}
 use Rattle.canon_literals.specs.Literals.{Literal, all_held, fields_held, fields_of, held_among, held_in, literal_step, literal_view, literals_of, literals_view, named, pairs_held, literal_pairs}
+use Rattle.canon_value_parts.proofs.ResourcesOf.{resources_record}
 
 -- one level of a value, of whose parts it is known
 module _ {E : Type 0} (f : E → Val) (h : (e : E) → held_in (literal_view (f e)) ≡ resources (f e)) where
@@ -62,15 +63,8 @@ pairs_as : (ps : List (Val × Val)) → joined (map (λ p. p.0 ++ p.1) (map (for
 pairs_as [] = refl
 pairs_as (p ∷ ps) = ap (λ (xs : List Any). (resources p.0 ++ resources p.1) ++ xs) (pairs_as ps)
 
-fields_as : (fs : List (String Global × Val)) → joined (map (λ f. f.1) (map (former-Val-Record-0-at-2.map Val (List Any) resources) fs)) ≡ all_resources (values_in fs)
-fields_as [] = refl
-fields_as (f ∷ fs) = ap (λ (xs : List Any). resources f.1 ++ xs) (fields_as fs)
-
 map_held : (ps : Vec (Val × Val) Global) → resources (val.Map ps) ≡ pair_resources ps.items
 map_held ps = search (rules, the_lemmas, pairs_as ps.items)
-
-record_held : (fs : Vec (String Global × Val) Global) → resources (val.Record fs) ≡ all_resources (values_in fs.items)
-record_held fs = search (rules, the_lemmas, fields_as fs.items)
 
 collected : {T E : Type 0} (r : Result T E) (before after some more : List Any) → some ≡ more → OnOk r (after ≡ before ++ some) → OnOk r (after ≡ before ++ more)
 collected r before after some more e h = subst (λ (xs : List Any). OnOk r (after ≡ before ++ xs)) e h
@@ -82,4 +76,4 @@ map_collected r before after v ys ps ev ep h = collected r before after (pair_re
 pub record_collected : {T E : Type 0} (r : Result T E) (before after : List Any) (v : Val) (ys : Vec (String Global × Val) Global) (fs : List (String Global × Val)) → v ≡ val.Record ys → fs ≡ ys.items
     → OnOk r (after ≡ before ++ all_resources (values_in fs)) → OnOk r (after ≡ before ++ resources v)
 record_collected r before after v ys fs ev ef h =
-    collected r before after (all_resources (values_in fs)) (resources v) (ap (λ (gs : List (String Global × Val)). all_resources (values_in gs)) ef ∙ (sym (record_held ys) ∙ ap resources (sym ev))) h
+    collected r before after (all_resources (values_in fs)) (resources v) (ap (λ (gs : List (String Global × Val)). all_resources (values_in gs)) ef ∙ (sym (resources_record ys) ∙ ap resources (sym ev))) h

@@ -34,9 +34,9 @@ ends_early gives e ending (inl h) = subst NotDone (sym h) (not_done e)
 ends_early gives e ending (inr h) = subst NotDone (sym h.2) tt
 
 -- where more handles are given
-pub ends_more : {T : Type 0} (gives more : List (List Part)) (r : Result T Fault) (ending : Ending) → (more ≡ [] → gives ≡ []) → EndsBy gives r ending → EndsBy more r ending
-ends_more gives more r ending wider (inl h) = inl h
-ends_more gives more r ending wider (inr h) = inr (h.0, λ none. h.1 (wider none), h.2)
+pub lower_ends_more : {T : Type 0} (gives more : List (List Part)) (r : Result T Fault) (ending : Ending) → (more ≡ [] → gives ≡ []) → EndsBy gives r ending → EndsBy more r ending
+lower_ends_more gives more r ending wider (inl h) = inl h
+lower_ends_more gives more r ending wider (inr h) = inr (h.0, λ none. h.1 (wider none), h.2)
 
 -- ---- handles
 
@@ -59,8 +59,8 @@ cross_stop l n gs fs hs ks e (h, at) = (leaves_stop_first (stop_of e) l n gs fs 
 pub cross_stopped : (l n : LedgerState) (gs : List (List Part)) (e : Fault) → n ≡ l → ledger_fault e ≡ None → HandlesCross {T = Unit {0}} l n gs [] (Err e)
 cross_stopped l n gs e same none = (subst (λ why. LeavesStop why l gs n) (sym (no_stop e none)) (stops_at_once l n gs same), inl none)
 
-pub not_false : true ≡ false → ⊥
-not_false e = cc
+pub lower_not_false : true ≡ false → ⊥
+lower_not_false e = cc
 
 -- ---- what is too large
 
@@ -108,16 +108,16 @@ module _ {X Y Z : Type 0} (Is : X → Type 0) (Is2 : Y → Type 0) (Is3 : Z → 
 -- ---- attempts
 
 -- what a type that reaches no text and no list leaves as it is
-abbrev pub Kept : {D G : Type 0} → Parts D G → Parts D G → Type 0
-Kept a b = b ≡ record a { ledger = b.ledger }
+abbrev pub AttemptKept : {D G : Type 0} → Parts D G → Parts D G → Type 0
+AttemptKept a b = b ≡ record a { ledger = b.ledger }
 
 module _ {D G : Type 0} (L : GuestLaws G) where
-  abbrev Does : {X : Type 0} → Parts D G → Parts D G → List Block → Aim X → List (List Part) → Bool → Type 0 → (Fault → X → Type 0) → Result (Unit {0}) Fault → Type 0
-  Does a b places aim gives blocks still Large r = TypedAttempt L.seen L.moves a b places aim gives blocks still Large r
+  abbrev AttemptDoes : {X : Type 0} → Parts D G → Parts D G → List Block → Aim X → List (List Part) → Bool → Type 0 → (Fault → X → Type 0) → Result (Unit {0}) Fault → Type 0
+  AttemptDoes a b places aim gives blocks still Large r = TypedAttempt L.seen L.moves a b places aim gives blocks still Large r
 
   -- nothing is asked for, and no handle is given
   pub typed_none : {X : Type 0} (a : Parts D G) (places : List Block) (aim : Aim X) (blocks : Bool) (Large : Fault → X → Type 0) → Attempt false (stage_of L.seen L.moves a) (stage_of L.seen L.moves a) places aim [] done → IsSmall aim.Is Large
-      → Does a a places aim [] blocks (Kept a a) Large (Ok tt)
+      → AttemptDoes a a places aim [] blocks (AttemptKept a a) Large (Ok tt)
   typed_none a places aim blocks Large h small = record {
     handles = [];
     ending = done;
@@ -134,7 +134,7 @@ module _ {D G : Type 0} (L : GuestLaws G) where
   pub typed_map : {X Y : Type 0} (a b : Parts D G) (part whole : List Block) (aim : Aim X) (other : Aim Y) (gives : List (List Part)) (blocks blocks2 : Bool) (still : Type 0) (Large : Fault → X → Type 0) (Large2 : Fault → Y → Type 0)
       (r : Result (Unit {0}) Fault)
       → ((hs : List ℕ) (e : Ending) → Attempt false (stage_of L.seen L.moves a) (stage_of L.seen L.moves b) part aim hs e → Attempt false (stage_of L.seen L.moves a) (stage_of L.seen L.moves b) whole other hs e) → (blocks2 ≡ false → blocks ≡ false)
-      → AsLarge aim.Is other.Is Large Large2 → Does a b part aim gives blocks still Large r → Does a b whole other gives blocks2 still Large2 r
+      → AsLarge aim.Is other.Is Large Large2 → AttemptDoes a b part aim gives blocks still Large r → AttemptDoes a b whole other gives blocks2 still Large2 r
   typed_map a b part whole aim other gives blocks blocks2 still Large Large2 r f quieter same h = record {
     handles = h.handles;
     ending = h.ending;
@@ -153,14 +153,14 @@ module _ {D G : Type 0} (L : GuestLaws G) where
       → ((hs ks : List ℕ) (e : Ending) → Attempt false (stage_of L.seen L.moves a) (stage_of L.seen L.moves b) p first hs done → Attempt false (stage_of L.seen L.moves b) (stage_of L.seen L.moves c) q second ks e
       → Attempt false (stage_of L.seen L.moves a) (stage_of L.seen L.moves c) big whole (hs ++ ks) e)
       → (b3 ≡ false → (b1 ≡ false) × (b2 ≡ false)) → (still1 → still2 → still3) → EitherLarge first.Is second.Is whole.Is Large1 Large2 Large3
-      → Does a b p first gs b1 still1 Large1 (Ok tt) → Does b c q second fs b2 still2 Large2 r → Does a c big whole (gs ++ fs) b3 still3 Large3 r
+      → AttemptDoes a b p first gs b1 still1 Large1 (Ok tt) → AttemptDoes b c q second fs b2 still2 Large2 r → AttemptDoes a c big whole (gs ++ fs) b3 still3 Large3 r
   typed_then a b c p q big first second whole gs fs b1 b2 b3 still1 still2 still3 Large1 Large2 Large3 r f quieter stay either h k =
       let whole_first : Attempt false (stage_of L.seen L.moves a) (stage_of L.seen L.moves b) p first h.handles done =
       subst (λ (e : Ending). Attempt false (stage_of L.seen L.moves a) (stage_of L.seen L.moves b) p first h.handles e) (ends_done gs tt h.ending h.ends) h.attempt in
       record {
         handles = h.handles ++ k.handles;
         ending = k.ending;
-        ends = ends_more fs (gs ++ fs) r k.ending (none_later gs fs) k.ends;
+        ends = lower_ends_more fs (gs ++ fs) r k.ending (none_later gs fs) k.ends;
         attempt = f h.handles k.handles k.ending whole_first k.attempt;
         passed = cross_then a.ledger b.ledger c.ledger gs fs h.handles k.handles r h.passed k.passed;
         same = handles_then a b c h.same k.same;
@@ -174,11 +174,11 @@ module _ {D G : Type 0} (L : GuestLaws G) where
       (Large1 : Fault → X → Type 0) (Large2 : Fault → Y → Type 0) (Large3 : Fault → Z → Type 0) (e : Fault)
       → ((hs : List ℕ) (d : Ending) → NotDone d → Attempt false (stage_of L.seen L.moves a) (stage_of L.seen L.moves b) p first hs d → Attempt false (stage_of L.seen L.moves a) (stage_of L.seen L.moves b) big whole hs d)
       → (b3 ≡ false → b1 ≡ false) → EitherLarge first.Is Second whole.Is Large1 Large2 Large3
-      → Does a b p first gs b1 still Large1 (Err e) → Does a b big whole (gs ++ fs) b3 still Large3 (Err e)
+      → AttemptDoes a b p first gs b1 still Large1 (Err e) → AttemptDoes a b big whole (gs ++ fs) b3 still Large3 (Err e)
   typed_stop a b p big first Second whole gs fs b1 b3 still Large1 Large2 Large3 e f quieter either h = record {
     handles = h.handles;
     ending = h.ending;
-    ends = ends_more gs (gs ++ fs) (Err e) h.ending (none_first gs fs) h.ends;
+    ends = lower_ends_more gs (gs ++ fs) (Err e) h.ending (none_first gs fs) h.ends;
     attempt = f h.handles h.ending (ends_early gs e h.ending h.ends) h.attempt;
     passed = cross_stop a.ledger b.ledger gs fs h.handles h.handles e h.passed;
     same = h.same;
@@ -189,7 +189,7 @@ module _ {D G : Type 0} (L : GuestLaws G) where
 
   -- where it failed, it says as little of another aim
   pub typed_other : {X : Type 0} (a b : Parts D G) (places : List Block) (aim other : Aim X) (gives : List (List Part)) (blocks : Bool) (still : Type 0) (Large : Fault → X → Type 0) (e : Fault)
-      → ((x : X) → other.Is x → aim.Is x × (other.asks x ≡ aim.asks x)) → Does a b places aim gives blocks still Large (Err e) → Does a b places other gives blocks still Large (Err e)
+      → ((x : X) → other.Is x → aim.Is x × (other.asks x ≡ aim.asks x)) → AttemptDoes a b places aim gives blocks still Large (Err e) → AttemptDoes a b places other gives blocks still Large (Err e)
   typed_other a b places aim other gives blocks still Large e same h = record {
     handles = h.handles;
     ending = h.ending;

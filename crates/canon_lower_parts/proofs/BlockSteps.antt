@@ -25,9 +25,9 @@ use Rattle.canon_model.specs.Requests.{Call}
 use Rattle.canon_model.specs.Shape.{ListKind, Members, Shape, list, string}
 use Rattle.canon_model.specs.Text.{Encoding}
 use Rattle.canon_model.specs.Tree.{Tree, Trees, items, tree_count, trees_of}
-use Rattle.canon_lower_parts.proofs.Attempts.{Cause, cause_of, cross_stopped, ends_done, ends_early, not_false}
+use Rattle.canon_lower_parts.proofs.Attempts.{Cause, cause_of, cross_stopped, ends_done, ends_early, lower_not_false}
 use Rattle.canon_lower_parts.proofs.TooLarge.{block_small}
-use Rattle.canon_value_parts.proofs.Passing.{handles_then, same_handles, same_ledger, ungiven_elsewhere}
+use Rattle.canon_value_parts.proofs.Passing.{handles_then, same_handles, value_same_ledger, ungiven_elsewhere}
 use Rattle.canon_lower_parts.specs.Blames.{HasLarge, HaveLarge, IsElsewhere, SomeTree}
 use Rattle.canon_lower_parts.specs.Lowers.{HandlesCross}
 use Rattle.canon_lower_parts.specs.Places.{BlockAsked, IsGivenBlock, IsNoBlock, IsPairPut, TypedPlaces}
@@ -94,8 +94,8 @@ module _ {D G : Type 0} (L : GuestLaws G) (options : ℕ) where
 
   module _ (z s : Shape) (k : ListKind) (n : ℕ) (Has : Tree → Type 0) (gs : List (List Part)) (shape : z ≡ list k s) (counts : (t : Tree) → Has t → tree_count (trees_of t) ≡ n) where
     -- its block isn't given
-    pub list_refused : (a b : Parts D G) (e : Fault) → IsNoBlock L.seen L.moves a b s n e → TypedPlaces L.seen L.moves options a b z Has gs (Err e)
-    list_refused a b e (inl (is, same, small, many)) = subst (λ (y : Shape). TypedPlaces L.seen L.moves options a b y Has gs (Err e)) (sym shape)
+    pub lower_list_refused : (a b : Parts D G) (e : Fault) → IsNoBlock L.seen L.moves a b s n e → TypedPlaces L.seen L.moves options a b z Has gs (Err e)
+    lower_list_refused a b e (inl (is, same, small, many)) = subst (λ (y : Shape). TypedPlaces L.seen L.moves options a b y Has gs (Err e)) (sym shape)
         (subst (λ (x : Parts D G). TypedPlaces L.seen L.moves options a x (list k s) Has gs (Err e)) (sym same)
         (subst (λ (x : Fault). TypedPlaces L.seen L.moves options a a (list k s) Has gs (Err x)) (sym is) (record {
           placed = record {
@@ -105,21 +105,21 @@ module _ {D G : Type 0} (L : GuestLaws G) (options : ℕ) where
             attempt = attempt_refused false (stage_of L.seen L.moves a) [] _ small;
             passed = cross_stopped a.ledger a.ledger gs (fault.SizeOverflow n) refl refl;
             same = refl;
-            quiet = λ none. absurd (not_false none);
+            quiet = λ none. absurd (lower_not_false none);
             cause = λ t has. inr (inl (sym (counts t has), many));
             small = tt;
           };
           narrow = tt;
         })))
-    list_refused a b e (inr h) = subst (λ (y : Shape). TypedPlaces L.seen L.moves options a b y Has gs (Err e)) (sym shape) (record {
+    lower_list_refused a b e (inr h) = subst (λ (y : Shape). TypedPlaces L.seen L.moves options a b y Has gs (Err e)) (sym shape) (record {
       placed = record {
         handles = [];
         ending = fault_ending e;
         ends = inl refl;
         attempt = pairs.list_ungiven false (stage_of L.seen L.moves a) (stage_of L.seen L.moves b) (host_texts (encoding_by a options)) k s n 0 [] 0 Has (fault_ending e) (not_done e) h.small counts h.does;
-        passed = cross_stopped a.ledger b.ledger gs e (same_ledger a b h.same) (ungiven_elsewhere (stage_of L.seen L.moves a) (stage_of L.seen L.moves b) (items_call false s n) e 0 h.does);
+        passed = cross_stopped a.ledger b.ledger gs e (value_same_ledger a b h.same) (ungiven_elsewhere (stage_of L.seen L.moves a) (stage_of L.seen L.moves b) (items_call false s n) e 0 h.does);
         same = same_handles a b h.same;
-        quiet = λ none. absurd (not_false none);
+        quiet = λ none. absurd (lower_not_false none);
         cause = λ t has. inl (elsewhere_asked (stage_of L.seen L.moves a) (stage_of L.seen L.moves b) (items_call false s n) e 0 h.does);
         small = tt;
       };
@@ -135,13 +135,13 @@ module _ {D G : Type 0} (L : GuestLaws G) (options : ℕ) where
           (subst (λ (x : Encoding). StoresMembers false (stage_of L.seen L.moves b) (stage_of L.seen L.moves c) (host_texts x) ms 0 p Have h.handles h.ending) (same_encoding a b options g.asked.same) h.attempt)
 
       passed : (r : Result (Unit {0}) Fault) (h : TypedMembersStore L.seen L.moves options b c ms 0 p Have gs r) → HandlesCross a.ledger c.ledger gs h.handles r
-      passed r h = subst (λ (l : LedgerState). HandlesCross l c.ledger gs h.handles r) (same_ledger a b g.asked.same) h.passed
+      passed r h = subst (λ (l : LedgerState). HandlesCross l c.ledger gs h.handles r) (value_same_ledger a b g.asked.same) h.passed
 
       all_small : (h : TypedMembersStore L.seen L.moves options b c ms 0 p Have gs (Ok tt)) (t : Tree) → Has t → (e : Fault) → ¬ HaveLarge (encoding_by a options) ms e (back t)
       all_small h t has e some = h.small (back t) (from t has).0 e (subst (λ (x : Encoding). HaveLarge x ms e (back t)) (sym (same_encoding a b options g.asked.same)) some)
 
-      pub list_placed : TypedMembersStore L.seen L.moves options b c ms 0 p Have gs (Ok tt) → TypedPlaces L.seen L.moves options a c z Has gs (Ok (record { pointer = p; length = n }))
-      list_placed h = subst (λ (y : Shape). TypedPlaces L.seen L.moves options a c y Has gs (Ok (record { pointer = p; length = n }))) (sym shape) (record {
+      pub lower_list_placed : TypedMembersStore L.seen L.moves options b c ms 0 p Have gs (Ok tt) → TypedPlaces L.seen L.moves options a c z Has gs (Ok (record { pointer = p; length = n }))
+      lower_list_placed h = subst (λ (y : Shape). TypedPlaces L.seen L.moves options a c y Has gs (Ok (record { pointer = p; length = n }))) (sym shape) (record {
         placed = record {
           handles = h.handles;
           ending = h.ending;
@@ -149,15 +149,15 @@ module _ {D G : Type 0} (L : GuestLaws G) (options : ℕ) where
           attempt = words (Ok tt) h;
           passed = passed (Ok tt) h;
           same = handles_then a b c (same_handles a b g.asked.same) h.same;
-          quiet = λ none. absurd (not_false none);
+          quiet = λ none. absurd (lower_not_false none);
           cause = tt;
           small = λ t has e some. ⊎_elim (block_small (encoding_by a options) k s t n (counts t has) g.few g.fit e) (λ items. all_small h t has e ((items_large (encoding_by a options) t has e).1 items)) some;
         };
         narrow = (g.asked.does.narrow, g.few);
       })
 
-      pub list_broken : (e : Fault) → TypedMembersStore L.seen L.moves options b c ms 0 p Have gs (Err e) → TypedPlaces L.seen L.moves options a c z Has gs (Err e)
-      list_broken e h = subst (λ (y : Shape). TypedPlaces L.seen L.moves options a c y Has gs (Err e)) (sym shape) (record {
+      pub lower_list_broken : (e : Fault) → TypedMembersStore L.seen L.moves options b c ms 0 p Have gs (Err e) → TypedPlaces L.seen L.moves options a c z Has gs (Err e)
+      lower_list_broken e h = subst (λ (y : Shape). TypedPlaces L.seen L.moves options a c y Has gs (Err e)) (sym shape) (record {
         placed = record {
           handles = h.handles;
           ending = h.ending;
@@ -165,7 +165,7 @@ module _ {D G : Type 0} (L : GuestLaws G) (options : ℕ) where
           attempt = attempt_other false (stage_of L.seen L.moves a) (stage_of L.seen L.moves c) [] _ (value_words false (host_texts (encoding_by a options)) (list k s) [] 0 Has) h.ending (ends_early gs e h.ending h.ends) (λ t has. (has, refl)) (words (Err e) h);
           passed = passed (Err e) h;
           same = handles_then a b c (same_handles a b g.asked.same) h.same;
-          quiet = λ none. absurd (not_false none);
+          quiet = λ none. absurd (lower_not_false none);
           cause = cause_of Have Has (HaveLarge (encoding_by a options) ms) (HasLarge (encoding_by a options) (list k s)) e (λ t has. (back t, (from t has).0, λ some. inr ((items_large (encoding_by a options) t has e).0 some)))
               (subst (λ (x : Encoding). Cause Have (HaveLarge x ms) e) (same_encoding a b options g.asked.same) h.cause);
           small = tt;
@@ -183,7 +183,7 @@ module _ {D G : Type 0} (L : GuestLaws G) (options : ℕ) where
     attempt = stop_at (stage_of L.seen L.moves a) (stage_of L.seen L.moves b) (encoding_by a options) s at Has [] h.placed.ending (ends_early gs e h.placed.ending h.placed.ends) h.placed.attempt;
     passed = h.placed.passed;
     same = h.placed.same;
-    quiet = λ none. absurd (not_false (sym block ∙ none));
+    quiet = λ none. absurd (lower_not_false (sym block ∙ none));
     cause = h.placed.cause;
     small = tt;
   }
@@ -210,7 +210,7 @@ module _ {D G : Type 0} (L : GuestLaws G) (options : ℕ) where
           attempt = store lowered written;
           passed = h.placed.passed;
           same = ap (λ (y : Parts D G). record y { memory = c.memory }) h.placed.same;
-          quiet = λ none. absurd (not_false (sym block ∙ none));
+          quiet = λ none. absurd (lower_not_false (sym block ∙ none));
           cause = tt;
           small = h.placed.small;
         })

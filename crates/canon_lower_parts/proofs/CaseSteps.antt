@@ -1,9 +1,8 @@
 -- A case of a typed value: its number, and its payload behind it.
-use Rattle.std.proofs.Common.{◌≡◌, ◌≤◌, ◌<◌, ◌+◌, ◌^◌, ◌∙◌, Bool, List, Result, ap, arith, false, length, refl, subst, suc, sym, true, zero, ℕ}
+use Rattle.std.proofs.Common.{◌≡◌, ◌≤◌, ◌<◌, ◌+◌, ◌^◌, ◌∙◌, Bool, List, Result, ap, arith, false, length, refl, subst, sym, true, ℕ}
 use Rattle.std.proofs.Math.Nat.{mod-eq_of_lt}
 use Rattle.canon_context.proofs.Moves.{GuestLaws}
 use Rattle.canon_context.specs.Core.{Parts, encoding_by, stage_of}
-use Rattle.canon_context.specs.Quiet.{cases_have_block, has_block, have_block}
 use Rattle.canon_context.specs.declared.fault.Fault.{Fault}
 use Rattle.canon_leaves.specs.Parts.{Part}
 use Rattle.canon_lowering.proofs.AimedCases.{CaseIs, tag_written, variant_stored}
@@ -11,26 +10,19 @@ use Rattle.canon_lowering.specs.Copies.{case_members, case_tree, payload_trees}
 use Rattle.canon_model.proofs.Layouts.{tag-le-size}
 use Rattle.canon_model.specs.Homes.{host_texts}
 use Rattle.canon_model.specs.Layout.{payload_offset, size, tag_size}
-use Rattle.canon_model.specs.Shape.{Cases, Members, Shape, VariantKind, bare, case_count, no_cases, payload, variant}
+use Rattle.canon_model.specs.Shape.{Cases, Members, Shape, VariantKind, case_count, variant}
 use Rattle.canon_model.specs.Text.{Encoding}
 use Rattle.canon_model.specs.Tree.{Tree, Trees, case_number, no_trees}
 use Rattle.canon_typed.specs.Meaning.{CaseMeans}
 use Rattle.canon_lower_parts.proofs.Attempts.{cause_as, small_as}
 use Rattle.canon_lower_parts.proofs.TooLarge.{variant_large}
-use Rattle.canon_value_parts.proofs.Steps.{no_first, no_later}
 use Rattle.canon_lower_parts.specs.Blames.{HasLarge, HaveLarge}
 use Rattle.canon_lower_parts.specs.CasePuts.{IsCasePut, PayloadTrees, unless_unit}
 use Rattle.canon_lower_parts.specs.Cases.{payload_members}
 use Rattle.canon_lower_parts.specs.Stores.{TypedMembersStore, TypedStores}
+use Rattle.canon_value_parts.proofs.Cases.{case_quiet}
 
 -- ---- of cases
-
-pub case_quiet : (cs : Cases) (i : ℕ) → cases_have_block cs ≡ false → have_block (case_members cs i) ≡ false
-case_quiet no_cases i e = refl
-case_quiet (bare name cs) zero e = refl
-case_quiet (bare name cs) (suc i) e = case_quiet cs i e
-case_quiet (payload name s cs) zero e = rw (no_first (has_block s) (cases_have_block cs) e) refl
-case_quiet (payload name s cs) (suc i) e = case_quiet cs i (no_later (has_block s) (cases_have_block cs) e)
 
 -- a value's tree from its payload's trees, and back
 module _ {A : Type 0} (enc : Encoding) (Walks : A → Tree → Type 0) (x : A) (s : Shape) (d : ℕ) where

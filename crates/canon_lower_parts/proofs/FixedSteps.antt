@@ -17,7 +17,7 @@ use Rattle.canon_types.specs.declared.types.InterfaceType.{InterfaceType}
 use Rattle.canon_types.specs.declared.types.InterfaceType.TheVariants as ty
 use Rattle.canon_typed.specs.Meaning.{EachMeans, RowMeans}
 use Rattle.canon_typed.specs.Types.{IsFixedOf}
-use Rattle.canon_lower_parts.proofs.Items.{each_count, row_trees}
+use Rattle.canon_lower_parts.proofs.Items.{lower_each_count, row_trees}
 use Rattle.canon_value_parts.proofs.Walks.{copies_quiet}
 use Rattle.canon_lower_parts.proofs.Attempts.{cause_as, small_as}
 use Rattle.canon_lower_parts.proofs.TooLarge.{fixed_large}
@@ -69,7 +69,7 @@ module _ {D G : Type 0} (L : GuestLaws G) (options : ℕ) {A : Type 0} (Walks : 
         ending = h.ending;
         ends = h.ends;
         attempt = aimed.fixed_stored false (stage_of L.seen L.moves a) (stage_of L.seen L.moves c) (host_texts (encoding_by a options)) n s at (EachMeans Walks xs) (RowMeans Walks xs) (omega (arith, room, ap (size false) of.shape, h.attempt.lowering.goes.no_shorter))
-            (λ ts each. ((ts, refl, each), each_count Walks xs ts each ∙ is)) (row_trees Walks xs) h.ending h.attempt;
+            (λ ts each. ((ts, refl, each), lower_each_count Walks xs ts each ∙ is)) (row_trees Walks xs) h.ending h.attempt;
         passed = h.passed;
         same = h.same;
         quiet = λ none. h.quiet (copies_quiet n s none);

@@ -66,13 +66,13 @@ given_number a b parts gives r q only eg eq few moves = subst (λ (gs : List (Li
     (given_by a b parts r only (subst (λ (x : Result ℕ Fault). IfOk x (λ h. h < 2 ^ 32)) eq few) moves))
 
 -- the types of handles
-pub handle_shape : (i : Instance) (type : InterfaceType) → IsHandleType i type → (owned : Bool) × (r : ℕ) × (shape_of i.types type ≡ shaped_handle owned r)
-handle_shape i (ty.Own r) h = (true, r, refl)
-handle_shape i (ty.Borrow r) h = (false, r, refl)
-handle_shape i _ h = absurd h
+pub lower_handle_shape : (i : Instance) (type : InterfaceType) → IsHandleType i type → (owned : Bool) × (r : ℕ) × (shape_of i.types type ≡ shaped_handle owned r)
+lower_handle_shape i (ty.Own r) h = (true, r, refl)
+lower_handle_shape i (ty.Borrow r) h = (false, r, refl)
+lower_handle_shape i _ h = absurd h
 
-pub handle_words : (i : Instance) (type : InterfaceType) → IsHandleType i type → flat (shape_of i.types type) ≡ 1
-handle_words i type h = let (owned, r, e) = handle_shape i type h in ap flat e ∙ handle_flat owned r
+pub lower_handle_words : (i : Instance) (type : InterfaceType) → IsHandleType i type → flat (shape_of i.types type) ≡ 1
+lower_handle_words i type h = let (owned, r, e) = lower_handle_shape i type h in ap flat e ∙ handle_flat owned r
 
 module _ {D G : Type 0} (L : GuestLaws G) (options : ℕ) (a b : Parts D G) (owned : Bool) (r : ℕ) (s : Shape) (shape : s ≡ shaped_handle owned r) (small : length a.memory ≤ 2 ^ 32) where
   abbrev Low : List ℕ → (gives : List (List Part)) → Result (Unit {0}) Fault → Type 0
@@ -103,8 +103,8 @@ module _ {D G : Type 0} (L : GuestLaws G) (options : ℕ) (a b : Parts D G) (own
       words false ws lt = borrow_words false (stage_of L.seen L.moves a) (host_texts (encoding_by a options)) ws 0 IsHandle small r lt (low (slice_index ws 0), refl)
 
   -- none was
-  pub handle_refused : (ws : List ℕ) (gives : List (List Part)) (e : Fault) → GivesNumber a b gives (Err e) → Low ws gives (Err e)
-  handle_refused ws gives e given =
+  pub lower_handle_refused : (ws : List ℕ) (gives : List (List Part)) (e : Fault) → GivesNumber a b gives (Err e) → Low ws gives (Err e)
+  lower_handle_refused ws gives e given =
       subst (λ (x : Parts D G). TypedLowers L.seen L.moves options a x s ws 0 IsHandle gives (Err e)) (sym given.only_ledger) (record {
         handles = [];
         ending = refused;

@@ -1,7 +1,7 @@
 -- Resources that the host holds, on their way through the ledger.
 use Rattle.std.proofs.Common.{◌≡◌, ◌∙◌, ◌∷◌, ◌⊎◌, Bool, Err, List, None, Ok, Option, Result, [], ap, false, if◌then◌else◌, inl, inr, refl, subst, sym, true, zero, ℕ}
 use Rattle.canon_handles.specs.Step.{and_then}
-use Rattle.canon_leaves.proofs.Moves.{moves_both, moves_one}
+use Rattle.canon_leaves.proofs.Moves.{moves_both, moves_one, leaf_stopped}
 use Rattle.canon_leaves.specs.Parts.{LeafMoves, Part, Stops, TakesParts, borrow_parts, do_part, host_own, is_defined_here, is_of_type, lend_host, lend_inserted, lower_parts, own_in, passed, refusal_of, refuse, table_for, tell}
 use Rattle.canon_handles.specs.declared.handle.TypedResource.TheVariants.{Component, Host}
 use Rattle.canon_ledger.specs.Handles as handles
@@ -18,19 +18,11 @@ use Rattle.canon_resources.specs.declared.host.ResourceState.TheVariants as stat
 use Rattle.canon_types.specs.Instance.{Instance}
 use Rattle.canon_types.specs.Resource.{resource_type_at}
 use Rattle.canon_types.specs.declared.resource.ResourceType.{ResourceType}
-use Rattle.canon_types.specs.declared.types.InterfaceType.{InterfaceType}
 use Rattle.canon_types.specs.declared.types.InterfaceType.TheVariants as ty
-use Rattle.canon_typed.specs.Types.{IsHandleOf, IsHandleType}
 
 -- an index of the host's table in a generation
 abbrev index_in : ℕ → ℕ → GivenIndex
 index_in g j = record { index = j; generation = g }
-
--- the types of a kind are types of handles
-pub held_type : {D : Type 0} (checked : ResourceType → Option D) (i : Instance) (type : InterfaceType) → IsHandleOf checked i type → IsHandleType i type
-held_type checked i (ty.Own r) h = tt
-held_type checked i (ty.Borrow r) h = tt
-held_type checked i _ (kind, d, none, e) = absurd (cc)
 
 -- ---- by the type, and where the handle is
 
@@ -81,10 +73,6 @@ given_not : (q : Result ℕ ResourceFault) (g : ℕ) (e : ResourceFault) → and
 given_not (Ok j) g e h = cc
 given_not (Err f) g e h = let same : f ≡ e = cc in ap (λ (x : ResourceFault). Err x) same
 
-stopped : (last : ℕ) (p : Part) (ps : List Part) (l n : LedgerState) (e : ResourceFault) → Did (do_part last p l) (Err e) l n → Stops (refusal_of e) last l (p ∷ ps) n
-stopped last p ps l n e (inl d) = inr (inl (e, refl, d.0, d.1))
-stopped last p ps l n e (inr d) = inl (ap refusal_of d.0, d.1)
-
 lent_parts : (here : Bool) (p r : ℕ) (x : GivenIndex) → borrow_parts here p r (handle.Own x) ≡ lend_host x ∷ lent_in here p r
 lent_parts true p r x = refl
 lent_parts false p r x = refl
@@ -128,7 +116,7 @@ module _ (i : Instance) (r : ℕ) (kind : ResourceType) (rep : ℕ) (l n : Ledge
       fresh q (lent_after rep l m x inserted (lent_in (is_defined_here i r) (table_for i r) r) n q (subst (λ (ps : List Part). LeafMoves m n ps q) (lent_parts (is_defined_here i r) (table_for i r) r x) here))
 
   pub lent_not : (f : ResourceFault) → Did (given l (host_resource_lower_own l rep None None)) (Err f) l n → Moved i r kind rep l n false st n (Err f)
-  lent_not f did = fresh (Err f) (λ last. inr (inr (rep, refl, stopped rep (host_own None None) (lend_inserted ∷ lent_in (is_defined_here i r) (table_for i r) r) l n f (one did))))
+  lent_not f did = fresh (Err f) (λ last. inr (inr (rep, refl, leaf_stopped rep (host_own None None) (lend_inserted ∷ lent_in (is_defined_here i r) (table_for i r) r) l n f (one did))))
     where
       one : Did (given l (host_resource_lower_own l rep None None)) (Err f) l n → Did (host_resource_lower_own l rep None None) (Err f) l n
       one (inl d) = inl (given_not (host_resource_lower_own l rep None None).answer l.host.generation f d.0, d.1)

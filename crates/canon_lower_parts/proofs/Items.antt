@@ -37,12 +37,12 @@ left_below (y ∷ xs) rest (suc k) x e = omega (arith, left_below xs rest k x e)
 
 -- ---- each has a tree
 
-pub each_count : {A : Type 0} (Walks : A → Tree → Type 0) (xs : List A) (ts : Trees) → EachMeans Walks xs ts → tree_count ts ≡ length xs
-each_count Walks [] ts e = ap tree_count e
-each_count Walks (x ∷ xs) ts (t, rest, is, has, each) = ap tree_count is ∙ ap suc (each_count Walks xs rest each)
+pub lower_each_count : {A : Type 0} (Walks : A → Tree → Type 0) (xs : List A) (ts : Trees) → EachMeans Walks xs ts → tree_count ts ≡ length xs
+lower_each_count Walks [] ts e = ap tree_count e
+lower_each_count Walks (x ∷ xs) ts (t, rest, is, has, each) = ap tree_count is ∙ ap suc (lower_each_count Walks xs rest each)
 
-pub list_trees : {A : Type 0} (Walks : A → Tree → Type 0) (xs : List A) (t : Tree) → ListMeans Walks xs t → EachMeans Walks xs (trees_of t)
-list_trees Walks xs t (ts, is, each) = subst (EachMeans Walks xs) (sym (ap trees_of is)) each
+pub lower_list_trees : {A : Type 0} (Walks : A → Tree → Type 0) (xs : List A) (t : Tree) → ListMeans Walks xs t → EachMeans Walks xs (trees_of t)
+lower_list_trees Walks xs t (ts, is, each) = subst (EachMeans Walks xs) (sym (ap trees_of is)) each
 
 pub row_trees : {A : Type 0} (Walks : A → Tree → Type 0) (xs : List A) (t : Tree) → RowMeans Walks xs t → EachMeans Walks xs (trees_of t)
 row_trees Walks xs t (ts, is, each) = subst (EachMeans Walks xs) (sym (ap trees_of is)) each

@@ -172,11 +172,11 @@ inserted_more rep l m x did =
     go (Err f) m e = cc
 
 -- where it stands then, whatever was answered
-pub placed : (i : Instance) (r : ℕ) (kind : ResourceType) (rep : ℕ) (l m n : LedgerState) (x : GivenIndex) (q : Result ℕ ResourceFault) (ok : Bool) (st new : ResourceState)
+pub lower_placed : (i : Instance) (r : ℕ) (kind : ResourceType) (rep : ℕ) (l m n : LedgerState) (x : GivenIndex) (q : Result ℕ ResourceFault) (ok : Bool) (st new : ResourceState)
     → is_of_type (resource_type_at i r) kind ≡ true → st ≡ state.NotInTable → new ≡ state.Index x
     → Did (given l (host_resource_lower_own l rep None None)) (Ok x) l m → LeafMoves m n (lower_parts i (passed false r (any (handle.Own x) kind))) q
     → StateAfter (is_of_type (resource_type_at i r) kind) false ok st rep l n new
-placed i r kind rep l m n x q ok st new typed is at did moves =
+lower_placed i r kind rep l m n x q ok st new typed is at did moves =
     subst (λ (b : Bool). StateAfter b false ok st rep l n new) (sym typed)
     (subst (λ (s : ResourceState). StateAfter true false ok s rep l n new) (sym is) (inl (x, did.0, at, changed)))
   where

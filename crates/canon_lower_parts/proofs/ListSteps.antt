@@ -19,8 +19,8 @@ use Rattle.canon_types.specs.declared.types.InterfaceType.{InterfaceType}
 use Rattle.canon_types.specs.declared.types.InterfaceType.TheVariants as ty
 use Rattle.canon_typed.specs.Meaning.{EachMeans, ListMeans}
 use Rattle.canon_typed.specs.Types.{IsListOf}
-use Rattle.canon_lower_parts.proofs.Items.{each_count, list_trees, row_some, some_row}
-use Rattle.canon_lower_parts.proofs.BlockSteps.{AsItems, list_broken, list_placed, list_refused, list_put, placed_stops}
+use Rattle.canon_lower_parts.proofs.Items.{lower_each_count, lower_list_trees, row_some, some_row}
+use Rattle.canon_lower_parts.proofs.BlockSteps.{AsItems, lower_list_broken, lower_list_placed, lower_list_refused, list_put, placed_stops}
 use Rattle.canon_value_parts.proofs.Passing.{handles_instance, same_handles}
 use Rattle.canon_lower_parts.specs.Blames.{IsTooLarge}
 use Rattle.canon_lower_parts.specs.Gives.{item_shape}
@@ -48,13 +48,13 @@ list_found Fits i t2 type j element e is fits defined =
 -- values in a row, in a block that is a list's
 module _ {D G : Type 0} (L : GuestLaws G) (options : ℕ) {A : Type 0} (Walks : A → Tree → Type 0) (give : A → List (List Part)) (a b : Parts D G) (z s : Shape) (k : ListKind) (shape : z ≡ list k s) (xs : List A) (n : ℕ) (is : n ≡ length xs) where
   counts : (t : Tree) → ListMeans Walks xs t → tree_count (trees_of t) ≡ n
-  counts t has = each_count Walks xs (trees_of t) (list_trees Walks xs t has) ∙ sym is
+  counts t has = lower_each_count Walks xs (trees_of t) (lower_list_trees Walks xs t has) ∙ sym is
 
   items_large : (enc : Encoding) → AsItems enc s (copies n s) (ListMeans Walks xs) (λ t. trees_of t)
   items_large enc t has e = (row_some (IsTooLarge enc e) n s (trees_of t), some_row (IsTooLarge enc e) n s (trees_of t) (counts t has))
 
-  pub list_ungiven : (e : Fault) → IsNoBlock L.seen L.moves a b s n e → TypedPlaces L.seen L.moves options a b z (ListMeans Walks xs) (flat_map give xs) (Err e)
-  list_ungiven e h = list_refused L options z s k n (ListMeans Walks xs) (flat_map give xs) shape counts a b e h
+  pub lower_list_ungiven : (e : Fault) → IsNoBlock L.seen L.moves a b s n e → TypedPlaces L.seen L.moves options a b z (ListMeans Walks xs) (flat_map give xs) (Err e)
+  lower_list_ungiven e h = lower_list_refused L options z s k n (ListMeans Walks xs) (flat_map give xs) shape counts a b e h
 
   module _ (c : Parts D G) (p : ℕ) (g : IsGivenBlock L.seen L.moves a b s n p) where
     abbrev pub Filled : Result (Unit {0}) Fault → Type 0
@@ -64,12 +64,12 @@ module _ {D G : Type 0} (L : GuestLaws G) (options : ℕ) {A : Type 0} (Walks : 
     as_many r h = subst (λ (m : ℕ). TypedMembersStore L.seen L.moves options b c (copies m s) 0 p (EachMeans Walks xs) (flat_map give xs) r) (sym is) h
 
     pub list_filled : Filled (Ok tt) → TypedPlaces L.seen L.moves options a c z (ListMeans Walks xs) (flat_map give xs) (Ok (record { pointer = p; length = n }))
-    list_filled h = list_placed L options z s k n (ListMeans Walks xs) (flat_map give xs) shape counts n (copies n s) (λ ts. ts) (λ t. trees_of t) (λ enc. copies_row false (host_texts enc) s n) (EachMeans Walks xs)
-        (λ ts each. ((ts, refl, each), each_count Walks xs ts each ∙ sym is)) (λ t has. (list_trees Walks xs t has, refl)) items_large a b c p g (as_many (Ok tt) h)
+    list_filled h = lower_list_placed L options z s k n (ListMeans Walks xs) (flat_map give xs) shape counts n (copies n s) (λ ts. ts) (λ t. trees_of t) (λ enc. copies_row false (host_texts enc) s n) (EachMeans Walks xs)
+        (λ ts each. ((ts, refl, each), lower_each_count Walks xs ts each ∙ sym is)) (λ t has. (lower_list_trees Walks xs t has, refl)) items_large a b c p g (as_many (Ok tt) h)
 
     pub list_stopped : (e : Fault) → Filled (Err e) → TypedPlaces L.seen L.moves options a c z (ListMeans Walks xs) (flat_map give xs) (Err e)
-    list_stopped e h = list_broken L options z s k n (ListMeans Walks xs) (flat_map give xs) shape counts n (copies n s) (λ ts. ts) (λ t. trees_of t) (λ enc. copies_row false (host_texts enc) s n) (EachMeans Walks xs)
-        (λ ts each. ((ts, refl, each), each_count Walks xs ts each ∙ sym is)) (λ t has. (list_trees Walks xs t has, refl)) items_large a b c p g e (as_many (Err e) h)
+    list_stopped e h = lower_list_broken L options z s k n (ListMeans Walks xs) (flat_map give xs) shape counts n (copies n s) (λ ts. ts) (λ t. trees_of t) (λ enc. copies_row false (host_texts enc) s n) (EachMeans Walks xs)
+        (λ ts each. ((ts, refl, each), lower_each_count Walks xs ts each ∙ sym is)) (λ t has. (lower_list_trees Walks xs t has, refl)) items_large a b c p g e (as_many (Err e) h)
 
 -- the same of the items that a list's type has, said of the types of the start
 module _ {D G : Type 0} (L : GuestLaws G) (options : ℕ) {A : Type 0} (Walks : A → Tree → Type 0) (gives : Instance → Shape → A → List (List Part)) (Fits : Instance → InterfaceType → Type 0) (a b : Parts D G) (type element : InterfaceType) (xs : List A) (n : ℕ)
@@ -84,7 +84,7 @@ module _ {D G : Type 0} (L : GuestLaws G) (options : ℕ) {A : Type 0} (Walks : 
   all_gives = flat_map (gives a.component.types (item_shape z)) xs
 
   pub items_ungiven : (e : Fault) → IsNoBlock L.seen L.moves a b s n e → TypedPlaces L.seen L.moves options a b z (ListMeans Walks xs) all_gives (Err e)
-  items_ungiven e h = list_ungiven L options Walks (gives a.component.types (item_shape z)) a b z s of_items of.shape xs n is e h
+  items_ungiven e h = lower_list_ungiven L options Walks (gives a.component.types (item_shape z)) a b z s of_items of.shape xs n is e h
 
   module _ (c : Parts D G) (p options2 : ℕ) (eo : options2 ≡ options) (g : IsGivenBlock L.seen L.moves a b s n p) where
     instance : b.component.types ≡ a.component.types
@@ -119,9 +119,9 @@ module _ {D G : Type 0} (L : GuestLaws G) (options : ℕ) {A : Type 0} (Walks : 
 
 -- ---- in memory: a pointer and a length
 
-pub list_shape : (Fits : Instance → InterfaceType → Type 0) (i : Instance) (type : InterfaceType) → IsListOf Fits i type → (s : Shape) × (shape_of i.types type ≡ list of_items s)
-list_shape Fits i (ty.List j) (element, d, f) = (shape_of i.types element, d.shape)
-list_shape Fits i _ h = absurd h
+pub lower_list_shape : (Fits : Instance → InterfaceType → Type 0) (i : Instance) (type : InterfaceType) → IsListOf Fits i type → (s : Shape) × (shape_of i.types type ≡ list of_items s)
+lower_list_shape Fits i (ty.List j) (element, d, f) = (shape_of i.types element, d.shape)
+lower_list_shape Fits i _ h = absurd h
 
 pub list_bytes : (z s : Shape) (k : ListKind) → z ≡ list k s → size false z ≡ 8
 unfolding size

@@ -20,7 +20,7 @@ use Rattle.canon_types.specs.declared.types.TypeMap.{TypeMap}
 use Rattle.canon_typed.specs.Meaning.{EachMeans, ListMeans}
 use Rattle.canon_typed.specs.Types.{IsMapOf}
 use Rattle.canon_value_parts.proofs.Passing.{handles_instance, same_handles}
-use Rattle.canon_lower_parts.proofs.ListSteps.{list_filled, list_stopped, list_ungiven}
+use Rattle.canon_lower_parts.proofs.ListSteps.{list_filled, list_stopped, lower_list_ungiven}
 use Rattle.canon_lower_parts.proofs.PairSteps.{second_place}
 use Rattle.canon_lower_parts.specs.Gives.{item_shape}
 use Rattle.canon_lower_parts.specs.Pairs.{IsPairType, pair_in}
@@ -84,14 +84,14 @@ module _ {D G : Type 0} (L : GuestLaws G) (options : ℕ) {K V : Type 0} (Walks 
   all_gives = flat_map (gives a.component.types (item_shape z)) xs
 
   pub pairs_ungiven : (e : Fault) → IsNoBlock L.seen L.moves a b s n e → TypedPlaces L.seen L.moves options a b z (ListMeans Walks xs) all_gives (Err e)
-  pairs_ungiven e h = list_ungiven L options Walks (gives a.component.types (item_shape z)) a b z s of_pairs shape xs n is e h
+  pairs_ungiven e h = lower_list_ungiven L options Walks (gives a.component.types (item_shape z)) a b z s of_pairs shape xs n is e h
 
   module _ (c : Parts D G) (p options2 : ℕ) (eo : options2 ≡ options) (g : IsGivenBlock L.seen L.moves a b s n p) where
     instance : b.component.types ≡ a.component.types
     instance = handles_instance a b (same_handles a b g.asked.same)
 
-    pub pairs_fit : IsPairType Key Value a.component.types pair → IsPairType Key Value b.component.types pair
-    pairs_fit h = subst (λ (i : Instance). IsPairType Key Value i pair) (sym instance) h
+    pub lower_pairs_fit : IsPairType Key Value a.component.types pair → IsPairType Key Value b.component.types pair
+    lower_pairs_fit h = subst (λ (i : Instance). IsPairType Key Value i pair) (sym instance) h
 
     pub pairs_room : p + length xs * size false (pair_in (component_types b) pair) ≤ length b.memory
     pairs_room =

@@ -21,7 +21,7 @@ use Rattle.canon_model.specs.Shape.{Members, ProductKind, Shape, member, no_memb
 use Rattle.canon_model.specs.Text.{Encoding}
 use Rattle.canon_model.specs.Tree.{Tree, Trees, no_trees, trees_of}
 use Rattle.canon_typed.specs.Meaning.{FirstAnd, NoTrees, ProductMeans}
-use Rattle.canon_lower_parts.proofs.Attempts.{Cause, IsSmall, cause_as, cause_first, cause_then, cross_stop, cross_then, ends_done, ends_early, ends_more, none_first, none_later, small_as, small_then}
+use Rattle.canon_lower_parts.proofs.Attempts.{Cause, IsSmall, cause_as, cause_first, cause_then, cross_stop, cross_then, ends_done, ends_early, lower_ends_more, none_first, none_later, small_as, small_then}
 use Rattle.canon_lower_parts.proofs.TooLarge.{first_large, product_large}
 use Rattle.canon_value_parts.proofs.Passing.{handles_encoding, handles_then}
 use Rattle.canon_value_parts.proofs.Steps.{no_first, no_later}
@@ -65,7 +65,7 @@ module _ {D G : Type 0} (L : GuestLaws G) (options : ℕ) where
       record {
         handles = h.handles ++ k.handles;
         ending = k.ending;
-        ends = ends_more ks (gs ++ ks) r k.ending (none_later gs ks) k.ends;
+        ends = lower_ends_more ks (gs ++ ks) r k.ending (none_later gs ks) k.ends;
         attempt = aimed.members_cons false (host_texts enc) [] s ms o at Has Have (stage_of L.seen L.moves a) (stage_of L.seen L.moves b) (stage_of L.seen L.moves c) k.ending stored rest;
         passed = cross_then a.ledger b.ledger c.ledger gs ks h.handles k.handles r h.passed k.passed;
         same = handles_then a b c h.same k.same;
@@ -82,7 +82,7 @@ module _ {D G : Type 0} (L : GuestLaws G) (options : ℕ) where
       record {
         handles = h.handles;
         ending = h.ending;
-        ends = ends_more gs (gs ++ ks) (Err e) h.ending (none_first gs ks) h.ends;
+        ends = lower_ends_more gs (gs ++ ks) (Err e) h.ending (none_first gs ks) h.ends;
         attempt = aimed.members_stop false (host_texts enc) [] s ms o at Has Have (stage_of L.seen L.moves a) (stage_of L.seen L.moves b) h.ending (ends_early gs e h.ending h.ends) h.attempt;
         passed = cross_stop a.ledger b.ledger gs ks h.handles h.handles e h.passed;
         same = h.same;

@@ -20,15 +20,15 @@ use Rattle.canon_lower_parts.specs.CasePuts.{IsCasePut, IsOptionPut}
 use Rattle.canon_lower_parts.specs.Gives.{case_shape, option_gives}
 use Rattle.canon_lower_parts.specs.Stores.{IsPut, TypedStores}
 
-abbrev cases_of : Shape → Cases
-cases_of u = bare [] (payload [] u no_cases)
+abbrev lower_cases_of : Shape → Cases
+lower_cases_of u = bare [] (payload [] u no_cases)
 
 put_types : {D G : Type 0} (a b : Parts D G) (at n bytes : ℕ) → IsPut a b at n bytes → b.component.types ≡ a.component.types
 put_types a b at n bytes h = ap (λ x. x.component.types) h.same
 
 module _ {D G : Type 0} (Fits : Instance → InterfaceType → Type 0) (a b : Parts D G) (type : InterfaceType) (at : ℕ) (some : InterfaceType) (place : ℕ) where
   -- the number, by the cases of the payload's shape
-  cases_put : (d : ℕ) → IsOptionPut Fits a b type at d some place → IsCasePut a b (cases_of (shape_of (component_types a) some)) at d place
+  cases_put : (d : ℕ) → IsOptionPut Fits a b type at d some place → IsCasePut a b (lower_cases_of (shape_of (component_types a) some)) at d place
   cases_put d h = subst (λ (s : Shape). IsCasePut a b (variant_cases s) at d place) h.shape h.put
 
   pub some_room : (d : ℕ) → at + size false (shape_of (component_types a) type) ≤ length a.memory → IsOptionPut Fits a b type at d some place → place + size false (shape_of (component_types b) some) ≤ length b.memory
@@ -36,7 +36,7 @@ module _ {D G : Type 0} (Fits : Instance → InterfaceType → Type 0) (a b : Pa
       let put = cases_put d h in
       let u = shape_of (component_types a) some in
       let same : size false (shape_of (component_types b) some) ≡ size false u = ap (λ (i : Instance). size false (shape_of i.types some)) (put_types a b at _ _ put.put) in
-      omega (arith, room, ap (size false) h.shape, same, put.inner, put.put.writes.same_length, (payloads_fit false of_option (cases_of u)).inside 1 (omega arith))
+      omega (arith, room, ap (size false) h.shape, same, put.inner, put.put.writes.same_length, (payloads_fit false of_option (lower_cases_of u)).inside 1 (omega arith))
 
   module _ (L : GuestLaws G) (options : ℕ) {A : Type 0} (Walks : A → Tree → Type 0) (gives : Instance → Shape → A → List (List Part)) (v : Option A) (room : at + size false (shape_of (component_types a) type) ≤ length a.memory) where
     abbrev Stored : Parts D G → Option A → Result (Unit {0}) Fault → Type 0
@@ -47,7 +47,7 @@ module _ {D G : Type 0} (Fits : Instance → InterfaceType → Type 0) (a b : Pa
         let u = shape_of (component_types a) some in
         let put = cases_put 0 h in
         subst (λ (w : Option A). Stored b w (Ok tt)) (sym is)
-        (case_stores L options (λ (x : Unit {0}) (t : Tree). Unit {0}) tt true a b b (shape_of (component_types a) type) u of_option (cases_of u) at 0 place [] (Ok tt) h.shape room (omega arith) (omega arith) refl put
+        (case_stores L options (λ (x : Unit {0}) (t : Tree). Unit {0}) tt true a b b (shape_of (component_types a) type) u of_option (lower_cases_of u) at 0 place [] (Ok tt) h.shape room (omega arith) (omega arith) refl put
         (members_nothing L options b 0 place (omega (arith, put.small, put.put.writes.same_length))))
 
     pub some_stores : (x : A) (c : Parts D G) (options2 : ℕ) (r : Result (Unit {0}) Fault) → v ≡ Some x → IsOptionPut Fits a b type at 1 some place → options2 ≡ options
@@ -61,5 +61,5 @@ module _ {D G : Type 0} (Fits : Instance → InterfaceType → Type 0) (a b : Pa
         let part : u ≡ case_shape 1 s = sym (ap (case_shape 1) h.shape) in
         let here : TypedStores L.seen L.moves options b c u place (Walks x) (gives i (case_shape 1 s) x) r = subst (λ (z : Shape). TypedStores L.seen L.moves options b c u place (Walks x) (gives i z x) r) part one in
         subst (λ (w : Option A). Stored c w r) (sym is)
-        (case_stores L options Walks x false a b c s u of_option (cases_of u) at 1 place (gives i (case_shape 1 s) x) r h.shape room (omega arith) (omega arith) refl put
+        (case_stores L options Walks x false a b c s u of_option (lower_cases_of u) at 1 place (gives i (case_shape 1 s) x) r h.shape room (omega arith) (omega arith) refl put
         (members_one L options b c u place (Walks x) (gives i (case_shape 1 s) x) r here))

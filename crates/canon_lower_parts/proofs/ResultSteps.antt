@@ -89,19 +89,19 @@ payload_fits unit F i p type is h = of_some unit (subst (IsPayloadOf unit F i) i
 module _ {D G : Type 0} (L : GuestLaws G) (options : ℕ) {A : Type 0} (Walks : A → Tree → Type 0) (gives : Instance → Shape → A → List (List Part))
     (F : Instance → InterfaceType → Type 0) (x : A) (unit : Bool) (a : Parts D G) (p : Option InterfaceType) (at : ℕ)
     (fits : IsPayloadOf unit F a.component.types p) where
-  abbrev pub Payload : Parts D G → Option InterfaceType → Result (Unit {0}) Fault → Type 0
-  Payload b q r = TypedMembersStore L.seen L.moves options a b (payload_members (unless_unit unit (payload_type (component_types a) q))) 0 at (PayloadTrees unit (Walks x)) (part_gives unit (gives a.component.types (payload_type (component_types a) q) x)) r
+  abbrev pub ResultPayload : Parts D G → Option InterfaceType → Result (Unit {0}) Fault → Type 0
+  ResultPayload b q r = TypedMembersStore L.seen L.moves options a b (payload_members (unless_unit unit (payload_type (component_types a) q))) 0 at (PayloadTrees unit (Walks x)) (part_gives unit (gives a.component.types (payload_type (component_types a) q) x)) r
 
-  pub no_payload : p ≡ None → length a.memory ≤ 2 ^ 32 → Payload a p (Ok tt)
-  no_payload is small = subst (λ (q : Option InterfaceType). Payload a q (Ok tt)) (sym is) (of_none unit (subst (IsPayloadOf unit F a.component.types) is fits))
+  pub no_payload : p ≡ None → length a.memory ≤ 2 ^ 32 → ResultPayload a p (Ok tt)
+  no_payload is small = subst (λ (q : Option InterfaceType). ResultPayload a q (Ok tt)) (sym is) (of_none unit (subst (IsPayloadOf unit F a.component.types) is fits))
     where
       of_none : (u : Bool) → IsPayloadOf u F a.component.types None
           → TypedMembersStore L.seen L.moves options a a (payload_members (unless_unit u (payload_type (component_types a) None))) 0 at (PayloadTrees u (Walks x)) (part_gives u (gives a.component.types (payload_type (component_types a) None) x)) (Ok tt)
       of_none true h = members_nothing L options a 0 at small
       of_none false h = absurd h
 
-  pub some_payload : (b : Parts D G) (type : InterfaceType) (r : Result (Unit {0}) Fault) → p ≡ Some type → TypedStores L.seen L.moves options a b (shape_of (component_types a) type) at (Walks x) (gives a.component.types (shape_of (component_types a) type) x) r → Payload b p r
-  some_payload b type r is h = subst (λ (q : Option InterfaceType). Payload b q r) (sym is) (of_some unit (subst (IsPayloadOf unit F a.component.types) is fits))
+  pub some_payload : (b : Parts D G) (type : InterfaceType) (r : Result (Unit {0}) Fault) → p ≡ Some type → TypedStores L.seen L.moves options a b (shape_of (component_types a) type) at (Walks x) (gives a.component.types (shape_of (component_types a) type) x) r → ResultPayload b p r
+  some_payload b type r is h = subst (λ (q : Option InterfaceType). ResultPayload b q r) (sym is) (of_some unit (subst (IsPayloadOf unit F a.component.types) is fits))
     where
       of_some : (u : Bool) → IsPayloadOf u F a.component.types (Some type)
           → TypedMembersStore L.seen L.moves options a b (payload_members (unless_unit u (payload_type (component_types a) (Some type)))) 0 at (PayloadTrees u (Walks x)) (part_gives u (gives a.component.types (payload_type (component_types a) (Some type)) x)) r
@@ -124,8 +124,8 @@ module _ {D G : Type 0} (unit : Bool) (F : Instance → InterfaceType → Type 0
   instance_put : b.component.types ≡ a.component.types
   instance_put = put_types a b at _ _ h.put.put
 
-  pub result_known : KnowsPayload (component_types b) part
-  result_known = subst (λ (i : Instance). KnowsPayload i.types part) (sym instance_put) h.known
+  pub lower_result_known : KnowsPayload (component_types b) part
+  lower_result_known = subst (λ (i : Instance). KnowsPayload i.types part) (sym instance_put) h.known
 
   pub ok_fits : d ≡ 0 → IsPayloadOf unit F b.component.types part
   ok_fits e = subst (λ (i : Instance). IsPayloadOf unit F i part) (sym instance_put) (subst (IsPayloadOf unit F a.component.types) (sym (h.part ∙ ap (λ (k : ℕ). pick k h.first h.second) e)) h.fits)

@@ -22,10 +22,10 @@ unfolding size
 scalar_few s k e = subst (λ (z : Shape). size false z ≤ 8) (sym e) (scalar_bytes k)
 
 module _ {D G : Type 0} (L : GuestLaws G) (options : ℕ) where
-  pub scalar_stores : (a b : Parts D G) (s : Shape) (k : Scalar) (at w bytes : ℕ) (Has : Tree → Type 0) → length a.memory ≤ 2 ^ 32 → s ≡ scalar k → at + size false s ≤ length a.memory → bytes ≡ size false s → IsPut a b at w bytes
+  pub lower_scalar_stores : (a b : Parts D G) (s : Shape) (k : Scalar) (at w bytes : ℕ) (Has : Tree → Type 0) → length a.memory ≤ 2 ^ 32 → s ≡ scalar k → at + size false s ≤ length a.memory → bytes ≡ size false s → IsPut a b at w bytes
       → IsWordOfScalar k Has w → TypedStores L.seen L.moves options a b s at Has [] (Ok tt)
   unfolding size
-  scalar_stores a b s k at w bytes Has small shape room is put (t, has, word, least) =
+  lower_scalar_stores a b s k at w bytes Has small shape room is put (t, has, word, least) =
       let (low, lowest) = least_low k w t word least in
       let few : bytes ≡ scalar_size k = is ∙ ap (size false) shape in
       let there : num (narrow b.memory) at (scalar_size k) ≡ w % 256 ^ scalar_size k = subst (λ (n : ℕ). num (narrow b.memory) at n ≡ w % 256 ^ n) few put.stored in

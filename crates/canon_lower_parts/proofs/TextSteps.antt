@@ -21,10 +21,10 @@ use Rattle.canon_types.specs.Table.{shape_of}
 use Rattle.canon_types.specs.declared.types.InterfaceType.{InterfaceType}
 use Rattle.canon_types.specs.declared.types.InterfaceType.TheVariants as ty
 use Rattle.canon_typed.specs.Meaning.{TextMeans}
-use Rattle.canon_lower_parts.proofs.Attempts.{cross_stopped, not_false}
+use Rattle.canon_lower_parts.proofs.Attempts.{cross_stopped, lower_not_false}
 use Rattle.canon_lower_parts.proofs.BlockSteps.{placed_stops, text_put}
-use Rattle.canon_value_parts.proofs.Passing.{ledger_unless, same_handles, same_ledger}
-use Rattle.canon_lower_parts.proofs.TooLarge.{text_small}
+use Rattle.canon_value_parts.proofs.Passing.{ledger_unless, same_handles, value_same_ledger}
+use Rattle.canon_lower_parts.proofs.TooLarge.{lower_text_small}
 use Rattle.canon_lower_parts.specs.Blames.{HasLarge, IsElsewhere}
 use Rattle.canon_lower_parts.specs.Places.{IsPairPut, IsPlacedPut, TypedPlaces, without_value}
 use Rattle.canon_lower_parts.specs.Stores.{TypedStores}
@@ -73,32 +73,32 @@ module _ {D G : Type 0} (L : GuestLaws G) (options : ℕ) (a b : Parts D G) (s :
         handles = λ t is. refl;
       }) h
 
-  pub text_placed : (p n : ℕ) → PutsText L.seen L.moves options a b (string_bytes s) (Ok (record { pointer = p; length = n })) → TypedPlaces L.seen L.moves options a b string (TextMeans s) [] (Ok (record { pointer = p; length = n }))
-  text_placed p n h = record {
+  pub lower_text_placed : (p n : ℕ) → PutsText L.seen L.moves options a b (string_bytes s) (Ok (record { pointer = p; length = n })) → TypedPlaces L.seen L.moves options a b string (TextMeans s) [] (Ok (record { pointer = p; length = n }))
+  lower_text_placed p n h = record {
     placed = record {
       handles = [];
       ending = done;
       ends = inl refl;
       attempt = as_string (p ∷ n ∷ []) done h.lowered;
-      passed = (refl, same_ledger a b h.same);
+      passed = (refl, value_same_ledger a b h.same);
       same = same_handles a b h.same;
-      quiet = λ none. absurd (not_false none);
+      quiet = λ none. absurd (lower_not_false none);
       cause = tt;
-      small = text_small (encoding_by a options) s h.fits;
+      small = lower_text_small (encoding_by a options) s h.fits;
     };
     narrow = h.narrow;
   }
 
-  pub text_unplaced : (e : Fault) → PutsText L.seen L.moves options a b (string_bytes s) (Err e) → TypedPlaces L.seen L.moves options a b string (TextMeans s) [] (Err e)
-  text_unplaced e h = record {
+  pub lower_text_unplaced : (e : Fault) → PutsText L.seen L.moves options a b (string_bytes s) (Err e) → TypedPlaces L.seen L.moves options a b string (TextMeans s) [] (Err e)
+  lower_text_unplaced e h = record {
     placed = record {
       handles = [];
       ending = fault_ending e;
       ends = inl refl;
       attempt = as_string [] (fault_ending e) h.lowered;
-      passed = cross_stopped a.ledger b.ledger [] e (same_ledger a b h.same) (ledger_unless e (λ r is. let (still, n, long, many) = h.blames (ap fault_ending is) in let other : e ≡ fault.Resource r = is in cc));
+      passed = cross_stopped a.ledger b.ledger [] e (value_same_ledger a b h.same) (ledger_unless e (λ r is. let (still, n, long, many) = h.blames (ap fault_ending is) in let other : e ≡ fault.Resource r = is in cc));
       same = same_handles a b h.same;
-      quiet = λ none. absurd (not_false none);
+      quiet = λ none. absurd (lower_not_false none);
       cause = λ t has. blamed t has (own_or_elsewhere e);
       small = tt;
     };
@@ -115,12 +115,12 @@ module _ {D G : Type 0} (L : GuestLaws G) (options : ℕ) (a b : Parts D G) (typ
   shape : shape_of (component_types a) type ≡ string
   shape = ap (shape_of (component_types a)) is
 
-  pub text_room : (r : Result Placed Fault) → TypedPlaces L.seen L.moves options a b string Has gs r → at + 8 ≤ length b.memory
+  pub lower_text_room : (r : Result Placed Fault) → TypedPlaces L.seen L.moves options a b string Has gs r → at + 8 ≤ length b.memory
   unfolding size
-  text_room r h = omega (arith, room, ap (size false) shape, h.placed.attempt.lowering.goes.no_shorter)
+  lower_text_room r h = omega (arith, room, ap (size false) shape, h.placed.attempt.lowering.goes.no_shorter)
 
   text_stores : (c : Parts D G) (x : Placed) → TypedPlaces L.seen L.moves options a b string Has gs (Ok x) → IsPairPut b c at x.pointer x.length → TypedStores L.seen L.moves options a c (shape_of (component_types a) type) at Has gs (Ok tt)
-  text_stores c x h w = subst (λ (s : Shape). TypedStores L.seen L.moves options a c s at Has gs (Ok tt)) (sym shape) (text_put L options a b c at Has gs x (text_room (Ok x) h) w h)
+  text_stores c x h w = subst (λ (s : Shape). TypedStores L.seen L.moves options a c s at Has gs (Ok tt)) (sym shape) (text_put L options a b c at Has gs x (lower_text_room (Ok x) h) w h)
 
   text_stops : (e : Fault) → TypedPlaces L.seen L.moves options a b string Has gs (Err e) → TypedStores L.seen L.moves options a b (shape_of (component_types a) type) at Has gs (Err e)
   text_stops e h = subst (λ (s : Shape). TypedStores L.seen L.moves options a b s at Has gs (Err e)) (sym shape) (placed_stops L options a b string at Has gs e refl h)

@@ -4,7 +4,7 @@ use Rattle.std.specs.declared.alloc.Global.{Global}
 use Rattle.canon_context.specs.declared.fault.Fault.{Fault}
 use Rattle.canon_context.specs.declared.fault.Fault.TheVariants as fault
 use Rattle.canon_lower_parts.proofs.Attempts.{AsLarge, EitherLarge, IsSmall}
-use Rattle.canon_lower_parts.proofs.Items.{each_count, row_some, row_trees, some_row}
+use Rattle.canon_lower_parts.proofs.Items.{lower_each_count, row_some, row_trees, some_row}
 use Rattle.canon_lower_parts.specs.Blames.{HasLarge, HaveLarge, IsTooLarge, SomeCase, SomeMember, SomePart}
 use Rattle.canon_lower_parts.specs.Words.{CaseOf}
 use Rattle.canon_lowering.proofs.AimedCases.{CaseIs}
@@ -31,7 +31,7 @@ module _ (enc : Encoding) where
   pub fixed_large : {A : Type 0} (n : ℕ) (s : Shape) (Walks : A → Tree → Type 0) (xs : List A) → length xs ≡ n → AsLarge (EachMeans Walks xs) (RowMeans Walks xs) (HaveLarge enc (copies n s)) (HasLarge enc (fixed n s))
   fixed_large n s Walks xs count t has =
       let each = row_trees Walks xs t has in
-      (trees_of t, each, λ e some. row_some (IsTooLarge enc e) n s (trees_of t) some, λ e some. some_row (IsTooLarge enc e) n s (trees_of t) (each_count Walks xs (trees_of t) each ∙ count) some)
+      (trees_of t, each, λ e some. row_some (IsTooLarge enc e) n s (trees_of t) some, λ e some. some_row (IsTooLarge enc e) n s (trees_of t) (lower_each_count Walks xs (trees_of t) each ∙ count) some)
 
   -- ---- cases
 
@@ -95,8 +95,8 @@ module _ (enc : Encoding) where
   block_small k s t n count few fit (fault.SizeOverflow m) (is, inr many) = omega (arith, ap (λ (x : ℕ). x * size false s) (is ∙ count), fit, many)
   block_small k s t n count few fit _ h = h
 
-  pub text_small : (s : String Global) → ((n : ℕ) → ¬ IsTooLong enc (string_bytes s) n) → IsSmall (TextMeans s) (HasLarge enc string)
-  text_small s fits t (cs, k, is, spelled) e some = none e (subst (λ u. HasLarge enc string e u) is some)
+  pub lower_text_small : (s : String Global) → ((n : ℕ) → ¬ IsTooLong enc (string_bytes s) n) → IsSmall (TextMeans s) (HasLarge enc string)
+  lower_text_small s fits t (cs, k, is, spelled) e some = none e (subst (λ u. HasLarge enc string e u) is some)
     where
       none : (e : Fault) → IsTooLarge enc e string (text cs k) → ⊥
       none (fault.StringTooLong n) (bytes, same, long) = fits n (subst (λ (bs : List ℕ). IsTooLong enc bs n) (sym same.is ∙ spelled.is) long)

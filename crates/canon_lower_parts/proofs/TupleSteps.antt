@@ -6,7 +6,7 @@ use Rattle.canon_context.specs.Core.{Parts, component_types}
 use Rattle.canon_context.specs.declared.fault.Fault.{Fault}
 use Rattle.canon_leaves.specs.Parts.{Part}
 use Rattle.canon_lower_parts.proofs.MemberSteps.{members_end as members_stop, members_more, members_nothing, product_stores}
-use Rattle.canon_lower_parts.proofs.TupleTypes.{IsNext, next_of, none_after, tuple_seen}
+use Rattle.canon_lower_parts.proofs.TupleTypes.{IsNextType, next_of, none_after, tuple_seen}
 use Rattle.canon_lower_parts.specs.Gives.{product_gives, row_gives}
 use Rattle.canon_lower_parts.specs.Stores.{TypedMembersStore, TypedStores}
 use Rattle.canon_lower_parts.specs.Tuples.{member_type, members_after, types_from}
@@ -28,7 +28,7 @@ module _ {D G : Type 0} (L : GuestLaws G) (options : ℕ) (a : Parts D G) (type 
   abbrev s : Shape
   s = shape_of (component_types a) (member_type (component_types a) type k)
 
-  next : IsNext Fit a.component.types type k
+  next : IsNextType Fit a.component.types type k
   next = next_of Fit all a.component.types type k are
 
   pub first_room : (at o m : ℕ) → at + members_end false o (members_after (component_types a) type k) ≤ m → at + ends false o s ≤ m
@@ -49,11 +49,11 @@ module _ {D G : Type 0} (L : GuestLaws G) (options : ℕ) (a : Parts D G) (type 
     )
 
     module _ (Has : Tree → Type 0) (Have : Trees → Type 0) (f : Instance → Shape → List (List Part)) (fs : Instance → List (Shape → List (List Part))) where
-      pub stored_more : (c : Parts D G) (options2 : ℕ) (r : Result (Unit {0}) Fault) → options2 ≡ options
+      pub lower_stored_more : (c : Parts D G) (options2 : ℕ) (r : Result (Unit {0}) Fault) → options2 ≡ options
           → TypedStores L.seen L.moves options a b s (at + begins false o s) Has (f a.component.types s) (Ok tt)
           → TypedMembersStore L.seen L.moves options2 b c (members_after (component_types b) type k2) o2 at Have (row_gives (members_after (component_types b) type k2) (fs b.component.types)) r
           → TypedMembersStore L.seen L.moves options a c (members_after (component_types a) type k) o at (FirstAnd Has Have) (row_gives (members_after (component_types a) type k) (f a.component.types ∷ fs a.component.types)) r
-      stored_more c options2 r eo one more =
+      lower_stored_more c options2 r eo one more =
           let rest : TypedMembersStore L.seen L.moves options b c (members_after (component_types a) type (k + 1)) (ends false o s) at Have (row_gives (members_after (component_types a) type (k + 1)) (fs a.component.types)) r =
           subst (λ (i : Instance). TypedMembersStore L.seen L.moves options b c (members_after i.types type (k + 1)) (ends false o s) at Have (row_gives (members_after i.types type (k + 1)) (fs i)) r) (handles_instance a b same)
           (subst (λ (n : ℕ). TypedMembersStore L.seen L.moves options b c (members_after (component_types b) type n) (ends false o s) at Have (row_gives (members_after (component_types b) type n) (fs b.component.types)) r) e

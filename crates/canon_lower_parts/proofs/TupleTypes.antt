@@ -26,7 +26,7 @@ tuple_seen all i _ h = absurd h
 -- ---- the members from number k on
 
 -- the first of them is of this Rust type
-pub record IsNext (Fit : Instance → InterfaceType → Type 0) (i : Instance) (type : InterfaceType) (k : ℕ) : Type 0 where
+pub record IsNextType (Fit : Instance → InterfaceType → Type 0) (i : Instance) (type : InterfaceType) (k : ℕ) : Type 0 where
   pub fit : Fit i (member_type i.types type k)
   pub members : members_after i.types type k ≡ member [] (shape_of i.types (member_type i.types type k)) (members_after i.types type (k + 1))
 
@@ -40,7 +40,7 @@ first_of Fit all i [] (suc k) h = absurd h
 first_of Fit all i (type ∷ types) zero h = record { fit = h.0; is = refl }
 first_of Fit all i (type ∷ types) (suc k) h = let f = first_of Fit all i types k h in record { fit = f.fit; is = f.is }
 
-pub next_of : (Fit : Instance → InterfaceType → Type 0) (all : List (Instance → InterfaceType → Type 0)) (i : Instance) (type : InterfaceType) (k : ℕ) → AreOf (Fit ∷ all) i (types_from i.types type k) → IsNext Fit i type k
+pub next_of : (Fit : Instance → InterfaceType → Type 0) (all : List (Instance → InterfaceType → Type 0)) (i : Instance) (type : InterfaceType) (k : ℕ) → AreOf (Fit ∷ all) i (types_from i.types type k) → IsNextType Fit i type k
 next_of Fit all i type k h =
     let f = first_of Fit all i (types_of_tuple i.types type) k h in
     let e : suc k ≡ k + 1 = omega arith in

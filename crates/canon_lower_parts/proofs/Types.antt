@@ -1,9 +1,8 @@
 -- What a look-up gives, where the table is that of the start.
-use Rattle.std.proofs.Common.{◌≡◌, ◌∙◌, Some, ap, arith, false, subst, sym, ℕ}
+use Rattle.std.proofs.Common.{◌≡◌, ◌∙◌, Some, arith, subst, sym, ℕ}
 use Rattle.canon_abi.specs.Abi.{HasInfo, HasLayout}
 use Rattle.canon_abi.specs.declared.abi.CanonicalAbiInfo.{CanonicalAbiInfo}
 use Rattle.canon_abi.specs.declared.abi.VariantInfo.{VariantInfo}
-use Rattle.canon_model.specs.Layout.{size}
 use Rattle.canon_model.specs.Shape.{option_of}
 use Rattle.canon_types.specs.Depth.{variant_cases}
 use Rattle.canon_types.specs.Instance.{Instance}
@@ -11,9 +10,6 @@ use Rattle.canon_types.specs.Table.{IsDefined, Knows, OptionType, TypeTable, sha
 use Rattle.canon_types.specs.declared.types.InterfaceType.{InterfaceType}
 use Rattle.canon_types.specs.declared.types.InterfaceType.TheVariants as ty
 use Rattle.canon_typed.specs.Types.{IsOptionOf}
-
-pub size_here : (t t2 : TypeTable) (type : InterfaceType) (abi : CanonicalAbiInfo) → t2 ≡ t → HasLayout abi (shape_of t2 type) → abi.size32 ≡ size false (shape_of t type)
-size_here t t2 type abi e h = (h.size false) ∙ ap (λ (x : TypeTable). size false (shape_of x type)) e
 
 pub layout_here : (t t2 : TypeTable) (type : InterfaceType) (abi : CanonicalAbiInfo) → t2 ≡ t → HasLayout abi (shape_of t2 type) → HasLayout abi (shape_of t type)
 layout_here t t2 type abi e h = subst (λ (x : TypeTable). HasLayout abi (shape_of x type)) e h

@@ -5,7 +5,7 @@ use Rattle.canon_context.specs.Core.{Parts, encoding_by, stage_of}
 use Rattle.canon_context.specs.Quiet.{has_block}
 use Rattle.canon_context.specs.declared.fault.Fault.{Fault}
 use Rattle.canon_leaves.specs.Parts.{Part}
-use Rattle.canon_lower_parts.proofs.Attempts.{ends_early, not_false}
+use Rattle.canon_lower_parts.proofs.Attempts.{ends_early, lower_not_false}
 use Rattle.canon_lower_parts.specs.Places.{TypedPlaces, block_words, without_value}
 use Rattle.canon_lower_parts.specs.Words.{TypedLowers}
 use Rattle.canon_lower_parts.specs.declared.blocks.Placed.{Placed}
@@ -23,9 +23,9 @@ pub text_flat : flat string ≡ 2
 unfolding flat
 text_flat = refl
 
-pub list_words : (z s : Shape) (k : ListKind) → z ≡ list k s → flat z ≡ 2
+pub lower_list_words : (z s : Shape) (k : ListKind) → z ≡ list k s → flat z ≡ 2
 unfolding flat
-list_words z s k e = ap flat e
+lower_list_words z s k e = ap flat e
 
 -- no more is asked of a list's tree
 pub rows_fit : (z s : Shape) (k : ListKind) → z ≡ list k s → (Has : Tree → Type 0) (t : Tree) → Has t → Fits z t
@@ -43,7 +43,7 @@ module _ {D G : Type 0} (L : GuestLaws G) (options : ℕ) (a b : Parts D G) (s :
         (subst (λ (n : ℕ). SameWords (x.pointer ∷ x.length ∷ []) 0 ws 0 n) (sym two) there) h.placed.attempt;
     passed = h.placed.passed;
     same = h.placed.same;
-    quiet = λ none. absurd (not_false (sym block ∙ none));
+    quiet = λ none. absurd (lower_not_false (sym block ∙ none));
     cause = tt;
     small = h.placed.small;
   }
@@ -57,7 +57,7 @@ module _ {D G : Type 0} (L : GuestLaws G) (options : ℕ) (a b : Parts D G) (s :
     attempt = attempt_other false (stage_of L.seen L.moves a) (stage_of L.seen L.moves b) [] _ (value_words false (host_texts (encoding_by a options)) s ws 0 Has) h.placed.ending (ends_early gs e h.placed.ending h.placed.ends) (λ t has. (has, refl)) h.placed.attempt;
     passed = h.placed.passed;
     same = h.placed.same;
-    quiet = λ none. absurd (not_false (sym block ∙ none));
+    quiet = λ none. absurd (lower_not_false (sym block ∙ none));
     cause = h.placed.cause;
     small = tt;
   }

@@ -7,7 +7,7 @@ use Rattle.canon_context.specs.Core.{Parts, encoding_by, stage_of}
 use Rattle.canon_context.specs.Quiet.{cases_have_block, has_block}
 use Rattle.canon_context.specs.declared.fault.Fault.{Fault}
 use Rattle.canon_leaves.specs.Parts.{Part}
-use Rattle.canon_lower_parts.proofs.Attempts.{Kept, typed_map, typed_none, typed_other}
+use Rattle.canon_lower_parts.proofs.Attempts.{AttemptKept, typed_map, typed_none, typed_other}
 use Rattle.canon_value_parts.proofs.Steps.{no_first, no_later}
 use Rattle.canon_lower_parts.proofs.TooLarge.{bare_small, case_large}
 use Rattle.canon_lower_parts.specs.Blames.{HasLarge}
@@ -107,7 +107,7 @@ module _ {D G : Type 0} (L : GuestLaws G) (options : ℕ) (a c : Parts D G) (s :
 
     whole : (ws : List ℕ) (r : Result (Unit {0}) Fault) → slice_index ws 0 ≡ d → AreZero ws (1 + flat u) (1 + cases_flat cs) → TypedLowers L.seen L.moves options a c u ws 1 Has gives r
         → TypedLowers L.seen L.moves options a c (variant k cs) ws 0 (CaseOf d Has) gives r
-    whole ws r tag zeros h = typed_map L a c [] [] (value_words false (host_texts enc) u ws 1 Has) (value_words false (host_texts enc) (variant k cs) ws 0 (CaseOf d Has)) gives (has_block u) (has_block (variant k cs)) (Kept a c)
+    whole ws r tag zeros h = typed_map L a c [] [] (value_words false (host_texts enc) u ws 1 Has) (value_words false (host_texts enc) (variant k cs) ws 0 (CaseOf d Has)) gives (has_block u) (has_block (variant k cs)) (AttemptKept a c)
         (HasLarge enc u) (HasLarge enc (variant k cs)) r (λ hs e g. with_payload ws e tag zeros g) (case_quiet cs d u one)
         (case_large enc k cs d u Has one) h
 
@@ -118,9 +118,9 @@ module _ {D G : Type 0} (L : GuestLaws G) (options : ℕ) (a c : Parts D G) (s :
     case_lowers ws (Err e) room h none =
         let zeros : AreZero (d ∷ []) (1 + flat u) (1 + cases_flat cs) = λ j l v. omega (arith, get_or_past (d ∷ []) j 0 (omega (arith, l))) in
         let there : TypedLowers L.seen L.moves options a c u (d ∷ []) 1 Has gives (Err e) =
-        typed_other L a c [] (value_words false (host_texts enc) u ws 1 Has) (value_words false (host_texts enc) u (d ∷ []) 1 Has) gives (has_block u) (Kept a c) (HasLarge enc u) e (λ t has. (has, refl)) h in
+        typed_other L a c [] (value_words false (host_texts enc) u ws 1 Has) (value_words false (host_texts enc) u (d ∷ []) 1 Has) gives (has_block u) (AttemptKept a c) (HasLarge enc u) e (λ t has. (has, refl)) h in
         subst (λ (z : Shape). TypedLowers L.seen L.moves options a c z ws 0 (CaseOf d Has) gives (Err e)) (sym shape)
-        (typed_other L a c [] (value_words false (host_texts enc) (variant k cs) (d ∷ []) 0 (CaseOf d Has)) (value_words false (host_texts enc) (variant k cs) ws 0 (CaseOf d Has)) gives (has_block (variant k cs)) (Kept a c) (HasLarge enc (variant k cs)) e
+        (typed_other L a c [] (value_words false (host_texts enc) (variant k cs) (d ∷ []) 0 (CaseOf d Has)) (value_words false (host_texts enc) (variant k cs) ws 0 (CaseOf d Has)) gives (has_block (variant k cs)) (AttemptKept a c) (HasLarge enc (variant k cs)) e
         (λ t has. (has, refl)) (whole (d ∷ []) (Err e) refl zeros there))
 
 -- ---- by the types' cases

@@ -10,7 +10,7 @@ use Rattle.canon_context.specs.Core.{Parts, encoding_by, stage_of}
 use Rattle.canon_context.specs.Quiet.{has_block, have_block}
 use Rattle.canon_context.specs.declared.fault.Fault.{Fault}
 use Rattle.canon_leaves.specs.Parts.{Part}
-use Rattle.canon_lower_parts.proofs.Attempts.{Kept, typed_map, typed_none, typed_stop, typed_then}
+use Rattle.canon_lower_parts.proofs.Attempts.{AttemptKept, typed_map, typed_none, typed_stop, typed_then}
 use Rattle.canon_value_parts.proofs.Passing.{handles_encoding}
 use Rattle.canon_value_parts.proofs.Steps.{no_first, no_later}
 use Rattle.canon_lower_parts.proofs.TooLarge.{first_large, product_large}
@@ -52,10 +52,10 @@ module _ {D G : Type 0} (L : GuestLaws G) (options : ℕ) where
 
   -- ---- a scalar
 
-  pub scalar_lowers : (a : Parts D G) (dst : List ℕ) (s : Shape) (k : Scalar) (Has : Tree → Type 0) (w : ℕ) → length a.memory ≤ 2 ^ 32 → s ≡ scalar k → length dst ≡ flat s → IsWordOfScalar k Has w
+  pub lower_scalar_lowers : (a : Parts D G) (dst : List ℕ) (s : Shape) (k : Scalar) (Has : Tree → Type 0) (w : ℕ) → length a.memory ≤ 2 ^ 32 → s ≡ scalar k → length dst ≡ flat s → IsWordOfScalar k Has w
       → Low a a s (set dst 0 w) 0 Has [] (Ok tt)
   unfolding flat
-  scalar_lowers a dst s k Has w small shape room (t, has, is, least) =
+  lower_scalar_lowers a dst s k Has w small shape room (t, has, is, least) =
       let here : w ≡ slice_index (set dst 0 w) 0 = sym (get_or-set_same dst 0 w 0 (omega (arith, room, ap flat shape))) in
       subst (λ (z : Shape). Low a a z (set dst 0 w) 0 Has [] (Ok tt)) (sym shape)
       (typed_none L a [] (value_words false (host_texts (encoding_by a options)) (scalar k) (set dst 0 w) 0 Has) (has_block (scalar k)) (HasLarge (encoding_by a options) (scalar k))
@@ -67,7 +67,7 @@ module _ {D G : Type 0} (L : GuestLaws G) (options : ℕ) where
   pub moved_lowers : (a c : Parts D G) (s : Shape) (ws vs : List ℕ) (i j : ℕ) (Has : Tree → Type 0) (gives : List (List Part)) (r : Result (Unit {0}) Fault) → ((t : Tree) → Has t → Fits s t) → SameWords ws i vs j (flat s)
       → Low a c s ws i Has gives r → Low a c s vs j Has gives r
   moved_lowers a c s ws vs i j Has gives r fits same h =
-      typed_map L a c [] [] (value_words false (host_texts (encoding_by a options)) s ws i Has) (value_words false (host_texts (encoding_by a options)) s vs j Has) gives (has_block s) (has_block s) (Kept a c)
+      typed_map L a c [] [] (value_words false (host_texts (encoding_by a options)) s ws i Has) (value_words false (host_texts (encoding_by a options)) s vs j Has) gives (has_block s) (has_block s) (AttemptKept a c)
       (HasLarge (encoding_by a options) s) (HasLarge (encoding_by a options) s) r
       (λ hs e k. words_moved false (stage_of L.seen L.moves a) (stage_of L.seen L.moves c) (host_texts (encoding_by a options)) s ws vs i j Has e fits same k) (λ e. e) (λ t has. (t, has, λ e b. b, λ e b. b)) h
 
@@ -88,20 +88,20 @@ module _ {D G : Type 0} (L : GuestLaws G) (options : ℕ) where
       → ((t : Tree) → Has t → Fits s t) → SameWords ws i vs i (flat s) → Low a b s ws i Has gs (Ok tt) → Lows b c ms vs (i + flat s) Have fs r → Lows a c (member [] s ms) vs i (FirstAnd Has Have) (gs ++ fs) r
   members_more a b c s ms ws vs i Has Have gs fs r fits same h k =
       let enc : Encoding = encoding_by a options in
-      let rest : TypedAttempt L.seen L.moves b c [] (members_words false (host_texts enc) ms vs (i + flat s) Have) fs (have_block ms) (Kept b c) (HaveLarge enc ms) r =
-      subst (λ (x : Encoding). TypedAttempt L.seen L.moves b c [] (members_words false (host_texts x) ms vs (i + flat s) Have) fs (have_block ms) (Kept b c) (HaveLarge x ms) r) (handles_encoding a b options h.same) k in
+      let rest : TypedAttempt L.seen L.moves b c [] (members_words false (host_texts enc) ms vs (i + flat s) Have) fs (have_block ms) (AttemptKept b c) (HaveLarge enc ms) r =
+      subst (λ (x : Encoding). TypedAttempt L.seen L.moves b c [] (members_words false (host_texts x) ms vs (i + flat s) Have) fs (have_block ms) (AttemptKept b c) (HaveLarge x ms) r) (handles_encoding a b options h.same) k in
       typed_then L a b c [] [] [] (value_words false (host_texts enc) s ws i Has) (members_words false (host_texts enc) ms vs (i + flat s) Have) (members_words false (host_texts enc) (member [] s ms) vs i (FirstAnd Has Have)) gs fs
-      (has_block s) (have_block ms) (have_block (member [] s ms)) (Kept a b) (Kept b c) (Kept a c) (HasLarge enc s) (HaveLarge enc ms) (HaveLarge enc (member [] s ms)) r
+      (has_block s) (have_block ms) (have_block (member [] s ms)) (AttemptKept a b) (AttemptKept b c) (AttemptKept a c) (HasLarge enc s) (HaveLarge enc ms) (HaveLarge enc (member [] s ms)) r
       (λ hs ks e first second. members_words_cons false (host_texts enc) [] s ms i Has Have vs (stage_of L.seen L.moves a) (stage_of L.seen L.moves b) (stage_of L.seen L.moves c) ws e fits same first second)
       (λ none. (no_first (has_block s) (have_block ms) none, no_later (has_block s) (have_block ms) none)) (λ one two. two ∙ ap (λ (x : Parts D G). record x { ledger = c.ledger }) one)
       (first_large enc s ms Has Have) h rest
 
   -- a first one fails
-  pub members_stop : (a b : Parts D G) (s : Shape) (ms : Members) (ws : List ℕ) (i : ℕ) (Has : Tree → Type 0) (Have : Trees → Type 0) (gs fs : List (List Part)) (e : Fault) → Low a b s ws i Has gs (Err e)
+  pub lower_members_stop : (a b : Parts D G) (s : Shape) (ms : Members) (ws : List ℕ) (i : ℕ) (Has : Tree → Type 0) (Have : Trees → Type 0) (gs fs : List (List Part)) (e : Fault) → Low a b s ws i Has gs (Err e)
       → Lows a b (member [] s ms) ws i (FirstAnd Has Have) (gs ++ fs) (Err e)
-  members_stop a b s ms ws i Has Have gs fs e h =
+  lower_members_stop a b s ms ws i Has Have gs fs e h =
       let enc : Encoding = encoding_by a options in
-      typed_stop L a b [] [] (value_words false (host_texts enc) s ws i Has) Have (members_words false (host_texts enc) (member [] s ms) ws i (FirstAnd Has Have)) gs fs (has_block s) (have_block (member [] s ms)) (Kept a b)
+      typed_stop L a b [] [] (value_words false (host_texts enc) s ws i Has) Have (members_words false (host_texts enc) (member [] s ms) ws i (FirstAnd Has Have)) gs fs (has_block s) (have_block (member [] s ms)) (AttemptKept a b)
       (HasLarge enc s) (HaveLarge enc ms) (HaveLarge enc (member [] s ms)) e
       (λ hs d not first. members_words_stop false (host_texts enc) [] s ms i Has Have ws (stage_of L.seen L.moves a) (stage_of L.seen L.moves b) ws d not first) (no_first (has_block s) (have_block ms))
       (first_large enc s ms Has Have) h
@@ -111,11 +111,11 @@ module _ {D G : Type 0} (L : GuestLaws G) (options : ℕ) where
   product_lowers a c s k ms ws Have gives r shape h =
       let enc : Encoding = encoding_by a options in
       subst (λ (z : Shape). Low a c z ws 0 (ProductMeans Have) gives r) (sym shape)
-      (typed_map L a c [] [] (members_words false (host_texts enc) ms ws 0 Have) (value_words false (host_texts enc) (product k ms) ws 0 (ProductMeans Have)) gives (have_block ms) (has_block (product k ms)) (Kept a c)
+      (typed_map L a c [] [] (members_words false (host_texts enc) ms ws 0 Have) (value_words false (host_texts enc) (product k ms) ws 0 (ProductMeans Have)) gives (have_block ms) (has_block (product k ms)) (AttemptKept a c)
       (HaveLarge enc ms) (HasLarge enc (product k ms)) r
       (λ hs e m. product_words false (stage_of L.seen L.moves a) (stage_of L.seen L.moves c) (host_texts enc) k ms ws 0 Have (ProductMeans Have) e (λ ts have. (ts, refl, have)) (λ t (ts, e2, have). subst Have (sym (ap trees_of e2)) have) m) (λ e. e)
       (product_large enc k ms Have) h)
 
-pub scalar_room : (s : Shape) (k : Scalar) (dst : List ℕ) → s ≡ scalar k → length dst ≡ flat s → 0 < length dst
+pub lower_scalar_room : (s : Shape) (k : Scalar) (dst : List ℕ) → s ≡ scalar k → length dst ≡ flat s → 0 < length dst
 unfolding flat
-scalar_room s k dst shape room = omega (arith, room, ap flat shape)
+lower_scalar_room s k dst shape room = omega (arith, room, ap flat shape)

@@ -7,8 +7,8 @@ use Rattle.canon_context.specs.declared.fault.Fault.{Fault}
 use Rattle.canon_leaves.specs.Parts.{Part}
 use Rattle.canon_value_parts.proofs.Passing.{handles_instance, handles_then, handles_types}
 use Rattle.canon_lower_parts.proofs.TupleSteps.{no_tuple_gives}
-use Rattle.canon_lower_parts.proofs.TupleTypes.{IsNext, next_of, none_after, tuple_seen}
-use Rattle.canon_lower_parts.proofs.WordSteps.{members_more, members_none, members_stop, product_lowers}
+use Rattle.canon_lower_parts.proofs.TupleTypes.{IsNextType, next_of, none_after, tuple_seen}
+use Rattle.canon_lower_parts.proofs.WordSteps.{members_more, members_none, lower_members_stop, product_lowers}
 use Rattle.canon_value_parts.proofs.WordSteps.{first_stay, stays_then}
 use Rattle.canon_lower_parts.specs.Gives.{product_gives, row_gives}
 use Rattle.canon_lower_parts.specs.Tuples.{member_type, members_after, types_from}
@@ -28,9 +28,9 @@ use Rattle.canon_typed.specs.Types.{AreOf, IsTupleOf}
 
 -- ---- members
 
-pub members_words : (s : Shape) (ms : Members) → members_flat (member [] s ms) ≡ flat s + members_flat ms
+pub lower_members_words : (s : Shape) (ms : Members) → members_flat (member [] s ms) ≡ flat s + members_flat ms
 unfolding flat
-members_words s ms = refl
+lower_members_words s ms = refl
 
 module _ {D G : Type 0} (seen : G → Seen) (moves : GuestIn G → List Event → GuestIn G → Type 0) (options : ℕ) (start : Parts D G) (whole : Members) (Have : Trees → Type 0) (gives : List (List Part)) where
   -- before the members `rest`, whose words begin at `at` and were `ws` until now
@@ -42,14 +42,14 @@ module _ {D G : Type 0} (seen : G → Seen) (moves : GuestIn G → List Event �
         → TypedMembersLower seen moves options start c whole vs 0 Have gives r
 
 module _ {D G : Type 0} (L : GuestLaws G) (options : ℕ) (start : Parts D G) (whole : Members) (Have : Trees → Type 0) (gives : List (List Part)) where
-  abbrev Done : Parts D G → ℕ → List ℕ → ℕ → Members → (Trees → Type 0) → List (List Part) → Type 0
-  Done now opts ws at rest HaveRest left = MembersDone L.seen L.moves options start whole Have gives now opts ws at rest HaveRest left
+  abbrev TupleDone : Parts D G → ℕ → List ℕ → ℕ → Members → (Trees → Type 0) → List (List Part) → Type 0
+  TupleDone now opts ws at rest HaveRest left = MembersDone L.seen L.moves options start whole Have gives now opts ws at rest HaveRest left
 
-  pub done_none : (ws : List ℕ) → members_flat whole ≤ length ws → Done start options ws 0 whole Have gives
+  pub done_none : (ws : List ℕ) → members_flat whole ≤ length ws → TupleDone start options ws 0 whole Have gives
   done_none ws room = record { same = refl; same_options = refl; room = omega (arith, room); completes = λ c vs r stays h. h }
 
   module _ (now : Parts D G) (opts : ℕ) (ws : List ℕ) (at : ℕ) (type : InterfaceType) (ms : Members) (Has : Tree → Type 0) (HaveRest : Trees → Type 0) (f : Instance → Shape → List (List Part)) (left : List (List Part))
-      (h : Done now opts ws at (member [] (shape_of (component_types start) type) ms) (FirstAnd Has HaveRest) (f start.component.types (shape_of (component_types start) type) ++ left)) where
+      (h : TupleDone now opts ws at (member [] (shape_of (component_types start) type) ms) (FirstAnd Has HaveRest) (f start.component.types (shape_of (component_types start) type) ++ left)) where
     abbrev s : Shape
     s = shape_of (component_types start) type
 
@@ -57,7 +57,7 @@ module _ {D G : Type 0} (L : GuestLaws G) (options : ℕ) (start : Parts D G) (w
     same_shape = ap (λ (x : TypeTable). shape_of x type) (handles_types start now h.same)
 
     pub done_room : at + flat (shape_of (component_types now) type) ≤ length ws
-    done_room = omega (arith, h.room, members_words s ms, ap flat same_shape)
+    done_room = omega (arith, h.room, lower_members_words s ms, ap flat same_shape)
 
     -- lowering the next one, said of the core now
     abbrev pub Next : Parts D G → List ℕ → Result (Unit {0}) Fault → Type 0
@@ -68,23 +68,23 @@ module _ {D G : Type 0} (L : GuestLaws G) (options : ℕ) (start : Parts D G) (w
         (subst (λ (i : Instance). TypedLowers L.seen L.moves opts now c (shape_of i.types type) vs at Has (f i (shape_of i.types type)) r) (handles_instance start now h.same) low)
 
     pub done_more : (c : Parts D G) (opts2 : ℕ) (vs : List ℕ) (at2 : ℕ) → ((t : Tree) → Has t → Fits s t) → WordsStay at ws vs → at2 ≡ at + flat (shape_of (component_types now) type) → opts2 ≡ opts → Next c vs (Ok tt)
-        → Done c opts2 vs at2 ms HaveRest left
+        → TupleDone c opts2 vs at2 ms HaveRest left
     done_more c opts2 vs at2 fits stays end eo low =
         let here : TypedLowers L.seen L.moves options now c s vs at Has (f start.component.types s) (Ok tt) = of_start c vs (Ok tt) low in
         let to : at2 ≡ at + flat s = end ∙ ap (λ (n : ℕ). at + n) (ap flat same_shape) in
         record {
           same = handles_then start now c h.same here.same;
           same_options = eo ∙ h.same_options;
-          room = omega (arith, h.room, members_words s ms, to, stays.same_length);
+          room = omega (arith, h.room, lower_members_words s ms, to, stays.same_length);
           completes = λ d us r more k. h.completes d us r (stays_then at at2 ws vs us (omega (arith, to)) stays more)
               (members_more L options now c d s ms vs us at Has HaveRest (f start.component.types s) left r fits (first_stay at at2 (flat s) vs us to more) here
               (subst (λ (n : ℕ). TypedMembersLower L.seen L.moves options c d ms us n HaveRest left r) to k));
         }
 
     pub done_stop : (c : Parts D G) (vs : List ℕ) (e : Fault) → WordsStay at ws vs → Next c vs (Err e) → TypedMembersLower L.seen L.moves options start c whole vs 0 Have gives (Err e)
-    done_stop c vs e stays low = h.completes c vs (Err e) stays (members_stop L options now c s ms vs at Has HaveRest (f start.component.types s) left e (of_start c vs (Err e) low))
+    done_stop c vs e stays low = h.completes c vs (Err e) stays (lower_members_stop L options now c s ms vs at Has HaveRest (f start.component.types s) left e (of_start c vs (Err e) low))
 
-  pub done_end : (now : Parts D G) (opts : ℕ) (ws : List ℕ) (at : ℕ) → length now.memory ≤ 2 ^ 32 → Done now opts ws at no_members NoTrees [] → TypedMembersLower L.seen L.moves options start now whole ws 0 Have gives (Ok tt)
+  pub done_end : (now : Parts D G) (opts : ℕ) (ws : List ℕ) (at : ℕ) → length now.memory ≤ 2 ^ 32 → TupleDone now opts ws at no_members NoTrees [] → TypedMembersLower L.seen L.moves options start now whole ws 0 Have gives (Ok tt)
   done_end now opts ws at small h = h.completes now ws (Ok tt) (record { same_length = refl; before = λ p l. refl }) (members_none L options now ws at small)
 
 -- ---- the first member of a tuple, and the others
@@ -94,11 +94,11 @@ module _ {D G : Type 0} (L : GuestLaws G) (options : ℕ) (a : Parts D G) (type 
   abbrev part : Shape
   part = shape_of (component_types a) (member_type (component_types a) type k)
 
-  next : IsNext Fit a.component.types type k
+  next : IsNextType Fit a.component.types type k
   next = next_of Fit all a.component.types type k are
 
   pub first_room : (at m : ℕ) → at + members_flat (members_after (component_types a) type k) ≤ m → at + flat part ≤ m
-  first_room at m room = omega (arith, room, ap members_flat next.members, members_words part (members_after (component_types a) type (k + 1)))
+  first_room at m room = omega (arith, room, ap members_flat next.members, lower_members_words part (members_after (component_types a) type (k + 1)))
 
   module _ (b : Parts D G) (same : SameButHandles a b) (k2 : ℕ) (e : k2 ≡ k + 1) (at at2 : ℕ) (end : at2 ≡ at + flat part) where
     pub later_room : (m m2 : ℕ) → m2 ≡ m → at + members_flat (members_after (component_types a) type k) ≤ m → at2 + members_flat (members_after (component_types b) type k2) ≤ m2
@@ -108,7 +108,7 @@ module _ {D G : Type 0} (L : GuestLaws G) (options : ℕ) (a : Parts D G) (type 
       room,
       end,
       ap members_flat next.members,
-      members_words part (members_after (component_types a) type (k + 1)),
+      lower_members_words part (members_after (component_types a) type (k + 1)),
       ap (λ (t : TypeTable). members_flat (members_after t type k2)) (handles_types a b same),
       ap (λ (n : ℕ). members_flat (members_after (component_types a) type n)) e,
     )
@@ -133,7 +133,7 @@ module _ {D G : Type 0} (L : GuestLaws G) (options : ℕ) (a : Parts D G) (type 
       → TypedMembersLower L.seen L.moves options a b (members_after (component_types a) type k) ws at (FirstAnd Has Have) (row_gives (members_after (component_types a) type k) (f a.component.types ∷ fs a.component.types)) (Err e)
   lowered_stop b ws at Has Have f fs e one =
       subst (λ (ms : Members). TypedMembersLower L.seen L.moves options a b ms ws at (FirstAnd Has Have) (row_gives ms (f a.component.types ∷ fs a.component.types)) (Err e)) (sym next.members)
-      (members_stop L options a b part (members_after (component_types a) type (k + 1)) ws at Has Have (f a.component.types part) (row_gives (members_after (component_types a) type (k + 1)) (fs a.component.types)) e one)
+      (lower_members_stop L options a b part (members_after (component_types a) type (k + 1)) ws at Has Have (f a.component.types part) (row_gives (members_after (component_types a) type (k + 1)) (fs a.component.types)) e one)
 
 pub lowered_none : {D G : Type 0} (L : GuestLaws G) (options : ℕ) (a : Parts D G) (type : InterfaceType) (k : ℕ) (ws : List ℕ) (at : ℕ) → length a.memory ≤ 2 ^ 32 → AreOf [] a.component.types (types_from (component_types a) type k)
     → TypedMembersLower L.seen L.moves options a a (members_after (component_types a) type k) ws at NoTrees (row_gives (members_after (component_types a) type k) []) (Ok tt)

@@ -13,15 +13,15 @@ use Rattle.canon_typed.specs.Types.{IsPayloadOf}
 
 -- ---- cases
 
-pub case_room : (s : Shape) (d : ℕ) (p : Option Shape) → HasCase s d p → 1 + members_flat (payload_members p) ≤ flat s
-case_room s d p h = omega (arith, ap flat h.shape, variant_flat h.kind h.cases, payload_words h.cases d, ap members_flat h.members)
+pub lower_case_room : (s : Shape) (d : ℕ) (p : Option Shape) → HasCase s d p → 1 + members_flat (payload_members p) ≤ flat s
+lower_case_room s d p h = omega (arith, ap flat h.shape, variant_flat h.kind h.cases, payload_words h.cases d, ap members_flat h.members)
 
 pub bare_room : (s : Shape) (d : ℕ) → HasCase s d None → 1 ≤ flat s
-bare_room s d h = omega (arith, case_room s d None h)
+bare_room s d h = omega (arith, lower_case_room s d None h)
 
 pub some_room : (s : Shape) (d : ℕ) (u : Shape) → HasCase s d (Some u) → 1 + flat u ≤ flat s
 unfolding flat
-some_room s d u h = omega (arith, case_room s d (Some u) h)
+some_room s d u h = omega (arith, lower_case_room s d (Some u) h)
 
 pub option_none : (s u : Shape) → s ≡ option_of u → HasCase s 0 None
 option_none s u e = record { kind = of_option; cases = bare [] (payload [] u no_cases); shape = e; inside = omega arith; members = refl }

@@ -19,7 +19,7 @@ use Rattle.canon_memory.specs.Realloc.{block}
 use Rattle.canon_lowering.specs.Steps.{Apart, Writes}
 use Rattle.canon_lowering.specs.Lowering.{Ending, done}
 use Rattle.canon_lowering.specs.Attempt.{StoresMembers, StoresValue, handle_numbers, members_at, members_span, value_at, value_place}
-use Rattle.canon_lowering.proofs.Attempts.{FirstAnd, IsFramed, Joins, Keeps, Turns, attempt_as, attempt_stop, attempt_then, attempt_write, keeps_same, with_blocks, within_block}
+use Rattle.canon_lowering.proofs.Attempts.{FirstAnd, IsFramed, Joins, AttemptKeeps, Turns, attempt_as, attempt_stop, attempt_then, attempt_write, keeps_same, with_blocks, within_block}
 use Rattle.canon_lowering.specs.Copies.{copies}
 use Rattle.canon_lowering.proofs.Copying.{copies_ask, copies_end, copies_home, copies_leaves, copies_stored}
 use Rattle.canon_lowering.proofs.Kept.{homes_along, members_home_along}
@@ -31,7 +31,7 @@ handle_numbers_append (x ∷ xs) ys = ap (λ hs. x.index ∷ hs) (handle_numbers
 
 -- ---- what is read stays
 
-module _ (wide : Bool) (texts : Texts) (blocks more : List Block) (xs ys : List ℕ) (k : Keeps blocks more xs ys) where
+module _ (wide : Bool) (texts : Texts) (blocks more : List Block) (xs ys : List ℕ) (k : AttemptKeeps blocks more xs ys) where
   pub reads_more : (a n : ℕ) → InsideBlocks blocks (memory_of xs wide) a n → InsideBlocks more (memory_of ys wide) a n
   reads_more a n h = (omega (arith, h.0, k.longer), λ i l u. k.wider i (h.1 i l u))
 

@@ -16,7 +16,7 @@ use Rattle.canon_lowering.specs.Lowering.{Ending, done}
 use Rattle.canon_lowering.specs.Attempt.{LowersMembers, LowersValue, handle_numbers, members_words, value_words}
 use Rattle.canon_lowering.specs.Copies.{copies}
 use Rattle.canon_lowering.proofs.AimedAt.{handle_numbers_append, reads_more, reads_same}
-use Rattle.canon_lowering.proofs.Attempts.{IsFramed, Joins, Keeps, attempt_as, attempt_none, attempt_other, attempt_stop, attempt_then, keeps_same, FirstAnd}
+use Rattle.canon_lowering.proofs.Attempts.{IsFramed, Joins, AttemptKeeps, attempt_as, attempt_none, attempt_other, attempt_stop, attempt_then, keeps_same, FirstAnd}
 use Rattle.canon_lowering.proofs.Copying.{copies_ask, copies_flat_home, copies_in_words, copies_leaves}
 use Rattle.canon_lowering.proofs.Lowerings.{NotDone}
 use Rattle.canon_model.specs.Fits.{Fits}
@@ -24,7 +24,7 @@ use Rattle.canon_lowering.proofs.WordsKept.{flat_homes_kept, flat_homes_moved, m
 
 -- ---- what is read stays
 
-module _ (wide : Bool) (texts : Texts) (blocks more : List Block) (xs ys : List ℕ) (k : Keeps blocks more xs ys) (ws vs : List ℕ) where
+module _ (wide : Bool) (texts : Texts) (blocks more : List Block) (xs ys : List ℕ) (k : AttemptKeeps blocks more xs ys) (ws vs : List ℕ) where
   pub flat_kept : (s : Shape) (i j : ℕ) (t : Tree) → SameWords ws i vs j (flat s) → Flat (InsideBlocks blocks (memory_of xs wide)) true texts.encoding (memory_of xs wide) ws s i t → Flat (InsideBlocks more (memory_of ys wide)) true texts.encoding (memory_of ys wide) vs s j t
   flat_kept s i j t same h = flat_along _ _ true true (λ e. e) texts.encoding xs ys wide (reads_more wide texts blocks more xs ys k) (reads_same wide texts blocks more xs ys k) ws vs s i j t same h
 

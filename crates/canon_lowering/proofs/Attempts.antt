@@ -12,21 +12,21 @@ use Rattle.canon_lowering.specs.Steps.{Apart, Writes}
 use Rattle.canon_lowering.specs.Lowering.{AllLawful, Answer, AtMostOne, BeginsWith, Ending, Granted, Lowering, Reallocated, Requested, UnlessShort, WhenDone, addresses_of, done, events_of, misaligned, out_of_bounds, refused, short, trapped}
 use Rattle.canon_memory.specs.declared.event.Event.{Event}
 use Rattle.canon_lowering.specs.Attempt.{Aim, AreHeld, Attempt, Shown}
-use Rattle.canon_lowering.proofs.Lowerings.{NotDone, addresses_append, answer, lowering_anew, lowering_filled, lowering_write, requested_cons, requested_stopped, stopped, stopped_asked, in_first, in_second, lawful_first, lawful_second, lowering_none, lowering_refused, lowering_then, lowering_within, requested_later, requested_none, requested_part, requested_then, tidy_first, tidy_second, when, when_not}
+use Rattle.canon_lowering.proofs.Lowerings.{NotDone, addresses_append, answer, lowering_anew, lowering_filled, lowering_write, requested_cons, requested_stopped, lowering_stopped, stopped_asked, in_first, in_second, lawful_first, lawful_second, lowering_none, lowering_refused, lowering_then, lowering_within, requested_later, requested_none, requested_part, requested_then, tidy_first, tidy_second, when, when_not}
 
 -- blocks of one memory whose bytes another memory keeps, among these blocks
-pub record Keeps (blocks more : List Block) (xs ys : List ℕ) : Type 0 where
+pub record AttemptKeeps (blocks more : List Block) (xs ys : List ℕ) : Type 0 where
   pub longer : length xs ≤ length ys
   pub kept : (i : ℕ) → i < length xs → InBlocks blocks i → slice_index ys i ≡ slice_index xs i
   pub wider : Within blocks more
 
-pub keeps_same : (blocks more : List Block) (xs : List ℕ) → Within blocks more → Keeps blocks more xs xs
+pub keeps_same : (blocks more : List Block) (xs : List ℕ) → Within blocks more → AttemptKeeps blocks more xs xs
 keeps_same blocks more xs w = record { longer = omega arith; kept = λ i lt h. refl; wider = w }
 
 -- what an aim's representation and its homes need: bytes of blocks
 pub record IsFramed {X : Type 0} (wide : Bool) (aim : Aim X) : Type 0 where
-  pub rep : (blocks more : List Block) (xs ys : List ℕ) → Keeps blocks more xs ys → (x : X) → aim.Rep blocks xs x → aim.Rep more ys x
-  pub home : (blocks more : List Block) (xs ys : List ℕ) → Keeps blocks more xs ys → (x : X) (ps qs : List ℕ) → aim.Rep blocks xs x → aim.Home (PointsTo (memory_of xs wide)) x ps qs
+  pub rep : (blocks more : List Block) (xs ys : List ℕ) → AttemptKeeps blocks more xs ys → (x : X) → aim.Rep blocks xs x → aim.Rep more ys x
+  pub home : (blocks more : List Block) (xs ys : List ℕ) → AttemptKeeps blocks more xs ys → (x : X) (ps qs : List ℕ) → aim.Rep blocks xs x → aim.Home (PointsTo (memory_of xs wide)) x ps qs
       → aim.Home (PointsTo (memory_of ys wide)) x ps qs
 
 -- ---- places
@@ -72,7 +72,7 @@ module _ {K : Type 0} {X Y Z : Type 0} (wide : Bool) (a b c : Stage K) (p q big 
     (f1 : IsFramed wide first) (f2 : IsFramed wide second) (inside : Within p big) (inside2 : Within q big) (apart : Apart p q) where
   module _ {hs : List ℕ} (h : Attempt wide a b p first hs done) where
     -- what the first showed is kept by the second
-    first_kept : {ks : List ℕ} (r : Attempt wide b c q second ks done) → AllLawful (h.answers ++ r.answers) → AreHeld a (h.answers ++ r.answers) big → Keeps (p ++ h.fresh) (big ++ (r.fresh ++ h.fresh)) b.bytes c.bytes
+    first_kept : {ks : List ℕ} (r : Attempt wide b c q second ks done) → AllLawful (h.answers ++ r.answers) → AreHeld a (h.answers ++ r.answers) big → AttemptKeeps (p ++ h.fresh) (big ++ (r.fresh ++ h.fresh)) b.bytes c.bytes
     first_kept r all held =
         let step = h.lowering.lawful tt (lawful_first h.answers r.answers all) in
         let step2 = r.lowering.lawful tt (lawful_second h.answers r.answers all) in
@@ -96,7 +96,7 @@ module _ {K : Type 0} {X Y Z : Type 0} (wide : Bool) (a b c : Stage K) (p q big 
         let held1 : AreHeld a (h.answers ++ r.answers) big → AreHeld a h.answers p = λ held. held_before a h.answers r.answers big p inside held in
         let held2 : AllLawful (h.answers ++ r.answers) → AreHeld a (h.answers ++ r.answers) big → AreHeld b r.answers q =
         λ all held. held_after a b h.answers r.answers big q (h.lowering.lawful tt (lawful_first h.answers r.answers all)).old_live inside2 held in
-        let more : Keeps (q ++ r.fresh) (big ++ (r.fresh ++ h.fresh)) c.bytes c.bytes = keeps_same _ _ _
+        let more : AttemptKeeps (q ++ r.fresh) (big ++ (r.fresh ++ h.fresh)) c.bytes c.bytes = keeps_same _ _ _
         (λ i k. ⊎_elim (λ at. in_left big (r.fresh ++ h.fresh) i (inside2 i at)) (λ new. in_right big (r.fresh ++ h.fresh) i (in_left r.fresh h.fresh i new)) (in_either q r.fresh i k)) in
         record {
           it = join h.shown.it r.shown.it;
@@ -242,7 +242,7 @@ module _ {K : Type 0} {X Y : Type 0} (wide : Bool) (a b d : Stage K) (c : Call) 
   attempt_block {hs = hs} r =
       let fresh : List Block = r.fresh ++ area ∷ [] in
       let held : AllLawful (x ∷ r.answers) → AreHeld b r.answers places = λ all. inl (λ i h. (asked.lawful tt (all.0, tt)).fresh_live i (inside i h)) in
-      let more : Keeps (places ++ r.fresh) fresh d.bytes d.bytes = keeps_same _ _ _ (λ i h. ⊎_elim (λ q. in_right r.fresh (area ∷ []) i (inside i q)) (λ q. in_left r.fresh (area ∷ []) i q) (in_either places r.fresh i h)) in
+      let more : AttemptKeeps (places ++ r.fresh) fresh d.bytes d.bytes = keeps_same _ _ _ (λ i h. ⊎_elim (λ q. in_right r.fresh (area ∷ []) i (inside i q)) (λ q. in_left r.fresh (area ∷ []) i q) (in_either places r.fresh i h)) in
       record {
         answers = x ∷ r.answers;
         trap = r.trap;
@@ -275,7 +275,7 @@ module _ {K : Type 0} {X Y : Type 0} (wide : Bool) (a b d : Stage K) (c : Call) 
 pub attempt_ungiven : {K : Type 0} {Y : Type 0} {hs : List ℕ} (wide : Bool) (a b : Stage K) (c : Call) (p : ℕ) (places : List Block) (whole : Aim Y) (e : Ending) → NotDone e → length b.bytes ≤ 2 ^ 32
     → ((y : Y) → whole.Is y → (r : Request) × (rs : List Request) × (whole.asks y ≡ r ∷ rs) × ((last : ℕ) → c ≡ call_of last r)) → Reallocated a b c e p → Attempt wide a b places whole hs e
 attempt_ungiven wide a b c p places whole e not small asks h =
-    let r = stopped a b c e p not small h in
+    let r = lowering_stopped a b c e p not small h in
     record {
       answers = r.answers;
       trap = r.trap;

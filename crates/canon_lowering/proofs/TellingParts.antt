@@ -48,8 +48,8 @@ module _ (enc : Encoding) (m : Memory) where
   pub told_product : (k : ProductKind) (ms : Members) (a : ℕ) (ts : Trees) → Inside m a (size m.wide (product k ms)) → StandWith enc m ms 0 a ts → StandsWith enc m (product k ms) a (parts ts)
   told_product k ms a ts room (us, rs, h) = (parts us, (room, (us, refl, rs)), (ts, refl, h))
 
-  pub product_told : (k : ProductKind) (ms : Members) (a : ℕ) (t : Tree) → StandsWith enc m (product k ms) a t → StandWith enc m ms 0 a (trees_of t)
-  product_told k ms a t (u, (room, (us, e, rs)), h) = let (ts, f, hs) = subst (λ w. Handed w t) e h in (us, rs, subst (λ w. AllHanded us (trees_of w)) (sym f) hs)
+  pub lowering_product_told : (k : ProductKind) (ms : Members) (a : ℕ) (t : Tree) → StandsWith enc m (product k ms) a t → StandWith enc m ms 0 a (trees_of t)
+  lowering_product_told k ms a t (u, (room, (us, e, rs)), h) = let (ts, f, hs) = subst (λ w. Handed w t) e h in (us, rs, subst (λ w. AllHanded us (trees_of w)) (sym f) hs)
 
   -- ---- rows
 

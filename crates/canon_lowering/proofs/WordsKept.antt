@@ -14,7 +14,7 @@ use Rattle.canon_model.specs.Shape.{Cases, Members, Shape, bare, borrow, fixed, 
 use Rattle.canon_model.specs.Text.{Encoding}
 use Rattle.canon_model.specs.Tree.{EachAt, Tree, Trees, bits, case_number, no_trees, payload_of, tree, tree_count, trees_of}
 use Rattle.canon_lowering.proofs.Kept.{each_home_along, each_home_respelled, first_tree, homes_respelled, other_trees, respelled_number, respelled_payload, respelled_trees}
-use Rattle.canon_lowering.proofs.Attempts.{Keeps}
+use Rattle.canon_lowering.proofs.Attempts.{AttemptKeeps}
 use Rattle.canon_lowering.proofs.AimedAt.{points_same, value_homes_kept}
 
 -- two words of 32 bits
@@ -106,7 +106,7 @@ case_flat_is r strict enc m ws (bare name cs) (suc i) d j e t h = case_flat_is r
 case_flat_is r strict enc m ws (payload name s cs) zero d j e t (u, is, h, least) = ap case_number is
 case_flat_is r strict enc m ws (payload name s cs) (suc i) d j e t h = case_flat_is r strict enc m ws cs i d j e t h
 
-module _ (wide : Bool) (texts : Texts) (blocks more : List Block) (xs ys : List ℕ) (k : Keeps blocks more xs ys) (ws : List ℕ) where
+module _ (wide : Bool) (texts : Texts) (blocks more : List Block) (xs ys : List ℕ) (k : AttemptKeeps blocks more xs ys) (ws : List ℕ) where
   mutual
     pub flat_homes_kept : (s : Shape) (i : ℕ) (t : Tree) (ps qs : List ℕ) → RepFlatIn blocks true texts.encoding (memory_of xs wide) ws i s t
         → FlatHomes (PointsTo (memory_of xs wide)) texts wide ws s i t ps qs → FlatHomes (PointsTo (memory_of ys wide)) texts wide ws s i t ps qs
@@ -156,7 +156,7 @@ module _ (wide : Bool) (texts : Texts) (blocks more : List Block) (xs ys : List 
 
 -- ---- the same, where a tree stands that is spelled otherwise
 
-module _ (wide : Bool) (texts : Texts) (blocks more : List Block) (xs ys : List ℕ) (k : Keeps blocks more xs ys) (ws : List ℕ) where
+module _ (wide : Bool) (texts : Texts) (blocks more : List Block) (xs ys : List ℕ) (k : AttemptKeeps blocks more xs ys) (ws : List ℕ) where
   abbrev Here : Shape → ℕ → Tree → Type 0
   Here s b u = Stored (InsideBlocks blocks (memory_of xs wide)) true texts.encoding (memory_of xs wide) s b u
 

@@ -60,7 +60,7 @@ same_past before after at to seen count is h k lt = ⊎_elim
 
 -- ---- apart
 
-within : (b : Block) (i : ℕ) → InBlocks (b ∷ []) i → (b.start ≤ i) × (i < b.start + b.size)
+pub within : (b : Block) (i : ℕ) → InBlocks (b ∷ []) i → (b.start ≤ i) × (i < b.start + b.size)
 within b i h = ⊎_elim (λ p. p) (λ k. absurd k) h
 
 pub apart_tested : (b c : Block) (x y : ℕ) → x ≡ min (b.start + b.size) (c.start + c.size) → y ≡ max b.start c.start → (IsTrue (leb x y) ↔ BlocksApart b c)

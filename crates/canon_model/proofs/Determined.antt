@@ -3,7 +3,8 @@ use Rattle.std.proofs.Common.{Bool, List, [], ap, append_assoc, arith, drop, dro
 use Rattle.std.specs.Prelude.{if◌then◌else◌, not, slice_index}
 use Rattle.std.specs.Int.{cast_signed, cast_unsigned, w16, w32, w8}
 use Rattle.std.proofs.lemmas.Bool.{cases_lt, cond-false, cond-true, false≢true, lt-leb}
-use Rattle.canon_model.proofs.Images.{append_parts, bits_same, scalar_same}
+use Rattle.canon_model.proofs.ImageFields.{append_parts}
+use Rattle.canon_model.proofs.Images.{bits_same, scalar_same}
 use Rattle.canon_model.specs.Carrying.{carried_texts}
 use Rattle.canon_model.specs.Fits.{AllTrees, CaseFits, Fits, MembersFit}
 use Rattle.canon_model.specs.Flat.{AreBelow, AreWords, AreZero, CaseFlat, Flat, MembersFlat, SameWords, low_number, max_params}

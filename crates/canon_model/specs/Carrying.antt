@@ -70,25 +70,25 @@ module _ (Lengths Handles : ℕ → ℕ → Type 0) where
     AllAlike no_trees vs = vs ≡ no_trees
     AllAlike (tree t ts) vs = (u : Tree) × (us : Trees) × (vs ≡ tree u us) × Alike t u × AllAlike ts us
 
-abbrev pub Any : ℕ → ℕ → Type 0
-Any n k = ⊤
+abbrev pub AnyTwo : ℕ → ℕ → Type 0
+AnyTwo n k = ⊤
 
 abbrev pub Equal : ℕ → ℕ → Type 0
 Equal n k = n ≡ k
 
 -- the same values, with other handles
 abbrev pub Handed : Tree → Tree → Type 0
-Handed = Alike Equal Any
+Handed = Alike Equal AnyTwo
 
 abbrev pub AllHanded : Trees → Trees → Type 0
-AllHanded = AllAlike Equal Any
+AllHanded = AllAlike Equal AnyTwo
 
 -- the same values, with texts spelled otherwise
 abbrev pub Respelled : Tree → Tree → Type 0
-Respelled = Alike Any Equal
+Respelled = Alike AnyTwo Equal
 
 abbrev pub AllRespelled : Trees → Trees → Type 0
-AllRespelled = AllAlike Any Equal
+AllRespelled = AllAlike AnyTwo Equal
 
 -- Which trees stand for one that is told: itself, or one whose texts are spelled otherwise.
 pub data Standing : Type 0 where

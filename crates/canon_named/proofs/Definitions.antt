@@ -54,8 +54,8 @@ mapped_twice f g xs k d e l = ap (λ ys. get_or ys k e) (map-map g f xs) ∙ get
 mapped_twice_long : {A B C : Type 0} (f : A → B) (g : B → C) (xs : List A) → length (map g (map f xs)) ≡ length xs
 mapped_twice_long f g xs = length-map (map f xs) g ∙ length-map xs f
 
-abbrev field_names : List RecordField → List Name
-field_names fields = map (λ f. string_bytes f.name) fields
+abbrev named_field_names : List RecordField → List Name
+named_field_names fields = map (λ f. string_bytes f.name) fields
 
 abbrev field_types : List RecordField → List InterfaceType
 field_types fields = map (λ f. f.ty) fields
@@ -65,13 +65,13 @@ record_fields (RecordType fields) = fields
 record_fields _ = []
 
 module _ (t : TypeTable) (i : ℕ) (fields : List RecordField) (defined : IsDefined t (ty.Record i) (fields_type fields)) where
-  pub record_has : (names : List Name) → field_names fields ≡ names → HasFields names t (ty.Record i) (field_types fields)
+  pub record_has : (names : List Name) → named_field_names fields ≡ names → HasFields names t (ty.Record i) (field_types fields)
   record_has names e = subst (λ (ns : List Name). HasFields ns t (ty.Record i) (field_types fields)) e (
     subst (λ (fs : List (Name × InterfaceType)). IsDefined t (ty.Record i) (RecordType fs)) (sym (zip-maps (λ (f : RecordField). string_bytes f.name) (λ (f : RecordField). f.ty) fields)) defined,
     maps_long (λ (f : RecordField). string_bytes f.name) (λ (f : RecordField). f.ty) fields,
   )
 
-  pub record_is : (names : List Name) (types : List InterfaceType) → HasFields names t (ty.Record i) types → (field_names fields ≡ names) × (field_types fields ≡ types)
+  pub record_is : (names : List Name) (types : List InterfaceType) → HasFields names t (ty.Record i) types → (named_field_names fields ≡ names) × (field_types fields ≡ types)
   unfolding record_fields
   record_is names types h = zipped_apart (λ (f : RecordField). string_bytes f.name) (λ (f : RecordField). f.ty) fields names types h.1
       (ap record_fields (same_definition t (ty.Record i) _ _ defined h.0))
@@ -119,8 +119,8 @@ module _ (t : TypeTable) (i : ℕ) (cases : List (String Global × Option Interf
       (ap variant_cases (same_definition t (ty.Variant i) _ _ defined h.0)) in
       (map-map (λ (n : String Global). string_bytes n) (λ (c : String Global × Option InterfaceType). c.0) cases ∙ apart.0, apart.1)
 
-  pub payloads_known : All (KnowsPayload t) (map (λ c. c.1) cases)
-  payloads_known = subst (All (KnowsPayload t)) (map-map (λ (c : Name × Option InterfaceType). c.1) (λ (c : String Global × Option InterfaceType). (string_bytes c.0, c.1)) cases) (known_payloads t _ defined.known)
+  pub named_payloads_known : All (KnowsPayload t) (map (λ c. c.1) cases)
+  named_payloads_known = subst (All (KnowsPayload t)) (map-map (λ (c : Name × Option InterfaceType). c.1) (λ (c : String Global × Option InterfaceType). (string_bytes c.0, c.1)) cases) (known_payloads t _ defined.known)
 
 -- ---- what the code finds, at the table that it asks
 
@@ -129,10 +129,10 @@ module _ (t u : TypeTable) (type : InterfaceType) (i : ℕ) (same : u ≡ t) whe
   at_table d j = subst (λ (v : TypeTable). IsDefined v j d) same
 
   module _ (fields : List RecordField) (is : type ≡ ty.Record i) (defined : IsDefined u (ty.Record i) (fields_type fields)) where
-    pub fields_found : (names : List Name) → field_names fields ≡ names → HasFields names t type (field_types fields)
+    pub fields_found : (names : List Name) → named_field_names fields ≡ names → HasFields names t type (field_types fields)
     fields_found names e = subst (λ (x : InterfaceType). HasFields names t x (field_types fields)) (sym is) (record_has t i fields (at_table _ _ defined) names e)
 
-    pub fields_told : (names : List Name) (types : List InterfaceType) → HasFields names t type types → (field_names fields ≡ names) × (field_types fields ≡ types)
+    pub fields_told : (names : List Name) (types : List InterfaceType) → HasFields names t type types → (named_field_names fields ≡ names) × (field_types fields ≡ types)
     fields_told names types h = record_is t i fields (at_table _ _ defined) names types (subst (λ (x : InterfaceType). HasFields names t x types) is h)
 
     pub all_fields_known : All (λ f. Knows t f.ty) fields
@@ -146,4 +146,4 @@ module _ (t u : TypeTable) (type : InterfaceType) (i : ℕ) (same : u ≡ t) whe
     cases_told names payloads h = variant_is t i cases (at_table _ _ defined) names payloads (subst (λ (x : InterfaceType). HasCases names t x payloads) is h)
 
     pub all_payloads_known : All (KnowsPayload t) (map (λ c. c.1) cases)
-    all_payloads_known = payloads_known t i cases (at_table _ _ defined)
+    all_payloads_known = named_payloads_known t i cases (at_table _ _ defined)

@@ -52,7 +52,7 @@ abbrev pub Calls : Type 0 → Type 1
 Calls F = F → Bor InterfaceType → Bor Instance → TestAnswer → Type 0
 
 -- a call of the test at this type may answer so
-pub record Answers {F : Type 0} (May : Calls F) (types : Instance) (r : TestAnswer) (test : F) (type : InterfaceType) : Type 0 where
+pub record AnswersTest {F : Type 0} (May : Calls F) (types : Instance) (r : TestAnswer) (test : F) (type : InterfaceType) : Type 0 where
   pub shown : Bor InterfaceType
   pub shows : shown.now ≡ type
   pub beside : Bor Instance
@@ -63,24 +63,24 @@ pub record Answers {F : Type 0} (May : Calls F) (types : Instance) (r : TestAnsw
 
 -- a record with these names, whose fields' types passed their tests
 abbrev pub PassesRecord : {F : Type 0} → Calls F → Instance → List Name → List F → InterfaceType → Type 0
-PassesRecord May types names tests type = (fields : List InterfaceType) × HasFields names types.types type fields × AllZip (Answers May types test_passed) tests fields
+PassesRecord May types names tests type = (fields : List InterfaceType) × HasFields names types.types type fields × AllZip (AnswersTest May types test_passed) tests fields
 
 -- none with these names, or the type of some field failed its test
 abbrev pub FailsRecord : {F : Type 0} → Calls F → Instance → List Name → List F → InterfaceType → Type 0
-FailsRecord May types names tests type = (fields : List InterfaceType) → HasFields names types.types type fields → AnyZip (Answers May types test_failed) tests fields
+FailsRecord May types names tests type = (fields : List InterfaceType) → HasFields names types.types type fields → AnyZip (AnswersTest May types test_failed) tests fields
 
 -- ---- variants
 
 -- a payload passes where its test does, and no payload where there is no test
 abbrev pub PassesPayload : {F : Type 0} → Calls F → Instance → Option F → Option InterfaceType → Type 0
 PassesPayload May types None None = ⊤
-PassesPayload May types (Some test) (Some type) = Answers May types test_passed test type
+PassesPayload May types (Some test) (Some type) = AnswersTest May types test_passed test type
 PassesPayload May types _ _ = ⊥
 
 -- it fails where its test does, or where there is one of the two alone
 abbrev pub FailsPayload : {F : Type 0} → Calls F → Instance → Option F → Option InterfaceType → Type 0
 FailsPayload May types None None = ⊥
-FailsPayload May types (Some test) (Some type) = Answers May types test_failed test type
+FailsPayload May types (Some test) (Some type) = AnswersTest May types test_failed test type
 FailsPayload May types _ _ = ⊤
 
 -- a variant with these names, whose payloads passed their tests

@@ -4,7 +4,7 @@ ghost use Rattle.std.specs.Prelude.{◌≡◌, All, IfSome, OnErr, OnOk, length,
 ghost use Rattle.std.specs.List.{AllZip};
 ghost use Rattle.canon_types.specs.Keeps.{names_of};
 ghost use Rattle.canon_types.specs.Table.{Knows, KnowsPayload};
-ghost use Rattle.canon_named.specs.Named.{Answers, AnyZip, FailsPayload, FailsRecord, FailsVariant, IsEnumOf, IsFlagsOf, PassesPayload, PassesRecord, PassesVariant, test_failed, test_passed};
+ghost use Rattle.canon_named.specs.Named.{AnswersTest, AnyZip, FailsPayload, FailsRecord, FailsVariant, IsEnumOf, IsFlagsOf, PassesPayload, PassesRecord, PassesVariant, test_failed, test_passed};
 
 use crate::TypecheckFailed;
 use crate::names::{are_field_names, are_same_names};
@@ -43,8 +43,8 @@ fn pass_fields(
     requires count { length fields.now ≡ length parts.now }
     requires known { All (λ field. Knows types.now.types field.ty) fields.now }
     requires callable { All (λ test. (a b : _) → Knows b.now.types a.now → pre test a b) parts.now }
-    ensures ok { OnOk result (AllZip (Answers post types.now test_passed) parts.now (map (λ field. field.ty) fields.now)) }
-    ensures err { OnErr result (AnyZip (Answers post types.now test_failed) parts.now (map (λ field. field.ty) fields.now)) }
+    ensures ok { OnOk result (AllZip (AnswersTest post types.now test_passed) parts.now (map (λ field. field.ty) fields.now)) }
+    ensures err { OnErr result (AnyZip (AnswersTest post types.now test_failed) parts.now (map (λ field. field.ty) fields.now)) }
 {
     for (k, part) in parts.iter().enumerate() {
         part(&fields[k].ty, types)?;

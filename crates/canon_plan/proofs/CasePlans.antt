@@ -73,9 +73,9 @@ module _ {Z : Type 0} (t : TypeTable) (j : ℕ) (entries : List (String Z × Opt
   pub variant_past : (tag : ℕ) (r : Option CaseSlots) → r ≡ None → slice_get entries tag ≡ None → TellsCase t (shape_of t (ty.Variant j)) tag r
   variant_past tag r e none = subst (TellsCase t (shape_of t (ty.Variant j)) tag) (sym e) (omega (arith, past entries tag none, count_cases))
 
-  pub variant_told : (tag : ℕ) (name : String Z) (o : Option InterfaceType) (c : CaseSlots) → slice_get entries tag ≡ Some (name, o) → IsPayload o c.payload → c.name_length ≡ length (string_bytes name)
+  pub plan_variant_told : (tag : ℕ) (name : String Z) (o : Option InterfaceType) (c : CaseSlots) → slice_get entries tag ≡ Some (name, o) → IsPayload o c.payload → c.name_length ≡ length (string_bytes name)
       → IsCaseSlots t (shape_of t (ty.Variant j)) tag c
-  variant_told tag name o c e p n =
+  plan_variant_told tag name o c e p n =
       let here : slice_get named tag ≡ Some (string_bytes name, o) = slice_get-map (λ (x : String Z × Option InterfaceType). (string_bytes x.0, x.1)) entries tag ∙ ap (option_map (λ (x : String Z × Option InterfaceType). (string_bytes x.0, x.1))) e in
       let is = case_at t named tag (string_bytes name, o) here in
       subst (λ (s : Shape). IsCaseSlots t s tag c) (sym defined.shape) (record {
@@ -136,8 +136,8 @@ some_told t j some tag c defined e p n =
 pub option_past : (t : TypeTable) (j : ℕ) (some : InterfaceType) (tag : ℕ) → IsDefined t (ty.Option j) (OptionType some) → 2 ≤ tag → case_count (variant_cases (shape_of t (ty.Option j))) ≤ tag
 option_past t j some tag defined h = omega (arith, h, ap (λ (s : Shape). case_count (variant_cases s)) defined.shape)
 
-pub result_cases : (s : Shape) (ok error : Option Shape) → s ≡ result_of ok error → case_count (variant_cases s) ≡ 2
-result_cases s ok error e = ap (λ (x : Shape). case_count (variant_cases x)) e ∙ two_cases ok error
+pub plan_result_cases : (s : Shape) (ok error : Option Shape) → s ≡ result_of ok error → case_count (variant_cases s) ≡ 2
+plan_result_cases s ok error e = ap (λ (x : Shape). case_count (variant_cases x)) e ∙ two_cases ok error
 
 first_payload : (t : TypeTable) (o : Option InterfaceType) (cs : Cases) (p : Slots) → IsPayload o p → shapes_of t p ≡ case_members (case_for (payload_in (all_shapes t) o) cs) 0
 first_payload t None cs p e = ap (shapes_of t) e

@@ -7,7 +7,7 @@ use Rattle.canon_types.specs.declared.types.InterfaceType.{InterfaceType}
 use Rattle.canon_types.specs.declared.types.RecordField.{RecordField}
 use Rattle.canon_types.specs.Depth.{deepest, depth, product_members}
 use Rattle.canon_types.specs.Keeps.{field_members, fields_type}
-use Rattle.canon_types.specs.Table.{Knows, TypeTable, members_of, parts, shape_of, tuple_members, types_of as tuple_types_of, IsDefined, TupleType, FixedListType, ListType}
+use Rattle.canon_types.specs.Table.{Knows, TypeTable, members_of, parts, shape_of, tuple_members, IsDefined, TupleType, FixedListType, ListType}
 use Rattle.canon_model.proofs.Layouts.{members_end-le}
 use Rattle.canon_model.specs.Layout.{align, align_to, begins, ends, members_end, size}
 use Rattle.canon_abi.specs.Abi.{HasLayout}
@@ -52,10 +52,6 @@ member_depth t (type ∷ types) (suc i) d h = omega (arith, member_depth t types
 pub count_fields : (t : TypeTable) (fields : List RecordField) → member_count (field_members t fields) ≡ length fields
 count_fields t [] = refl
 count_fields t (f ∷ fields) = ap suc (count_fields t fields)
-
-pub count_members : (t : TypeTable) (types : List InterfaceType) → member_count (members_of t types) ≡ length types
-count_members t [] = refl
-count_members t (type ∷ types) = ap suc (count_members t types)
 
 drop_fields : (t : TypeTable) (fields : List RecordField) (i : ℕ) → members_from i (field_members t fields) ≡ field_members t (drop i fields)
 drop_fields t fields zero = refl

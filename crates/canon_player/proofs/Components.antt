@@ -52,8 +52,8 @@ module _ (i : ℕ) (posts : List Bool) (past : length posts ≤ i) where
   all_exports es h = sym (append-nil es) ∙ (ap (λ (ps : List Bool). es ++ exports_from i ps) (sym none_left) ∙ h)
 
 -- an element that is there
-pub found : {X : Type 0} (xs : List X) (i : ℕ) → i < length xs → (x : X) × (slice_get xs i ≡ Some x)
-found xs i h = ⊎_elim (λ at. (at.0, at.2)) (λ past. absurd (omega (arith, h, past.0))) (slice_get_cases xs i).1
+pub player_found : {X : Type 0} (xs : List X) (i : ℕ) → i < length xs → (x : X) × (slice_get xs i ≡ Some x)
+player_found xs i h = ⊎_elim (λ at. (at.0, at.2)) (λ past. absurd (omega (arith, h, past.0))) (slice_get_cases xs i).1
 
 -- ---- the component
 
@@ -81,12 +81,12 @@ module _ (t : TypeTable) (encoding : StringEncoding) (posts : List Bool) (import
   host_sound : (type options : ℕ) → HasFunc t type → IfSome (slice_get t.funcs type) (λ f. f.async_ ≡ false) → options ≡ 0 → IsHostImport c type options
   host_sound type under known sync first =
       let types : c.types.types ≡ t = ap (λ (u : Instance). u.types) h.types in
-      let found : slice_get c.options.items under ≡ Some (host_options encoding) = ap (slice_get c.options.items) first ∙ ap (λ os. slice_get os 0) h.options in
+      let player_found : slice_get c.options.items under ≡ Some (host_options encoding) = ap (slice_get c.options.items) first ∙ ap (λ os. slice_get os 0) h.options in
       record {
         func = subst (λ u. HasFunc u type) (sym types) known;
         sync = subst (λ (u : TypeTable). IfSome (slice_get u.funcs type) (λ f. f.async_ ≡ false)) (sym types) sync;
-        options = slice_get_within c.options.items under (host_options encoding) found;
-        sync_options = subst (λ o. IfSome o (λ (x : CanonicalOptions). x.async_ ≡ false)) (sym found) refl;
+        options = slice_get_within c.options.items under (host_options encoding) player_found;
+        sync_options = subst (λ o. IfSome o (λ (x : CanonicalOptions). x.async_ ≡ false)) (sym player_found) refl;
       }
 
   import_sound : (i : Import) → ImportStands t i → IsImport c i
@@ -111,8 +111,8 @@ pub scripted_callee : (play : Play) (c : Component) → IsScripted play.types pl
     → (i : ℕ) → i < length play.posts → callee_at c i ≡ played_callee play i
 scripted_callee play c h told i inside =
     let there : i < length play.types.funcs = omega (arith, inside, told) in
-    let (f, func) = found play.types.funcs i there in
-    let (p, post) = found play.posts i inside in
+    let (f, func) = player_found play.types.funcs i there in
+    let (p, post) = player_found play.posts i inside in
     let export = export_at play.types play.encoding play.posts play.imports c h i inside in
     let options : slice_get (script_options play.types play.encoding play.posts) (i + 1) ≡ Some (options_for play.types play.encoding i p) =
     ap (λ os. slice_get os (i + 1)) (sym h.options) ∙ export_options play.types play.encoding play.posts play.imports c h i p post in

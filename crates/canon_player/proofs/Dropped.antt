@@ -20,7 +20,7 @@ use Rattle.canon_transcript.specs.declared.transcript.Answer.TheVariants as answ
 use Rattle.canon_transcript.specs.declared.transcript.Record.{Record}
 use Rattle.canon_player.specs.Session.{DroppedAt, DroppedBy, IsEnd, LeavesSame, Removed, State, WasDropped, WasRemoved, answer_values, drop_plan, answer_outcome}
 use Rattle.canon_player.specs.Stores.{ScriptStore, state_of, with_plan}
-use Rattle.canon_player.proofs.Played.{IsOther, StoreMoves, answers_error, journaled, on_answered}
+use Rattle.canon_player.proofs.Played.{IsOtherItem, StoreMoves, answers_error, journaled, on_answered}
 
 -- no value was answered
 no_vals : (a : Answer) (d : Result (Unit {0}) Error) → answer_outcome a ≡ d → OnOk d (answer_values a ≡ []) → answer_values a ≡ []
@@ -39,7 +39,7 @@ no_marks before new after e f =
     nil_from_length new (omega (arith, counted))
 
 -- what became of a handle, by what the drop says
-removed_by : (x : GivenIndex) (s left : ScriptStore) (d : Result (Unit {0}) Error) → IsOther d → DropAnswers journaled x s left d → OnOk d (LeavesMemory LeavesSame (destructor_at s.core.ledger x) s.core.memory left.core.memory) → Removed x (state_of s) (state_of left) d
+removed_by : (x : GivenIndex) (s left : ScriptStore) (d : Result (Unit {0}) Error) → IsOtherItem d → DropAnswers journaled x s left d → OnOk d (LeavesMemory LeavesSame (destructor_at s.core.ledger x) s.core.memory left.core.memory) → Removed x (state_of s) (state_of left) d
 removed_by x s left (Ok u) n h memory = (h, left_same s.core.ledger x s.core.memory left.core.memory memory)
 removed_by x s left (Err (error.Fault fault.GuestTrap)) n h memory = h.0
 removed_by x s left (Err (error.Fault fault.OutOfMemory)) n h memory = absurd (n refl)
@@ -56,7 +56,7 @@ Dropping i before left dropped = IsDrop journaled StoreMoves LeavesSame i before
 -- The store is `s` before the guest is loaded, and `left` as the drop leaves it.
 module _ (x : Any) (dtor_trap : Bool) (r : Record) (s left : ScriptStore) (dropped : Result (Unit {0}) Error)
     (empty : s.core.guest.events ≡ []) (events : r.events ≡ left.core.guest.events) (out : answer_outcome r.answer ≡ dropped) (vals : OnOk dropped (answer_values r.answer ≡ []))
-    (short : IsOther dropped) (played : IsEnd r.answer) (served : r.served.items ≡ []) (kept : left.imports ≡ s.imports) (id : left.core.id ≡ s.core.id) where
+    (short : IsOtherItem dropped) (played : IsEnd r.answer) (served : r.served.items ≡ []) (kept : left.imports ≡ s.imports) (id : left.core.id ≡ s.core.id) where
   abbrev Drops : GivenIndex → Type 0
   Drops i = Dropping i (readied dtor_trap s) left dropped
 
@@ -102,7 +102,7 @@ module _ (x : Any) (dtor_trap : Bool) (r : Record) (s left : ScriptStore) (dropp
 -- the store is `before` when the resource is dropped, and `final` once the journal is taken
 module _ (x : Any) (dtor_trap : Bool) (r : Record) (s before left final : ScriptStore) (dropped : Result (Unit {0}) Error) where
   pub drop_is : s.core.guest.events ≡ [] → before ≡ readied dtor_trap s → state_of final ≡ state_of left → r.events ≡ left.core.guest.events → answer_outcome r.answer ≡ dropped → OnOk dropped (answer_values r.answer ≡ [])
-      → IsOther dropped → IsEnd r.answer → r.served.items ≡ [] → left.imports ≡ before.imports → left.core.id ≡ before.core.id → IfNone (host_index x.handle) ((dropped ≡ Ok tt) × (left ≡ before))
+      → IsOtherItem dropped → IsEnd r.answer → r.served.items ≡ [] → left.imports ≡ before.imports → left.core.id ≡ before.core.id → IfNone (host_index x.handle) ((dropped ≡ Ok tt) × (left ≡ before))
       → IfSome (host_index x.handle) (λ i. IfSome (drop_refusal before.core.ledger before.trapped i) (λ e. (dropped ≡ Err e) × (left ≡ before)))
       → IfSome (host_index x.handle) (λ i. IfNone (drop_refusal before.core.ledger before.trapped i) (Dropping i before left dropped))
       → WasDropped (Some x) dtor_trap (state_of s) (state_of final) r

@@ -34,7 +34,7 @@ use Rattle.canon_transcript.specs.declared.transcript.Answer.{Answer}
 use Rattle.canon_transcript.specs.declared.transcript.Answer.TheVariants as answer
 use Rattle.canon_transcript.specs.declared.transcript.Head.TheVariants as head
 use Rattle.canon_transcript.specs.declared.transcript.Record.{Record}
-use Rattle.canon_player.specs.Session.{ActsBy, Called, Idle, IsEnd, LeavesSame, LivesBy, State, Tells, Themselves, WasCalled, answer_values, entry_view, host_side_of, answer_outcome, plan_of, plan_with, served_view}
+use Rattle.canon_player.specs.Session.{ActsBy, Called, Idle, IsEnd, LeavesSame, LivesBy, State, Tells, Themselves, WasItemCalled, answer_values, entry_view, host_side_of, answer_outcome, plan_of, plan_with, served_view}
 use Rattle.canon_player.specs.Steps.{CallsOnce}
 use Rattle.canon_player.specs.Session as session
 use Rattle.canon_player.specs.Stores.{ScriptStore, answers_of, callee_at, limits_of, state_of, with_plan}
@@ -66,10 +66,10 @@ answers_error (answer.Err x) e h = ap (λ o. answer.Err (error_in o x)) h
 -- ---- a call
 
 -- it isn't out of memory
-abbrev pub IsOther : {R : Type 0} → Result R Error → Type 0
-IsOther {R} called = called ≢ Err (error.Fault fault.OutOfMemory)
+abbrev pub IsOtherItem : {R : Type 0} → Result R Error → Type 0
+IsOtherItem {R} called = called ≢ Err (error.Fault fault.OutOfMemory)
 
-pub on_answered : {R : Type 0} (called : Result R Error) (P : Type 0) → IsOther called → OnAnswered called P → P
+pub on_answered : {R : Type 0} (called : Result R Error) (P : Type 0) → IsOtherItem called → OnAnswered called P → P
 on_answered (Ok x) P n p = p
 on_answered (Err (error.Fault fault.OutOfMemory)) P n p = absurd (n refl)
 on_answered (Err e) P n p = p
@@ -149,12 +149,12 @@ Entered args its callee loaded left called = Adding (moment_of journaled loaded.
 -- what became of a call, where it was refused before the guest was entered or not
 abbrev pub Became : {R : Type 0} → Arguments → ReturnedValues R → (R → List Val → Type 0) → Callee → (Allocator → Plan) → ScriptStore → ScriptStore → Record → Option Error → Type 0
 Became args its Told callee plan s left r (Some e) = Idle (state_of s) (state_of left) r (answer.Err e)
-Became args its Told callee plan s left r None = WasCalled args its Told callee (limits_of s) (answers_of s) plan (state_of s) (state_of left) r
+Became args its Told callee plan s left r None = WasItemCalled args its Told callee (limits_of s) (answers_of s) plan (state_of s) (state_of left) r
 
 -- There were so many lines before the call.
 module _ {R : Type 0} (args : Arguments) (its : ReturnedValues R) (Told : R → List Val → Type 0) (callee : Callee) (guest : List Action) (reallocs : List Ordered) (post_trap : Bool)
     (r : Record) (s left : ScriptStore) (called : Result R Error) (asked : ℕ)
-    (empty : s.core.guest.events ≡ []) (events : r.events ≡ left.core.guest.events) (told : Tells Told called r.answer) (short : IsOther called)
+    (empty : s.core.guest.events ≡ []) (events : r.events ≡ left.core.guest.events) (told : Tells Told called r.answer) (short : IsOtherItem called)
     (lines : asked ≡ length s.imports.lines.items) (serves : map served_view r.served.items ≡ map entry_view (drop asked (entries_of left.imports.lines.items))) where
   abbrev plan : Allocator → Plan
   plan = plan_with guest reallocs post_trap
@@ -165,30 +165,30 @@ module _ {R : Type 0} (args : Arguments) (its : ReturnedValues R) (Told : R → 
   abbrev starts : GuestIn Plan
   starts = guest_in (plan s.core.guest.guest.plan.allocator) (narrow s.core.memory)
 
-  abbrev ends : GuestIn Plan
-  ends = guest_in left.core.guest.guest.plan (narrow left.core.memory)
+  abbrev player_ends : GuestIn Plan
+  player_ends = guest_in left.core.guest.guest.plan (narrow left.core.memory)
 
   -- the guest acted by its plan from ask to ask
-  lives_by : (legs : List Leg) (es : List Event) → EnteredLives loaded left called legs es → LivesBy starts ends legs es
+  lives_by : (legs : List Leg) (es : List Event) → EnteredLives loaded left called legs es → LivesBy starts player_ends legs es
   lives_by legs es h =
-      legs_as StoreMoves ActsBy (λ j. (journaled j.guest).live) (λ g. g.guest.allocator.live) (λ j rest. OnAnswered called (StoreMoves j rest (guest_of left.core))) (λ g rest. ActsBy g rest ends)
+      legs_as StoreMoves ActsBy (λ j. (journaled j.guest).live) (λ g. g.guest.allocator.live) (λ j rest. OnAnswered called (StoreMoves j rest (guest_of left.core))) (λ g rest. ActsBy g rest player_ends)
       (λ j. record { guest = j.guest.guest.plan; len = j.len; wide = false }) (λ j xs k moved. (moved.moves.new_marks, moved.moves.does)) (λ j. refl)
       (λ j xs moved. let did : StoreMoves j xs (guest_of left.core) = on_answered called _ short moved in (did.moves.new_marks, did.moves.does)) (guest_of loaded.core) legs es h
 
   -- the call, by the events before it, those that are printed after it, and the events that it added
   abbrev Calls : List Event → List Event → List Event → Type 0
-  Calls earlier later added = IsCallOf args its (LivesBy starts ends) LeavesSame (GivesAnswers (answers_of s)) callee (limits_of s) (session.moment_with_events (state_of s) earlier) (session.moment_with_events (state_of left) later)
+  Calls earlier later added = IsCallOf args its (LivesBy starts player_ends) LeavesSame (GivesAnswers (answers_of s)) callee (limits_of s) (session.moment_with_events (state_of s) earlier) (session.moment_with_events (state_of left) later)
       (host_side_of (state_of s)) (host_side_of (state_of left)) called added
 
   was_called : s.trapped ≡ false → Entered args its callee loaded left called → OnOk called (left.trapped ≡ s.trapped) → OnErr called (left.trapped ≡ true)
-      → WasCalled args its Told callee (limits_of s) (answers_of s) plan (state_of s) (state_of left) r
+      → WasItemCalled args its Told callee (limits_of s) (answers_of s) plan (state_of s) (state_of left) r
   was_called free entered runs traps =
       let before = state_of s in
       let after = state_of left in
       let gained : left.core.guest.events ≡ s.core.guest.events ++ entered.events = ap (λ o. unwrap_or o []) entered.added in
       let all : r.events ≡ entered.events = events ∙ (gained ∙ ap (λ (es : List Event). es ++ entered.events) empty) in
       let so : Calls s.core.guest.events left.core.guest.events entered.events =
-      lives_as args its (EnteredLives loaded left called) (LivesBy starts ends) LeavesSame (GivesAnswers (answers_of s)) callee (limits_of s)
+      lives_as args its (EnteredLives loaded left called) (LivesBy starts player_ends) LeavesSame (GivesAnswers (answers_of s)) callee (limits_of s)
       (session.moment_with_events before s.core.guest.events) (session.moment_with_events after left.core.guest.events) (host_side_of before) (host_side_of after) called entered.events
       lives_by entered.so in
       let one : Calls [] left.core.guest.events entered.events = subst (λ (es : List Event). Calls es left.core.guest.events entered.events) empty so in
@@ -266,7 +266,7 @@ told_with (Err f) results (answer.Err g) e h is = sym (ap (λ o. error_in o f) e
 told_with called results answer.Typecheck e h is = absurd is
 told_with called results answer.Skipped e h is = absurd is
 
-other_with : (called : Result (Unit {0}) Error) (results : List Val) → IsOther called → IsOther (with_results called results)
+other_with : (called : Result (Unit {0}) Error) (results : List Val) → IsOtherItem called → IsOtherItem (with_results called results)
 other_with (Ok x) results n e = absurd (true≢false (sym (ap is_err e)))
 other_with (Err f) results n e = n (ap done_by e)
 
@@ -326,15 +326,15 @@ module _ (call : ScriptCall) (list : List Any) (r : Record) (s before left final
   with_params callee (Some e) their h = h
   with_params callee None their h = record { params = params; params_are = their; called = h }
 
-  pub record_is : s.core.guest.events ≡ [] → before ≡ with_plan s (plan_of call s.core.guest.guest.plan.allocator) → f.export ≡ call.func → state_of final ≡ state_of left
+  pub player_record_is : s.core.guest.events ≡ [] → before ≡ with_plan s (plan_of call s.core.guest.guest.plan.allocator) → f.export ≡ call.func → state_of final ≡ state_of left
       → literals_view params ≡ map (replaced (listed_resource list)) call.params → length slots.items ≡ call.slots
       → refused_by called ≡ call_refusal (callee_of before f) (length params) (length slots.items) before.trapped → IfSome (refused_by called) (λ e. left ≡ before)
       → (IsNone (refused_by called) → EnteredWith (callee_of before f) params before left called results) → OnOk called (left.trapped ≡ before.trapped) → (IsNone (refused_by called) → OnErr called (left.trapped ≡ true))
       → r.head ≡ head.Call call.func → r.live ≡ left.core.ledger.handles.counter.live → r.events ≡ left.core.guest.events → answer_outcome r.answer ≡ called
-      → length results ≡ slots.len → OnOk called (answer_values r.answer ≡ (with_items slots results).items) → IsOther called → IsEnd r.answer
+      → length results ≡ slots.len → OnOk called (answer_values r.answer ≡ (with_items slots results).items) → IsOtherItem called → IsEnd r.answer
       → asked ≡ length s.imports.lines.items → map served_view r.served.items ≡ map entry_view (drop asked (entries_of left.imports.lines.items))
       → CallsOnce (callee_at s.core.component call.func) (limits_of s) (answers_of s) call list (state_of s) (state_of final) r
-  record_is empty is export end their count why same entered runs traps hd lv events out many vals short ended lines serves =
+  player_record_is empty is export end their count why same entered runs traps hd lv events out many vals short ended lines serves =
       let callee = callee_at s.core.component call.func in
       let it : callee_of before f ≡ callee = ap (λ (k : ScriptStore). callee_of k f) is ∙ ap (λ n. callee_at s.core.component n) export in
       let many2 : length params ≡ length call.params = sym (length-map params literal_view) ∙ (ap length their ∙ length-map call.params (replaced (listed_resource list))) in

@@ -211,7 +211,7 @@ LivesBy before after = ByLegs ActsBy (λ g. g.guest.allocator.live) (λ g rest. 
 -- that of the return; after a refusal nothing reads its bytes, since every later call is refused. The memory that the run has
 -- sufficed. Functions of the host give these answers, by the asks that they served so far, and the record lists those that they served in
 -- this call. The record's answer tells how the call ended, by these values in the place of the results.
-pub record WasCalled {R : Type 0} (args : Arguments) (its : ReturnedValues R) (Told : R → List Val → Type 0) (callee : Callee) (limits : Limits) (answers : List (List HostAnswer)) (plan : Allocator → Plan)
+pub record WasItemCalled {R : Type 0} (args : Arguments) (its : ReturnedValues R) (Told : R → List Val → Type 0) (callee : Callee) (limits : Limits) (answers : List (List HostAnswer)) (plan : Allocator → Plan)
     (before after : State) (r : Record) : Type 0 where
   pub ended : Result R Error
   pub told : Tells Told ended r.answer
@@ -235,7 +235,7 @@ Themselves results values = values ≡ results
 pub record WasCalledWith (callee : Callee) (limits : Limits) (answers : List (List HostAnswer)) (call : ScriptCall) (list : List Any) (before after : State) (r : Record) : Type 0 where
   pub params : List Val
   pub params_are : literals_view params ≡ map (replaced (listed_resource list)) call.params
-  pub called : WasCalled (dynamic callee params) (dynamic_results callee) Themselves callee limits answers (plan_of call) before after r
+  pub called : WasItemCalled (dynamic callee params) (dynamic_results callee) Themselves callee limits answers (plan_of call) before after r
 
 -- It was refused before the guest was entered, which leaves everything as it was; else it was called.
 abbrev pub Called : Callee → Limits → List (List HostAnswer) → ScriptCall → List Any → State → State → Record → Option Error → Type 0
@@ -262,7 +262,7 @@ module _ {P R : Type 0} (passing : Passing P) (returning : Returning R) where
   abbrev pub TypedCalled : ℕ → Callee → Limits → List (List HostAnswer) → (Allocator → Plan) → P → State → State → Record → Option Error → Type 0
   TypedCalled func callee limits answers plan params before after r (Some e) = Idle before after r (answer.Err e)
   TypedCalled func callee limits answers plan params before after r None =
-      WasCalled (typed_args (passing.walks params) (passing.gives callee.types (params_shape callee) params) callee)
+      WasItemCalled (typed_args (passing.walks params) (passing.gives callee.types (params_shape callee) params) callee)
       (typed_results returning.reading (options_number func) callee.types.store callee) Printed callee limits answers plan before after r
 
   -- Where the function has another signature, nothing was done.

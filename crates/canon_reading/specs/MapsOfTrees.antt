@@ -17,7 +17,7 @@ use Rattle.canon_typed.specs.Types.{IsMapOf}
 use Rattle.canon_reading.specs.OfTrees.{IsFaulted, IsFaultedAt, IsOfTrees, IsOfTreesAt, IsPriced, IsPricedAt, faulted_at, priced_at, told_at, AreSteps}
 use Rattle.canon_reading.specs.Reading.{AreTaken, Reading, Setting}
 use Rattle.canon_reading.specs.Readings.{EachFault, EachReads, ListReads, RestReading, each_reach, each_steps, first_reading, list_reading, none_reading, product_reading}
-use Rattle.canon_reading.specs.RowsOfTrees.{list_faulty, list_lifts, list_price, list_walked}
+use Rattle.canon_reading.specs.RowsOfTrees.{list_faulty, list_lifts, list_price, list_row_walked}
 use Rattle.canon_reading.specs.Spots.{Faulty, Represents, Spot, flat_in, stored, leaves_in, spot_members, first_spot, others, Rest}
 use Rattle.canon_reading.specs.Taken.{end_taken, list_taken, more_taken, product_taken}
 use Rattle.canon_model.specs.Leaves.{flat_leaves, reach_leaves}
@@ -168,7 +168,7 @@ module _ {K V : Type 0} (bytes : ℕ) {Key Value : Instance → InterfaceType �
 
     map_steps : (w : Setting) (at : Spot) (type : InterfaceType) → IsMapOf Key Value w.types type → AreSteps w at (shape_of w.types.types type) ((list_reading bytes (pair_reading R S)).steps w at (shape_of w.types.types type))
     map_steps w at (ty.Map i) (key, value, e, f, g) =
-        subst (λ (z : Shape). AreSteps w at z ((list_reading bytes (pair_reading R S)).steps w at z)) (sym e.shape) (list_walked bytes of_pairs (pair_told (told_at w key f law) (told_at w value g law2)) at)
+        subst (λ (z : Shape). AreSteps w at z ((list_reading bytes (pair_reading R S)).steps w at z)) (sym e.shape) (list_row_walked bytes of_pairs (pair_told (told_at w key f law) (told_at w value g law2)) at)
     map_steps w at _ f = absurd f
 
     pub map_told : {Z : Type 0} (eq : K → K → Bool) → IsOfTrees (IsMapOf Key Value) (map_reading {Z = Z} eq bytes R S) (MapLifts eq M N)

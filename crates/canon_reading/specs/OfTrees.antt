@@ -357,8 +357,8 @@ module _ (w : Setting) (ok error : Option InterfaceType) where
   abbrev bad : Cases
   bad = cases_from w error no_cases
 
-  abbrev both : Cases
-  both = cases_from w ok bad
+  abbrev both_cases : Cases
+  both_cases = cases_from w ok bad
 
   abbrev good : Option Shape
   good = payload_in (all_shapes w.types.types) ok
@@ -435,15 +435,15 @@ two_cases (Some s) (Some u) = refl
 module _ {A B : Type 0} (unit unit2 : Bool) {Fit Fit2 : Instance → InterfaceType → Type 0} {R : Reading A} {S : Reading B} where
   module _ (law : IsFaulted Fit R) (law2 : IsFaulted Fit2 S) where
     result_faulty : (w : Setting) (ok error : Option InterfaceType) → IsPayloadOf unit Fit w.types ok → IsPayloadOf unit2 Fit2 w.types error → (at : Spot) (k : Kind) (x : At)
-        → (result_reading unit R unit2 S).faults w at (variant of_result (both w ok error)) k x → Faulty w.memory w.encoding at (variant of_result (both w ok error)) k x
+        → (result_reading unit R unit2 S).faults w at (variant of_result (both_cases w ok error)) k x → Faulty w.memory w.encoding at (variant of_result (both_cases w ok error)) k x
     result_faulty w ok error f g at k x (inl (h, many)) =
-        no_such_case w.memory w.encoding of_result (both w ok error) at _ 0 k x refl h (subst (λ n. n ≤ tag_in w.memory at (both w ok error)) (sym (two_cases (good w ok error) _)) many)
+        no_such_case w.memory w.encoding of_result (both_cases w ok error) at _ 0 k x refl h (subst (λ n. n ≤ tag_in w.memory at (both_cases w ok error)) (sym (two_cases (good w ok error) _)) many)
     result_faulty w ok error f g at k x (inr (inl (is, h))) =
-        let cs : Cases = both w ok error in
+        let cs : Cases = both_cases w ok error in
         let p : Spot = payload_spot w.memory at cs in
         fault_of_case w.memory w.encoding of_result cs at 0 k x is (payload_faulty law w (bad w ok error) (variant_end at cs) p unit ok k x f h)
     result_faulty w ok error f g at k x (inr (inr (is, h))) =
-        let cs : Cases = both w ok error in
+        let cs : Cases = both_cases w ok error in
         let p : Spot = payload_spot w.memory at cs in
         fault_of_case w.memory w.encoding of_result cs at 1 k x is (fault_behind w.memory w.encoding (variant_end at cs) p (good w ok error) (bad w ok error) k x
         (payload_faulty law2 w no_cases (variant_end at cs) p unit2 error k x g (subst (λ (s : Shape). (payload_reading unit2 S).faults w p s k x) (second_shape (good w ok error) (bad w ok error)) h)))
@@ -458,8 +458,8 @@ module _ {A B : Type 0} (unit unit2 : Bool) {Fit Fit2 : Instance → InterfaceTy
     result_faulted = record { faults = result_faults }
 
   module _ {price price2 : Tree → ℕ} (law : IsPriced Fit R price) (law2 : IsPriced Fit2 S price2) where
-    result_price : (w : Setting) (ok error : Option InterfaceType) → IsPayloadOf unit Fit w.types ok → IsPayloadOf unit2 Fit2 w.types error → (p : Spot) (e n : ℕ) (t : Tree) → CaseIn w.memory w.encoding e p (both w ok error) n n t
-        → (if n == 0 then (payload_reading unit R).reach w p (payload_shape (both w ok error) 0) else if n == 1 then (payload_reading unit2 S).reach w p (payload_shape (both w ok error) 1) else 0) ≡ result_cost price price2 t
+    result_price : (w : Setting) (ok error : Option InterfaceType) → IsPayloadOf unit Fit w.types ok → IsPayloadOf unit2 Fit2 w.types error → (p : Spot) (e n : ℕ) (t : Tree) → CaseIn w.memory w.encoding e p (both_cases w ok error) n n t
+        → (if n == 0 then (payload_reading unit R).reach w p (payload_shape (both_cases w ok error) 0) else if n == 1 then (payload_reading unit2 S).reach w p (payload_shape (both_cases w ok error) 1) else 0) ≡ result_cost price price2 t
     result_price w ok error f g p e zero t h = first_priced law w (bad w ok error) e price2 unit ok p t f h
     result_price w ok error f g p e (suc zero) t h = ap (λ (s : Shape). (payload_reading unit2 S).reach w p s) (second_shape (good w ok error) (bad w ok error))
         ∙ second_priced law2 w no_cases e price unit2 error p t g (past_first w.memory w.encoding e p (good w ok error) (bad w ok error) 0 1 t h)
@@ -469,7 +469,7 @@ module _ {A B : Type 0} (unit unit2 : Bool) {Fit Fit2 : Instance → InterfaceTy
     result_reached : (w : Setting) (at : Spot) (type : InterfaceType) (t : Tree) → IsResultOf unit Fit unit2 Fit2 w.types type → Represents w.memory w.encoding at (shape_of w.types.types type) t
         → (result_reading unit R unit2 S).reach w at (shape_of w.types.types type) ≡ result_cost price price2 t
     result_reached w at (ty.Result i) t (ok, error, d, f, g) rep =
-        let cs : Cases = both w ok error in
+        let cs : Cases = both_cases w ok error in
         subst (λ (s : Shape). (result_reading unit R unit2 S).reach w at s ≡ result_cost price price2 t) (sym d.shape)
         (result_price w ok error f g (payload_spot w.memory at cs) (variant_end at cs) (tag_in w.memory at cs) t
         (represented_case w.memory w.encoding of_result cs at t (subst (λ (s : Shape). Represents w.memory w.encoding at s t) d.shape rep)))
@@ -480,15 +480,15 @@ module _ {A B : Type 0} (unit unit2 : Bool) {Fit Fit2 : Instance → InterfaceTy
 
   module _ {Lifts : A → Tree → Type 0} {Lifts2 : B → Tree → Type 0} (law : IsOfTrees Fit R Lifts) (law2 : IsOfTrees Fit2 S Lifts2) where
     result_lifts : (w : Setting) (ok error : Option InterfaceType) → IsPayloadOf unit Fit w.types ok → IsPayloadOf unit2 Fit2 w.types error → (at : Spot) (before after : LedgerState) (v : Result A B)
-        → ResultReads (payload_reading unit R) (payload_reading unit2 S) w at (variant of_result (both w ok error)) before v after
-        → (t : Tree) × Represents w.memory w.encoding at (variant of_result (both w ok error)) t × ResultMeans unit Lifts unit2 Lifts2 v t
+        → ResultReads (payload_reading unit R) (payload_reading unit2 S) w at (variant of_result (both_cases w ok error)) before v after
+        → (t : Tree) × Represents w.memory w.encoding at (variant of_result (both_cases w ok error)) t × ResultMeans unit Lifts unit2 Lifts2 v t
     result_lifts w ok error f g at before after (Ok x) (room, is, h) =
-        let cs : Cases = both w ok error in
+        let cs : Cases = both_cases w ok error in
         let p : Spot = payload_spot w.memory at cs in
         let (t, there, lifts) = payload_lifts law w (bad w ok error) (variant_end at cs) 0 p unit ok before after x f h in
         (t, variant_represents w.memory w.encoding of_result cs at 0 t room is there, lifts)
     result_lifts w ok error f g at before after (Err y) (room, is, h) =
-        let cs : Cases = both w ok error in
+        let cs : Cases = both_cases w ok error in
         let p : Spot = payload_spot w.memory at cs in
         let (t, there, lifts) = payload_lifts law2 w no_cases (variant_end at cs) 1 p unit2 error before after y g
         (subst (λ (s : Shape). (payload_reading unit2 S).reads w p s before y after) (second_shape (good w ok error) (bad w ok error)) h) in
@@ -503,17 +503,17 @@ module _ {A B : Type 0} (unit unit2 : Bool) {Fit Fit2 : Instance → InterfaceTy
     result_reads w at _ before after v f h = absurd f
 
     result_walked : (w : Setting) (ok error : Option InterfaceType) → IsPayloadOf unit Fit w.types ok → IsPayloadOf unit2 Fit2 w.types error → (p : Spot) (n : ℕ)
-        → CaseSteps w p (both w ok error) n (if n == 0 then (payload_reading unit R).steps w p (payload_shape (both w ok error) 0) else if n == 1 then (payload_reading unit2 S).steps w p (payload_shape (both w ok error) 1) else [])
+        → CaseSteps w p (both_cases w ok error) n (if n == 0 then (payload_reading unit R).steps w p (payload_shape (both_cases w ok error) 0) else if n == 1 then (payload_reading unit2 S).steps w p (payload_shape (both_cases w ok error) 1) else [])
     result_walked w ok error f g p zero = payload_walked law w (bad w ok error) p unit ok f
     result_walked w ok error f g p (suc zero) =
-        subst (λ (s : Shape). CaseSteps w p (both w ok error) 1 ((payload_reading unit2 S).steps w p s)) (sym (second_shape (good w ok error) (bad w ok error)))
+        subst (λ (s : Shape). CaseSteps w p (both_cases w ok error) 1 ((payload_reading unit2 S).steps w p s)) (sym (second_shape (good w ok error) (bad w ok error)))
         (steps_behind w p (good w ok error) (bad w ok error) 0 _ (payload_walked law2 w no_cases p unit2 error g))
     result_walked w ok error f g p (suc (suc n)) =
-        subst (λ ps. CaseSteps w p (both w ok error) (suc (suc n)) ps) (sym (past_one n _ _ [])) (no_steps w p (good w ok error) (payload_in (all_shapes w.types.types) error) n)
+        subst (λ ps. CaseSteps w p (both_cases w ok error) (suc (suc n)) ps) (sym (past_one n _ _ [])) (no_steps w p (good w ok error) (payload_in (all_shapes w.types.types) error) n)
 
     result_steps : (w : Setting) (at : Spot) (type : InterfaceType) → IsResultOf unit Fit unit2 Fit2 w.types type → AreSteps w at (shape_of w.types.types type) ((result_reading unit R unit2 S).steps w at (shape_of w.types.types type))
     result_steps w at (ty.Result i) (ok, error, d, f, g) =
-        let cs : Cases = both w ok error in
+        let cs : Cases = both_cases w ok error in
         subst (λ (s : Shape). AreSteps w at s ((result_reading unit R unit2 S).steps w at s)) (sym d.shape)
         (variant_steps w at of_result cs _ (result_walked w ok error f g (payload_spot w.memory at cs) (tag_in w.memory at cs)))
     result_steps w at _ f = absurd f

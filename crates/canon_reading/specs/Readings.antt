@@ -168,12 +168,12 @@ module _ {A : Type 0} (bytes : ℕ) (R : Reading A) (w : Setting) (at : Spot) (s
   abbrev pub ListReads : LedgerState → List A → LedgerState → Type 0
   ListReads before xs after = HasRoom w.memory at s × IsGoodList w.memory element p n × (length xs ≡ n) × EachReads R w element (stored p) before xs after
 
-  abbrev pub ListFault : Kind → reach.At → Type 0
-  ListFault k x = ListPointerFault w.memory element at k x ⊎ (IsGoodList w.memory element p n × EachFault R w element (stored p) n k x)
+  abbrev pub ListReadingFault : Kind → reach.At → Type 0
+  ListReadingFault k x = ListPointerFault w.memory element at k x ⊎ (IsGoodList w.memory element p n × EachFault R w element (stored p) n k x)
 
   -- an item is charged by its bytes in the host, where the list is inside memory; its own charges come where it is aligned too
-  abbrev pub list_reach : ℕ
-  list_reach = if is_inside w.memory p (n * size w.memory.wide element) then n * bytes + (if p % align w.memory.wide element == 0 then each_reach R w element (stored p) n else 0) else 0
+  abbrev pub list_reading_reach : ℕ
+  list_reading_reach = if is_inside w.memory p (n * size w.memory.wide element) then n * bytes + (if p % align w.memory.wide element == 0 then each_reach R w element (stored p) n else 0) else 0
 
   abbrev pub list_steps : List (List Part)
   list_steps = if is_good w.memory p (n * size w.memory.wide element) (align w.memory.wide element) then each_steps R w element (stored p) n else []
@@ -181,8 +181,8 @@ module _ {A : Type 0} (bytes : ℕ) (R : Reading A) (w : Setting) (at : Spot) (s
 abbrev pub list_reading : {A : Type 0} → ℕ → Reading A → Reading (List A)
 list_reading bytes R = record {
   reads = ListReads bytes R;
-  faults = ListFault bytes R;
-  reach = list_reach bytes R;
+  faults = ListReadingFault bytes R;
+  reach = list_reading_reach bytes R;
   steps = list_steps bytes R;
   allocates = true;
 }

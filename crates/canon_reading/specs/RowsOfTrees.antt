@@ -70,10 +70,10 @@ module _ {A : Type 0} {R : Reading A} {w : Setting} {s : Shape} where
       let (ts, each, count, have) = each_lifts law (behind w.memory s at) mid after xs rest in
       (tree t ts, each_first w.memory w.encoding s at t ts rep each, ap suc count, (t, ts, refl, lifts, have))
 
-  pub each_walked : {Lifts : A → Tree → Type 0} → IsOfTreesAt w s R Lifts → (n : ℕ) (at : Spot) → AreLiftedBy w.types (each_leaves w.memory s at n) (each_steps R w s at n)
-  each_walked law zero at = subst (λ ls. AreLiftedBy w.types ls []) (each_leaves_none w.memory s at) tt
-  each_walked law (suc n) at = subst (λ ls. AreLiftedBy w.types ls (each_steps R w s at (suc n))) (each_leaves_more w.memory s at n)
-      (lifted_then w.types (leaves_in w.memory at s) (each_leaves w.memory s (behind w.memory s at) n) (R.steps w at s) (each_steps R w s (behind w.memory s at) n) (law.steps at) (each_walked law n (behind w.memory s at)))
+  pub each_row_walked : {Lifts : A → Tree → Type 0} → IsOfTreesAt w s R Lifts → (n : ℕ) (at : Spot) → AreLiftedBy w.types (each_leaves w.memory s at n) (each_steps R w s at n)
+  each_row_walked law zero at = subst (λ ls. AreLiftedBy w.types ls []) (each_leaves_none w.memory s at) tt
+  each_row_walked law (suc n) at = subst (λ ls. AreLiftedBy w.types ls (each_steps R w s at (suc n))) (each_leaves_more w.memory s at n)
+      (lifted_then w.types (leaves_in w.memory at s) (each_leaves w.memory s (behind w.memory s at) n) (R.steps w at s) (each_steps R w s (behind w.memory s at) n) (law.steps at) (each_row_walked law n (behind w.memory s at)))
 
   pub each_priced : {price : Tree → ℕ} → IsPricedAt w s R price → (at : Spot) (ts : Trees) → EachIn w.memory w.encoding s at ts → each_reach R w s at (tree_count ts) ≡ sum_of price ts
   each_priced law at no_trees h = refl
@@ -109,10 +109,10 @@ module _ {A : Type 0} (bytes : ℕ) (l : ListKind) {R : Reading A} {w : Setting}
         (ts, refl, have),
       )
 
-  pub list_walked : {Lifts : A → Tree → Type 0} → IsOfTreesAt w s R Lifts → (at : Spot) → AreSteps w at (list l s) ((list_reading bytes R).steps w at (list l s))
+  pub list_row_walked : {Lifts : A → Tree → Type 0} → IsOfTreesAt w s R Lifts → (at : Spot) → AreSteps w at (list l s) ((list_reading bytes R).steps w at (list l s))
   unfolding reach_leaves flat_leaves
-  list_walked law (stored a) = lifted_if w.types _ _ _ (each_walked law (length_in w.memory (stored a)) (stored (pointer_in w.memory (stored a))))
-  list_walked law (flat_in ws i) = lifted_if w.types _ _ _ (each_walked law (length_in w.memory (flat_in ws i)) (stored (pointer_in w.memory (flat_in ws i))))
+  list_row_walked law (stored a) = lifted_if w.types _ _ _ (each_row_walked law (length_in w.memory (stored a)) (stored (pointer_in w.memory (stored a))))
+  list_row_walked law (flat_in ws i) = lifted_if w.types _ _ _ (each_row_walked law (length_in w.memory (flat_in ws i)) (stored (pointer_in w.memory (flat_in ws i))))
 
   pub list_price : {price : Tree → ℕ} → IsPricedAt w s R price → (at : Spot) (t : Tree) → Represents w.memory w.encoding at (list l s) t → (list_reading bytes R).reach w at (list l s) ≡ list_cost bytes price t
   list_price {price} law at t rep =
@@ -166,7 +166,7 @@ module _ {A : Type 0} (bytes : ℕ) {Fit : Instance → InterfaceType → Type 0
 
     list_steps_are : (w : Setting) (at : Spot) (type : InterfaceType) → IsListOf Fit w.types type → AreSteps w at (shape_of w.types.types type) ((list_reading bytes R).steps w at (shape_of w.types.types type))
     list_steps_are w at (ty.List i) (element, d, f) =
-        subst (λ (z : Shape). AreSteps w at z ((list_reading bytes R).steps w at z)) (sym d.shape) (list_walked bytes of_items (told_at w element f law) at)
+        subst (λ (z : Shape). AreSteps w at z ((list_reading bytes R).steps w at z)) (sym d.shape) (list_row_walked bytes of_items (told_at w element f law) at)
     list_steps_are w at _ f = absurd f
 
     pub list_told : IsOfTrees (IsListOf Fit) (list_reading bytes R) (ListMeans Lifts)
@@ -233,7 +233,7 @@ module _ {A : Type 0} (n : ℕ) {Fit : Instance → InterfaceType → Type 0} {R
     fixed_steps : (w : Setting) (at : Spot) (type : InterfaceType) → IsFixedOf n Fit w.types type → AreSteps w at (shape_of w.types.types type) ((fixed_reading n R).steps w at (shape_of w.types.types type))
     fixed_steps w at (ty.FixedLengthList i) (some, (element, d, f)) =
         subst (λ (z : Shape). AreSteps w at z ((fixed_reading n R).steps w at z)) (sym d.shape)
-        (subst (λ ls. AreLiftedBy w.types ls (each_steps R w (shape_of w.types.types element) at n)) (row_leaves w.memory n (shape_of w.types.types element) at) (each_walked (told_at w element f law) n at))
+        (subst (λ ls. AreLiftedBy w.types ls (each_steps R w (shape_of w.types.types element) at n)) (row_leaves w.memory n (shape_of w.types.types element) at) (each_row_walked (told_at w element f law) n at))
     fixed_steps w at _ f = absurd f
 
     pub fixed_told : IsOfTrees (IsFixedOf n Fit) (fixed_reading n R) (RowMeans Lifts)

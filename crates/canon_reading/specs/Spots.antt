@@ -28,9 +28,9 @@ module _ (m : Memory) where
   HasRoom (flat_in ws i) s = ⊤
 
   -- the number of a scalar, and of a handle
-  abbrev pub number_in : Scalar → Spot → ℕ
-  number_in k (stored a) = num m a (scalar_size k)
-  number_in k (flat_in ws i) = slice_index ws i % 2 ^ flat_bits k
+  abbrev pub scalar_number : Scalar → Spot → ℕ
+  scalar_number k (stored a) = num m a (scalar_size k)
+  scalar_number k (flat_in ws i) = slice_index ws i % 2 ^ flat_bits k
 
   abbrev pub handle_in : Spot → ℕ
   handle_in (stored a) = num m a 4

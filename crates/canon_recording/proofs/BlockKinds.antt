@@ -1,7 +1,6 @@
 -- There are values of a definition where there are of its parts, which are less deep.
-use Rattle.std.proofs.Common.{◌≡◌, ◌≤◌, ◌<◌, ◌||◌, ◌∙◌, All, Bool, List, None, Option, Some, String, [], ◌∷◌, ap, arith, false, filter_map, get_or, length, map, refl, subst, suc, sym, true, zero, ℕ}
+use Rattle.std.proofs.Common.{◌≡◌, ◌≤◌, ◌<◌, ◌||◌, ◌∙◌, All, Bool, List, None, Option, Some, String, [], ◌∷◌, ap, arith, false, filter_map, map, refl, subst, sym, true}
 use Rattle.std.specs.Prelude.{⊤}
-use Rattle.std.proofs.lemmas.List.Elements.{All-head, All-tail}
 use Rattle.canon_model.specs.Shape.{Name, Shape, bare_cases}
 use Rattle.canon_types.proofs.Made.{case_parts, result_parts}
 use Rattle.canon_types.proofs.Measures.{depth_defined}
@@ -53,12 +52,12 @@ block_defined known (FixedListType e n) p = or_false _
 -- ---- what a look-up gives
 
 -- a type of a definition and the types it names, of which there are values where there are of the type
-pub record HasParts (t : TypeTable) (type : InterfaceType) (types : List InterfaceType) : Type 0 where
+pub record HasPartBlocks (t : TypeTable) (type : InterfaceType) (types : List InterfaceType) : Type 0 where
   pub falls : deepest (members_of t types) < depth (shape_of t type)
   pub known : All (Knows t) types
   pub block : have_block (members_of t types) ≡ has_block (shape_of t type)
 
-has_parts : (t : TypeTable) (type : InterfaceType) (d : Definition) → IsPlain d → IsDefined t type d → HasParts t type (parts d)
+has_parts : (t : TypeTable) (type : InterfaceType) (d : Definition) → IsPlain d → IsDefined t type d → HasPartBlocks t type (parts d)
 has_parts t type d p h = record {
   falls = omega (arith, ap depth h.shape, depth_defined (all_shapes t) d);
   known = h.known;
@@ -66,30 +65,14 @@ has_parts t type d p h = record {
 }
 
 -- the payloads of a variant
-pub case_payloads : {Z : Type 0} (t : TypeTable) (type : InterfaceType) (cases : List (String Z × Option InterfaceType)) (ps : List (Option InterfaceType)) → ps ≡ map (λ c. c.1) cases → IsDefined t type (cases_type cases)
-    → HasParts t type (filter_map (λ p. p) ps)
-case_payloads t type cases ps e h =
+pub recorded_case_payloads : {Z : Type 0} (t : TypeTable) (type : InterfaceType) (cases : List (String Z × Option InterfaceType)) (ps : List (Option InterfaceType)) → ps ≡ map (λ c. c.1) cases → IsDefined t type (cases_type cases)
+    → HasPartBlocks t type (filter_map (λ p. p) ps)
+recorded_case_payloads t type cases ps e h =
     let same : parts (cases_type cases) ≡ filter_map (λ p. p) ps = sym (case_parts cases) ∙ ap (λ (xs : List (Option InterfaceType)). filter_map (λ p. p) xs) (sym e) in
-    subst (HasParts t type) same (has_parts t type (cases_type cases) tt h)
+    subst (HasPartBlocks t type) same (has_parts t type (cases_type cases) tt h)
 
-pub result_payloads : (t : TypeTable) (type : InterfaceType) (ok err : Option InterfaceType) → IsDefined t type (ResultType ok err) → HasParts t type (filter_map (λ p. p) (ok ∷ err ∷ []))
-result_payloads t type ok err h = subst (HasParts t type) (sym (result_parts ok err)) (has_parts t type (ResultType ok err) tt h)
-
-pub option_payload : (t : TypeTable) (type some : InterfaceType) → IsDefined t type (OptionType some) → (depth (shape_of t some) < depth (shape_of t type)) × Knows t some
-option_payload t type some h = let p = has_parts t type (OptionType some) tt h in (omega (arith, p.falls), p.known 0 some (omega arith))
+pub recorded_result_payloads : (t : TypeTable) (type : InterfaceType) (ok err : Option InterfaceType) → IsDefined t type (ResultType ok err) → HasPartBlocks t type (filter_map (λ p. p) (ok ∷ err ∷ []))
+recorded_result_payloads t type ok err h = subst (HasPartBlocks t type) (sym (result_parts ok err)) (has_parts t type (ResultType ok err) tt h)
 
 pub enum_block : (t : TypeTable) (type : InterfaceType) (e : TypeEnum) → IsDefined t type (enum_type e) → false ≡ has_block (shape_of t type)
 enum_block t type e h = (has_parts t type (enum_type e) tt h).block
-
--- a payload among others
-pub payload_here : (t : TypeTable) (ps : List (Option InterfaceType)) (i : ℕ) (d : Option InterfaceType) (type : InterfaceType) → Some type ≡ get_or ps i d → i < length ps → All (Knows t) (filter_map (λ p. p) ps)
-    → (depth (shape_of t type) ≤ deepest (members_of t (filter_map (λ p. p) ps))) × Knows t type
-payload_here t [] i d type e lt known = absurd (omega (arith, lt))
-payload_here t (None ∷ ps) zero d type e lt known = cc
-payload_here t (None ∷ ps) (suc i) d type e lt known = payload_here t ps i d type e (omega (arith, lt)) known
-payload_here t (Some x ∷ ps) zero d type e lt known =
-    let same : x ≡ type = cc in
-    (omega (arith, ap (λ (y : InterfaceType). depth (shape_of t y)) same), subst (Knows t) same (All-head (Knows t) x (filter_map (λ p. p) ps) known))
-payload_here t (Some x ∷ ps) (suc i) d type e lt known =
-    let there = payload_here t ps i d type e (omega (arith, lt)) (All-tail (Knows t) x (filter_map (λ p. p) ps) known) in
-    (omega (arith, there.0), there.1)

@@ -3,7 +3,7 @@ use Rattle.std.proofs.Common.{All, Err, List, Ok, Result, [], append-nil, ap, ar
 use Rattle.std.proofs.lemmas.List.Elements.{All-cons, All-nil}
 use Rattle.canon_model.specs.Image.{IsField}
 use Rattle.canon_context.specs.declared.component.Component.{Component}
-use Rattle.canon_recording_parts.proofs.Fields.{append_parts, field_length, field_once}
+use Rattle.canon_model.proofs.ImageFields.{append_parts, field_length, field_once}
 use Rattle.canon_model.specs.Shape.{Shape}
 use Rattle.canon_plan.specs.NoHandle.{HasNoHandle}
 use Rattle.canon_image_parts.specs.Read.{IsOnlyReading}
@@ -11,7 +11,7 @@ use Rattle.canon_image_parts.specs.declared.error.ImageError.{ImageError}
 use Rattle.canon_image_parts.specs.declared.error.ImageError.TheVariants as image
 use Rattle.canon_recording_parts.specs.Events.{byte_list}
 use Rattle.canon_recording.specs.Coded.{told_as}
-use Rattle.canon_recording_parts.proofs.Reading.{block_bad, both_read, named, named_stops, second_stops, stops_along}
+use Rattle.canon_recording_parts.proofs.Reading.{block_bad, both_read, recording_named, named_stops, second_stops, stops_along}
 use Rattle.canon_recording_parts.specs.Format.{Format, also, any_number, as_, exactly, for_each, so_many}
 use Rattle.canon_recording_parts.specs.Read.{ReadsFormat}
 use Rattle.canon_recording_parts.specs.declared.error.ReplayError.{ReplayError}
@@ -24,7 +24,7 @@ use Rattle.canon_recording_parts.proofs.Formats.{row_count}
 
 pub behind_letters : (G : Format (List RecordedCall)) (bs : List ℕ) (from mid to : ℕ) (result : Result (List RecordedCall) ReplayError) → ReadsFormat (exactly letters) bs from mid (Ok tt) → ReadsFormat G bs mid to result
     → ReadsFormat (as_ (λ (x : Unit {0} × List RecordedCall). x.1) (also (exactly letters) G)) bs from to result
-behind_letters G bs from mid to (Ok calls) h g = named (λ (x : Unit {0} × List RecordedCall). x.1) (also (exactly letters) G) bs from to (tt, calls) (both_read (exactly letters) G bs from mid to to tt calls h g)
+behind_letters G bs from mid to (Ok calls) h g = recording_named (λ (x : Unit {0} × List RecordedCall). x.1) (also (exactly letters) G) bs from to (tt, calls) (both_read (exactly letters) G bs from mid to to tt calls h g)
 behind_letters G bs from mid to (Err e) h g = named_stops (λ (x : Unit {0} × List RecordedCall). x.1) (also (exactly letters) G) bs from to to e (second_stops (exactly letters) G bs from mid to to tt e h g)
 
 -- ---- the letters, as a number of 4 bytes
@@ -52,8 +52,8 @@ cut_letters bs from to at e h = stops_along (any_number 4) (exactly letters) bs 
 
 -- ---- to the end
 
-pub whole_read : (c : Component) (bs : List ℕ) (to : ℕ) (calls : List RecordedCall) → length bs ≤ to → ReadsFormat (read_recording c) bs 0 to (Ok calls) → IsReadWhole c bs (Ok calls)
-whole_read c bs to calls end (xs, s, h) = subst (λ l. (read_recording c).writes calls l) (sym (s.is ∙ ap (λ l. xs ++ l) (none_past bs to end) ∙ append-nil xs)) h
+pub recorded_whole_read : (c : Component) (bs : List ℕ) (to : ℕ) (calls : List RecordedCall) → length bs ≤ to → ReadsFormat (read_recording c) bs 0 to (Ok calls) → IsReadWhole c bs (Ok calls)
+recorded_whole_read c bs to calls end (xs, s, h) = subst (λ l. (read_recording c).writes calls l) (sym (s.is ∙ ap (λ l. xs ++ l) (none_past bs to end) ∙ append-nil xs)) h
   where
     none_past : (xs : List ℕ) (n : ℕ) → length xs ≤ n → drop n xs ≡ []
     none_past [] zero h = refl
@@ -64,13 +64,13 @@ whole_read c bs to calls end (xs, s, h) = subst (λ l. (read_recording c).writes
 pub more_follow : (c : Component) (bs : List ℕ) (to : ℕ) (calls : List RecordedCall) → to < length bs → ReadsFormat (read_recording c) bs 0 to (Ok calls) → IsReadWhole c bs (Err (error.BadRecording to))
 more_follow c bs to calls more (xs, s, h) = inr (calls, xs, drop to bs, s.is, h, omega (arith, s.to_is), omega (arith, more, length-drop to bs))
 
-pub stopped : (c : Component) (bs : List ℕ) (to : ℕ) (e : ReplayError) → ReadsFormat (read_recording c) bs 0 to (Err e) → IsReadWhole c bs (Err e)
-stopped c bs to (error.BadRecording p) (j, is, s) =
+pub recorded_stopped : (c : Component) (bs : List ℕ) (to : ℕ) (e : ReplayError) → ReadsFormat (read_recording c) bs 0 to (Err e) → IsReadWhole c bs (Err e)
+recorded_stopped c bs to (error.BadRecording p) (j, is, s) =
     let same : j ≡ p = omega (arith, is) in
     inl (subst (λ i. (read_recording c).stops bs i) same s)
-stopped c bs to error.OutOfMemory h = tt
-stopped c bs to (error.NotARun k) h = absurd h
-stopped c bs to error.TooLong h = absurd h
+recorded_stopped c bs to error.OutOfMemory h = tt
+recorded_stopped c bs to (error.NotARun k) h = absurd h
+recorded_stopped c bs to error.TooLong h = absurd h
 
 -- ---- what bytes of a recording tell
 

@@ -3,7 +3,7 @@ use Rattle.std.proofs.Common.{All, Err, List, Ok, Result, [], ap, arith, drop, l
 use Rattle.std.specs.Prelude.{slice_index_or}
 use Rattle.std.proofs.lemmas.List.{take_more}
 use Rattle.std.proofs.lemmas.List.Elements.{All-head, All-tail}
-use Rattle.canon_recording_parts.proofs.Reading.{row_go_on}
+use Rattle.canon_recording_parts.proofs.Reading.{recording_row_go_on}
 use Rattle.canon_recording_parts.proofs.Writing.{each_added, each_long, long_along, row_added, row_all, row_long}
 use Rattle.canon_recording_parts.specs.Format.{Format, IsFormat, exactly, for_each, in_a_row}
 use Rattle.canon_recording_parts.specs.Events.{raw}
@@ -57,7 +57,7 @@ module _ {I A : Type 0} (F : I → Format A) (sound : (i : I) → IsFormat (F i)
 
 module _ {X A : Type 0} (f : X → A) (F : Format A) where
   pub seen_go_on : (bs : List ℕ) (from mid to n : ℕ) (xs ys : List X) (x : X) → ys ≡ xs ++ x ∷ [] → IsReadSoFar (in_a_row F n) bs from mid (map f xs) → ReadsFormat F bs mid to (Ok (f x)) → IsReadSoFar (in_a_row F (n + 1)) bs from to (map f ys)
-  seen_go_on bs from mid to n xs ys x e r h = subst (IsReadSoFar (in_a_row F (n + 1)) bs from to) (sym (ap (map f) e ∙ map_more f xs x)) (row_go_on F bs from mid to n (map f xs) (f x) r h)
+  seen_go_on bs from mid to n xs ys x e r h = subst (IsReadSoFar (in_a_row F (n + 1)) bs from to) (sym (ap (map f) e ∙ map_more f xs x)) (recording_row_go_on F bs from mid to n (map f xs) (f x) r h)
 
   module _ (sound : IsFormat F) (xs : List X) (old : List ℕ) where
     pub seen_added : (now new : List ℕ) (n : ℕ) (x : X) → n < length xs → slice_index_or xs n x ≡ x → IsAdded (in_a_row F n) (take n (map f xs)) old now → WritesFormat F (f x) now new (Ok tt) → IsAdded (in_a_row F (n + 1)) (take (n + 1) (map f xs)) old new

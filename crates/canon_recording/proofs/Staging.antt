@@ -259,8 +259,8 @@ module _ (post : Option ℕ) where
 -- ---- after the return
 
 -- an event that is the post-return with the words that were returned
-pub posted : (func p : ℕ) (returned : List ℕ) (e : Event) → e ≡ event.Post p returned → LeadsTo func (Some p) stage.Returned returned e (Some stage.Ended)
-posted func p returned e is events = (λ h. (first_is e (event.Post p returned) events [] h).1, λ h. ap₂ (λ f l. f ∷ l) is h)
+pub recorded_posted : (func p : ℕ) (returned : List ℕ) (e : Event) → e ≡ event.Post p returned → LeadsTo func (Some p) stage.Returned returned e (Some stage.Ended)
+recorded_posted func p returned e is events = (λ h. (first_is e (event.Post p returned) events [] h).1, λ h. ap₂ (λ f l. f ∷ l) is h)
 
 pub not_posted : (func p f : ℕ) (returned words : List ℕ) (e : Event) → e ≡ event.Post f words → ((f ≡ p) → ¬ (words ≡ returned)) → LeadsTo func (Some p) stage.Returned returned e None
 not_posted func p f returned words e is differ events h =

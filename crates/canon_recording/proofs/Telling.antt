@@ -4,7 +4,7 @@ use Rattle.std.specs.Prelude.{⊤}
 use Rattle.canon_memory.specs.declared.event.Event.{Event}
 use Rattle.canon_context.specs.declared.component.Component.{Component}
 use Rattle.canon_func.specs.Runs.{last_len}
-use Rattle.canon_recording_parts.proofs.Fields.{field_once}
+use Rattle.canon_model.proofs.ImageFields.{field_once}
 use Rattle.canon_recording_parts.proofs.Formats.{exactly_sound}
 use Rattle.canon_recording_parts.proofs.Laws.{any_sound, event_sound, events_sound, pair_sound, words_sound}
 use Rattle.canon_recording_parts.proofs.Formats.{number_sound}

@@ -3,52 +3,34 @@ use Rattle.std.proofs.Common.{All, Bool, List, [], ap, arith, false, inl, length
 use Rattle.std.specs.Prelude.{IsTrue, slice_index_or}
 use Rattle.std.proofs.lemmas.List.Elements.{All-head, All-tail}
 use Rattle.canon_model.proofs.Images.{image_bytes}
-use Rattle.canon_model.specs.Same.{Carried, CarriedTrees}
 use Rattle.canon_model.specs.Shape.{Members, Shape, member, no_members}
 use Rattle.canon_model.specs.Text.{utf8}
-use Rattle.canon_model.specs.Tree.{Tree, no_trees, tree}
+use Rattle.canon_model.specs.Tree.{no_trees, tree}
 use Rattle.canon_types.specs.Table.{Knows, TypeTable, members_of, shape_of}
 use Rattle.canon_types.specs.declared.types.InterfaceType.{InterfaceType}
 use Rattle.canon_plan.specs.NoHandle.{HasNoHandle, HaveNoHandle, has_no_handle, have_no_handle}
 use Rattle.canon_context.specs.declared.fault.Fault.{Fault}
 use Rattle.canon_context.specs.declared.fault.Fault.TheVariants as fault
-use Rattle.canon_value_parts.specs.Fails.{BlamesValue, FailsAt, Failure, IsTypeFailure, field_name, mismatch, payload_expected, payload_not_expected, unknown_case, unknown_flag, wrong_length}
-use Rattle.canon_value_parts.proofs.OneValue.{trees_one}
+use Rattle.canon_value_parts.specs.Fails.{BlamesValue}
+use Rattle.canon_value_parts.proofs.OneValue.{tree_one}
 use Rattle.canon_value_parts.proofs.Values.{failure_excludes}
-use Rattle.canon_val.specs.Value.{HasTree}
 use Rattle.canon_val.specs.declared.val.Val.{Val}
 use Rattle.canon_image_parts.specs.Written.{IsTypeFault}
 use Rattle.canon_recording_parts.proofs.Formats.{before_sound, nothing_sound, sized_sound}
 use Rattle.canon_recording_parts.specs.Format.{Format, IsFormat, before, for_each}
 use Rattle.canon_recording.specs.Fits.{ArePlainValues, AreValuesOf, IsValueOf}
 use Rattle.canon_recording.specs.Recordings.{SpellsValue, value, values}
+use Rattle.canon_image_parts.proofs.Exact.{failing}
 
 -- ---- a value has one image
 
-only_one : (t u : Tree) → CarriedTrees (tree t no_trees) (tree u no_trees) → Carried t u
-only_one t u (w, us, e, c, cs) = let same : w ≡ u = cc in subst (Carried t) same c
-
-one_tree : (s : Shape) (v : Val) (t u : Tree) → HasTree s v t → HasTree s v u → Carried t u
-one_tree s v t u h g =
-    only_one t u (trees_one (member [] s no_members) (v ∷ []) (tree t no_trees) (tree u no_trees) (v, [], t, no_trees, refl, refl, h, (refl, refl)) (v, [], u, no_trees, refl, refl, g, (refl, refl)))
-
 pub spelled_once : (s : Shape) (v : Val) (xs ys : List ℕ) → SpellsValue false s v xs → SpellsValue false s v ys → xs ≡ ys
-spelled_once s v xs ys (t, h, is) (u, g, is2) = image_bytes s t u xs ys is is2 (one_tree s v t u h g)
+spelled_once s v xs ys (t, h, is) (u, g, is2) = image_bytes s t u xs ys is is2 (tree_one s v t u h g)
 
 -- ---- a value of the type has no fault
 
-failing : (s : Shape) (v : Val) (e : Fault) → IsTypeFault e → BlamesValue utf8 s v e → (how : Failure) × (j : ℕ) × IsTypeFailure how × FailsAt how s v j
-failing s v (fault.TypeMismatch k) h (j, e, f) = (mismatch, j, tt, f)
-failing s v (fault.FieldName k) h (j, e, f) = (field_name, j, tt, f)
-failing s v (fault.LengthMismatch k) h (j, e, f) = (wrong_length, j, tt, f)
-failing s v (fault.UnknownCase k) h (j, e, f) = (unknown_case, j, tt, f)
-failing s v (fault.UnknownFlag k) h (j, e, f) = (unknown_flag, j, tt, f)
-failing s v (fault.PayloadExpected k) h (j, e, f) = (payload_expected, j, tt, f)
-failing s v (fault.PayloadNotExpected k) h (j, e, f) = (payload_not_expected, j, tt, f)
-failing s v _ h g = absurd h
-
-pub no_fault : (s : Shape) (v : Val) (e : Fault) → IsTypeFault e → BlamesValue utf8 s v e → ¬ IsValueOf s v
-no_fault s v e told blames (t, has) =
+pub recorded_no_fault : (s : Shape) (v : Val) (e : Fault) → IsTypeFault e → BlamesValue utf8 s v e → ¬ IsValueOf s v
+recorded_no_fault s v e told blames (t, has) =
     let (how, j, kind, fails) = failing s v e told blames in
     failure_excludes how (member [] s no_members) (v ∷ []) j (tree t no_trees) kind (inl fails) (v, [], t, no_trees, refl, refl, has, (refl, refl))
 
@@ -67,9 +49,9 @@ value_sound s = sized_sound (SpellsValue false s) (spelled_once s) 8
 pub typed_sound : (t : TypeTable) (ty : InterfaceType) → IsFormat (typed false t ty)
 typed_sound t ty = value_sound (shape_of t ty)
 
-pub values_sound : (ms : Members) → IsFormat (values false ms)
-values_sound no_members = nothing_sound
-values_sound (member name s ms) = before_sound (value false s) (values false ms) (value_sound s) (values_sound ms)
+pub recorded_values_sound : (ms : Members) → IsFormat (values false ms)
+recorded_values_sound no_members = nothing_sound
+recorded_values_sound (member name s ms) = before_sound (value false s) (values false ms) (value_sound s) (recorded_values_sound ms)
 
 -- what is said of one of the values
 pub record IsGivenAt (t : TypeTable) (ty : InterfaceType) (v : Val) : Type 0 where

@@ -2,7 +2,7 @@
 use Rattle.std.proofs.Common.{List, [], append_assoc, ap, ap₂, arith, inl, inr, length, refl, subst, suc, sym, zero, ℕ, ◌+◌, ◌++◌, ◌∙◌, ◌∷◌, ◌≡◌, append-nil}
 use Rattle.std.specs.Prelude.{⊤}
 use Rattle.canon_model.specs.Image.{IsField, le_bytes}
-use Rattle.canon_recording_parts.proofs.Fields.{append_parts, field_front, field_length, field_once, field_then, length-join}
+use Rattle.canon_model.proofs.ImageFields.{append_parts, field_front, field_length, field_once, field_then, length-join}
 use Rattle.canon_recording_parts.specs.Format.{Format, IsFormat, also, as_, before, counted_row, empty_list, exactly, for_each, in_a_row, none, number, prepend, sized_field, so_many, then_}
 
 -- ---- lists
@@ -164,16 +164,16 @@ pub each_sound : {I A : Type 0} (F : I → Format A) → ((i : I) → IsFormat (
 each_sound F f [] = nothing_sound
 each_sound F f (i ∷ is) = before_sound (F i) (for_each F is) (f i) (each_sound F f is)
 
-pub each_count : {I A : Type 0} (F : I → Format A) (is : List I) (things : List A) (bs : List ℕ) → (for_each F is).writes things bs → length things ≡ length is
-each_count F [] things bs (e, h) = ap length e
-each_count F (i ∷ is) things bs (x, e, (xs, ys, be, h, k)) = ap length e ∙ ap suc (each_count F is x.1 ys k)
+pub recording_each_count : {I A : Type 0} (F : I → Format A) (is : List I) (things : List A) (bs : List ℕ) → (for_each F is).writes things bs → length things ≡ length is
+recording_each_count F [] things bs (e, h) = ap length e
+recording_each_count F (i ∷ is) things bs (x, e, (xs, ys, be, h, k)) = ap length e ∙ ap suc (recording_each_count F is x.1 ys k)
 
 length-times : (n : ℕ) → length (so_many n) ≡ n
 length-times zero = refl
 length-times (suc n) = ap suc (length-times n)
 
 pub row_count : {A : Type 0} (F : Format A) (n : ℕ) (things : List A) (bs : List ℕ) → (in_a_row F n).writes things bs → length things ≡ n
-row_count F n things bs h = each_count (λ (u : Unit {0}). F) (so_many n) things bs h ∙ length-times n
+row_count F n things bs h = recording_each_count (λ (u : Unit {0}). F) (so_many n) things bs h ∙ length-times n
 
 pub counted_sound : {A : Type 0} (F : Format A) (k : ℕ) → IsFormat F → IsFormat (counted_row k F)
 counted_sound {A} F k f = then_sound k (λ n. ⊤) (in_a_row F) (λ n t. each_sound (λ (u : Unit {0}). F) (λ u. f) (so_many n))

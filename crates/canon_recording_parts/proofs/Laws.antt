@@ -67,17 +67,17 @@ module _ (imports : ℕ) where
   tagged_sound (suc (suc (suc (suc (suc zero))))) = as_sound post_event (also (any_number 4) word_list) (also_sound (any_number 4) word_list (any_sound 4) words_sound) post_one
   tagged_sound (suc (suc (suc (suc (suc (suc n)))))) = none_sound
 
-  pub tag_is : (n : ℕ) (e : Event) (xs : List ℕ) → (tagged imports n).writes e xs → tag_of e ≡ n
-  tag_is zero e xs (x, is, h) = ap tag_of is
-  tag_is (suc zero) e xs (x, is, h) = ap tag_of is
-  tag_is (suc (suc zero)) e xs (x, is, h) = ap tag_of is
-  tag_is (suc (suc (suc zero))) e xs (x, is, h) = ap tag_of is
-  tag_is (suc (suc (suc (suc zero)))) e xs (x, is, h) = ap tag_of is
-  tag_is (suc (suc (suc (suc (suc zero))))) e xs (x, is, h) = ap tag_of is
-  tag_is (suc (suc (suc (suc (suc (suc n)))))) e xs h = absurd h
+  pub recording_tag_is : (n : ℕ) (e : Event) (xs : List ℕ) → (tagged imports n).writes e xs → tag_of e ≡ n
+  recording_tag_is zero e xs (x, is, h) = ap tag_of is
+  recording_tag_is (suc zero) e xs (x, is, h) = ap tag_of is
+  recording_tag_is (suc (suc zero)) e xs (x, is, h) = ap tag_of is
+  recording_tag_is (suc (suc (suc zero))) e xs (x, is, h) = ap tag_of is
+  recording_tag_is (suc (suc (suc (suc zero)))) e xs (x, is, h) = ap tag_of is
+  recording_tag_is (suc (suc (suc (suc (suc zero))))) e xs (x, is, h) = ap tag_of is
+  recording_tag_is (suc (suc (suc (suc (suc (suc n)))))) e xs h = absurd h
 
   pub event_sound : IsFormat (an_event imports)
-  event_sound = then_sound 1 (λ n. n < 6) (tagged imports) (λ n h. tagged_sound n) (λ n m e xs ys h k. sym (tag_is n e xs h) ∙ tag_is m e ys k)
+  event_sound = then_sound 1 (λ n. n < 6) (tagged imports) (λ n h. tagged_sound n) (λ n m e xs ys h k. sym (recording_tag_is n e xs h) ∙ recording_tag_is m e ys k)
 
   pub events_sound : (k : ℕ) → IsFormat (counted_row k (an_event imports))
   events_sound k = counted_sound (an_event imports) k event_sound

@@ -1,5 +1,3 @@
-pub mod Bytes
-pub mod Fields
 pub mod Formats
 pub mod Laws
 pub mod Reading

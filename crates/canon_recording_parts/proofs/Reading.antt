@@ -6,8 +6,8 @@ use Rattle.std.proofs.lemmas.List.{get_or-take, get_or_past, take-append-drop}
 use Rattle.canon_lowering.specs.Storing.{narrow}
 use Rattle.canon_model.specs.Image.{IsField, le_bytes}
 use Rattle.canon_model.specs.Memory.{bytes_in, num}
-use Rattle.canon_recording_parts.proofs.Bytes.{le_number_bytes}
-use Rattle.canon_recording_parts.proofs.Fields.{field_length, field_then}
+use Rattle.canon_model.proofs.NumberBytes.{le_number_bytes}
+use Rattle.canon_model.proofs.ImageFields.{field_length, field_then}
 use Rattle.canon_recording_parts.specs.Format.{Format, also, any_number, as_, for_each, in_a_row, number, sized_field, so_many, then_}
 use Rattle.canon_recording_parts.specs.Events.{byte_list, raw}
 use Rattle.canon_recording_parts.specs.Read.{IsReadSoFar, ReadsFormat, StandBetween}
@@ -27,8 +27,8 @@ span_then bs from mid to xs ys s t = record {
 }
 
 -- the n bytes from a place on
-pub taken : (bs : List ℕ) (at n : ℕ) → at + n ≤ length bs → StandBetween bs at (at + n) (take n (drop at bs))
-taken bs at n room = record {
+pub recording_taken : (bs : List ℕ) (at n : ℕ) → at + n ≤ length bs → StandBetween bs at (at + n) (take n (drop at bs))
+recording_taken bs at n room = record {
   is = sym (take-append-drop n (drop at bs)) ∙ ap (λ l. take n (drop at bs) ++ l) (drop-drop n at bs);
   to_is = ap (λ i. at + i) (sym (length-take-le n (drop at bs) (omega (arith, length-drop at bs, room))));
   inside = room;
@@ -54,8 +54,8 @@ module _ {A B : Type 0} (F : Format A) (G : Format B) (bs : List ℕ) (from mid 
   pub both_read : (a : A) (b : B) → ReadsFormat F bs from mid (Ok a) → ReadsFormat G bs mid to (Ok b) → ReadsFormat (also F G) bs from to (Ok (a, b))
   both_read a b (xs, s, h) (ys, t, g) = (xs ++ ys, span_then bs from mid to xs ys s t, (xs, ys, refl, h, g))
 
-  pub first_stops : (e : ReplayError) → ReadsFormat F bs from mid (Err e) → ReadsFormat (also F G) bs from at (Err e)
-  first_stops e h = stops_along F (also F G) bs from from mid at e (λ j p is s. (j, is, inl s)) h
+  pub recording_first_stops : (e : ReplayError) → ReadsFormat F bs from mid (Err e) → ReadsFormat (also F G) bs from at (Err e)
+  recording_first_stops e h = stops_along F (also F G) bs from from mid at e (λ j p is s. (j, is, inl s)) h
 
   pub second_stops : (a : A) (e : ReplayError) → ReadsFormat F bs from mid (Ok a) → ReadsFormat G bs mid to (Err e) → ReadsFormat (also F G) bs from at (Err e)
   second_stops a e (xs, t, h) g = stops_along G (also F G) bs from mid to at e
@@ -64,8 +64,8 @@ module _ {A B : Type 0} (F : Format A) (G : Format B) (bs : List ℕ) (from mid 
 -- ---- in other words
 
 module _ {A B : Type 0} (c : A → B) (F : Format A) (bs : List ℕ) (from to : ℕ) where
-  pub named : (a : A) → ReadsFormat F bs from to (Ok a) → ReadsFormat (as_ c F) bs from to (Ok (c a))
-  named a (xs, s, h) = (xs, s, (a, refl, h))
+  pub recording_named : (a : A) → ReadsFormat F bs from to (Ok a) → ReadsFormat (as_ c F) bs from to (Ok (c a))
+  recording_named a (xs, s, h) = (xs, s, (a, refl, h))
 
   pub named_stops : (at : ℕ) (e : ReplayError) → ReadsFormat F bs from to (Err e) → ReadsFormat (as_ c F) bs from at (Err e)
   named_stops at e h = stops_along F (as_ c F) bs from from to at e (λ j p is s. (j, is, s)) h
@@ -112,8 +112,8 @@ module _ (bs : List ℕ) (at k : ℕ) (room : at + k ≤ length bs) (small : (i 
         is = sym bytes.0 ∙ ap₂ le_bytes width (sym e) ∙ sym (append-nil (le_bytes k n));
       }
 
-  pub number_read : (n : ℕ) → n ≡ num (narrow bs) at k → ReadsFormat (any_number k) bs at (at + k) (Ok n)
-  number_read n e = (take k (drop at bs), taken bs at k room, (tt, number_here n e))
+  pub recording_number_read : (n : ℕ) → n ≡ num (narrow bs) at k → ReadsFormat (any_number k) bs at (at + k) (Ok n)
+  recording_number_read n e = (take k (drop at bs), recording_taken bs at k room, (tt, number_here n e))
 
 pub number_short : (bs : List ℕ) (k at to : ℕ) → length bs - at < k → at ≤ length bs → ReadsFormat (any_number k) bs at to (Err (error.BadRecording at))
 number_short bs k at to h l = (0, omega arith, (refl, inl (omega (arith, h, length-drop at bs))))
@@ -139,7 +139,7 @@ module _ (k : ℕ) (Good : ℕ → Type 0) (bs : List ℕ) (from to at : ℕ) wh
 pub block_read : (bs : List ℕ) (from mid n : ℕ) → mid + n ≤ length bs → ReadsFormat (any_number 8) bs from mid (Ok n) → ReadsFormat byte_list bs from (mid + n) (Ok (take n (drop mid bs)))
 block_read bs from mid n room count =
     then_read 8 (λ n. ⊤) raw bs from mid (mid + n) 0 n (take n (drop mid bs)) count
-    (take n (drop mid bs), taken bs mid n room, (length-take-le n (drop mid bs) (omega (arith, length-drop mid bs, room)), refl))
+    (take n (drop mid bs), recording_taken bs mid n room, (length-take-le n (drop mid bs) (omega (arith, length-drop mid bs, room)), refl))
 
 pub block_short : (bs : List ℕ) (from mid n at : ℕ) → length bs - mid < n → mid ≤ length bs → ReadsFormat (any_number 8) bs from mid (Ok n) → ReadsFormat byte_list bs from at (Err (error.BadRecording mid))
 block_short bs from mid n at h l count =
@@ -215,17 +215,17 @@ times_split (suc n) k zero e = absurd (omega arith)
 times_split (suc n) k (suc m) e = ap (λ l. tt ∷ l) (times_split n k m (omega arith))
 
 module _ {A : Type 0} (F : Format A) (bs : List ℕ) where
-  pub row_begin : (at : ℕ) → at ≤ length bs → IsReadSoFar (in_a_row F 0) bs at at []
-  row_begin at h = each_begin (λ (u : Unit {0}). F) bs at h
+  pub recording_row_begin : (at : ℕ) → at ≤ length bs → IsReadSoFar (in_a_row F 0) bs at at []
+  recording_row_begin at h = each_begin (λ (u : Unit {0}). F) bs at h
 
-  pub row_go_on : (from mid to n : ℕ) (things : List A) (a : A) → IsReadSoFar (in_a_row F n) bs from mid things → ReadsFormat F bs mid to (Ok a) → IsReadSoFar (in_a_row F (n + 1)) bs from to (things ++ a ∷ [])
-  row_go_on from mid to n things a r h =
+  pub recording_row_go_on : (from mid to n : ℕ) (things : List A) (a : A) → IsReadSoFar (in_a_row F n) bs from mid things → ReadsFormat F bs mid to (Ok a) → IsReadSoFar (in_a_row F (n + 1)) bs from to (things ++ a ∷ [])
+  recording_row_go_on from mid to n things a r h =
       let next : suc n ≡ n + 1 = omega arith in
       subst (λ is. IsReadSoFar (for_each (λ (u : Unit {0}). F) is) bs from to (things ++ a ∷ [])) (times_more n ∙ ap (λ i. so_many i) next)
       (each_go_on (λ (u : Unit {0}). F) bs from mid to (so_many n) tt things a r h)
 
-  pub row_stop : (from mid to at n count : ℕ) (things : List A) (e : ReplayError) → n < count → IsReadSoFar (in_a_row F n) bs from mid things → ReadsFormat F bs mid to (Err e) → ReadsFormat (in_a_row F count) bs from at (Err e)
-  row_stop from mid to at n count things e more r h =
+  pub recording_row_stop : (from mid to at n count : ℕ) (things : List A) (e : ReplayError) → n < count → IsReadSoFar (in_a_row F n) bs from mid things → ReadsFormat F bs mid to (Err e) → ReadsFormat (in_a_row F count) bs from at (Err e)
+  recording_row_stop from mid to at n count things e more r h =
       let split : so_many n ++ tt ∷ so_many (count - suc n) ≡ so_many count = times_split n (count - suc n) count (omega (arith, more)) in
       subst (λ is. ReadsFormat (for_each (λ (u : Unit {0}). F) is) bs from at (Err e)) split
       (each_stop (λ (u : Unit {0}). F) bs from mid to at (so_many n) tt (so_many (count - suc n)) things e r h)

@@ -4,8 +4,8 @@ use Rattle.std.specs.Prelude.{slice_index_or, ⊤}
 use Rattle.std.specs.Int.{to_le_bytes}
 use Rattle.std.proofs.lemmas.List.{take_more}
 use Rattle.canon_model.specs.Image.{IsField, le_bytes}
-use Rattle.canon_recording_parts.proofs.Bytes.{low_first}
-use Rattle.canon_recording_parts.proofs.Fields.{field_length, field_then}
+use Rattle.canon_model.proofs.NumberBytes.{low_first}
+use Rattle.canon_model.proofs.ImageFields.{field_length, field_then}
 use Rattle.canon_recording_parts.proofs.Reading.{each_more, times_more, times_split}
 use Rattle.canon_recording_parts.specs.Format.{Format, IsFormat, also, any_number, as_, empty_list, for_each, in_a_row, number, sized_field, so_many, then_}
 use Rattle.canon_recording_parts.specs.Events.{byte_list, raw}

@@ -1,19 +1,16 @@
 -- The blocks that live, and what is apart from them.
-use Rattle.std.proofs.Common.{◌≡◌, ℕ, ◌+◌, ◌-◌, append-nil, ap₂, take, length-append, ◌<◌, ◌≤◌, Bool, true, false, not, List, [], ◌∷◌, ◌++◌, length, refl, sym, ap, subst, ◌∙◌, arith, ◌⊎◌, inl, inr, ⊎_elim, ◌↔◌, IsTrue, eqb-true, eq-eqb}
+use Rattle.std.proofs.Common.{◌≡◌, ℕ, ◌+◌, ◌-◌, append-nil, ap₂, take, length-append, ◌<◌, ◌≤◌, Bool, true, false, not, List, [], ◌∷◌, ◌++◌, length, refl, sym, ap, subst, ◌∙◌, arith, ◌⊎◌, inl, inr, ⊎_elim, ◌↔◌, IsTrue}
 use Rattle.std.specs.List.{All, Contains}
 use Rattle.std.proofs.Math.Seq.{take-append_seam}
-use Rattle.std.proofs.lemmas.Bool.{and_parts, both_ways, cases_Bool, cases_lt, cond-false, cond-true}
+use Rattle.std.proofs.lemmas.Bool.{both_ways, cases_Bool, cond-false, cond-true}
 use Rattle.std.proofs.lemmas.List.Elements.{All-append, All-cons, All-contains, All-filter, All-head, All-nil, All-same, All-tail, All-take, All-weaker, Contains-append_cases, Contains-get_or, filter-append}
 use Rattle.std.specs.Prelude.{slice_index_or}
-use Rattle.canon_model.specs.Memory.{Block, InBlocks}
+use Rattle.canon_model.specs.Memory.{Block}
 use Rattle.canon_model.specs.Requests.{Call}
-use Rattle.canon_memory.specs.Realloc.{InOthers, new_block, old_block}
-use Rattle.canon_memory.specs.Watch.{BlocksApart, is_block, other_blocks, unless_empty}
-use Rattle.canon_memory.proofs.Watch.{listed_none, listed_some, same_from, same_yes}
+use Rattle.canon_memory.specs.Realloc.{new_block, old_block}
+use Rattle.canon_memory.specs.Watch.{BlocksApart, is_block, other_blocks}
+use Rattle.canon_memory.proofs.Watch.{same_from, same_yes, within}
 use Rattle.canon_replay_guest.specs.Lawful.{AreListed, AreLiveUpTo, IsFree, IsHighestBlock, IsLiveUpTo, IsNotEmpty, IsOldOrApart}
-
-within : (b : Block) (i : ℕ) → InBlocks (b ∷ []) i → (b.start ≤ i) × (i < b.start + b.size)
-within b i h = ⊎_elim (λ p. p) (λ k. absurd k) h
 
 -- ---- free
 

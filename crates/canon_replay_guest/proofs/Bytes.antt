@@ -1,9 +1,9 @@
 -- Memory that was grown, and bytes that were copied: the law of `realloc`.
-use Rattle.std.proofs.Common.{◌≡◌, ℕ, ◌+◌, ◌-◌, ◌<◌, ◌≤◌, min, List, [], ◌∷◌, ◌++◌, drop, length, replicate, sym, ap, subst, ◌∙◌, arith, ◌⊎◌, inl, inr, ⊎_elim, length-append, length-drop}
+use Rattle.std.proofs.Common.{◌≡◌, ℕ, ◌+◌, ◌-◌, ◌<◌, ◌≤◌, List, [], ◌∷◌, ◌++◌, drop, length, replicate, sym, ap, ◌∙◌, arith, ◌⊎◌, inl, inr, ⊎_elim, length-append, length-drop}
 use Rattle.std.proofs.Math.Seq.{get_or-append_right, paste}
 use Rattle.std.proofs.lemmas.Bool.{both_ways, cases_Bool, cases_lt}
 use Rattle.std.proofs.lemmas.List.{get_or-drop, get_or-replicate, get_or_append_left, get_or_past, length-replicate}
-use Rattle.std.proofs.lemmas.List.Edits.{length-paste, paste_none}
+use Rattle.std.proofs.lemmas.List.Edits.{length-paste}
 use Rattle.std.proofs.lemmas.List.Elements.{Contains-get_or}
 use Rattle.std.specs.List.{All}
 use Rattle.std.specs.Prelude.{slice_index, slice_index_or}
@@ -15,6 +15,7 @@ use Rattle.canon_memory.proofs.Watch.{law_from, same_from, same_yes}
 use Rattle.canon_scripted.proofs.Bytes.{paste_in, paste_out}
 use Rattle.canon_replay_guest.specs.Lawful.{IsLawfulAnswer}
 use Rattle.canon_replay_guest.specs.Replaying.{CanGrow, grown_to, moved}
+use Rattle.canon_scripted.proofs.Laws.{kept}
 
 -- ---- grown
 
@@ -35,9 +36,6 @@ grown_same m n i = ⊎_elim
     (cases_lt i (length m))
 
 -- ---- copied
-
-abbrev pub kept : Call → ℕ
-kept c = min c.old_size c.new_size
 
 module _ (m : List ℕ) (from to count : ℕ) (inside : from + count ≤ length m) (room : to + count ≤ length m) where
   moved_is : moved m from to count ≡ paste m to (drop from m) count

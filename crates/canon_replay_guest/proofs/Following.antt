@@ -233,17 +233,17 @@ module _ (k : ℕ) (s : Replaying) (few : k < length s.recorded) where
   reason_left stop.Unfit m len q r = tt
 
   -- one call goes on, or all is told
-  abbrev One : Replaying → List Event → RequestOutcome → Replaying → ℕ → List RequestOutcome → Type 0
-  One mid es x h last calls = Going mid (es ++ outcome_events x) ⊎ Done h last (es ++ outcome_events x ++ flat_map outcome_events calls)
+  abbrev OneEvent : Replaying → List Event → RequestOutcome → Replaying → ℕ → List RequestOutcome → Type 0
+  OneEvent mid es x h last calls = Going mid (es ++ outcome_events x) ⊎ Done h last (es ++ outcome_events x ++ flat_map outcome_events calls)
 
   one_going : (g mid0 mid h : Replaying) (last : ℕ) (es : List Event) (x : RequestOutcome) (calls : List RequestOutcome) → Going g es → IsOpened g mid0 → IsUntrapped x → Replays g x mid → mid.stop ≡ mid0.stop → mid.call ≡ mid0.call
-      → mid.live ≡ live_along g.live (outcome_events x) → Chain mid (to_length x) calls h last → One mid es x h last calls
+      → mid.live ≡ live_along g.live (outcome_events x) → Chain mid (to_length x) calls h last → OneEvent mid es x h last calls
   one_going g mid0 mid h last es x calls go o i d stop call live rest = ⊎_elim
       (λ its. inl (next_going g mid0 mid es x go o i d stop call its live))
       (λ past. inr (inr (inr (overrun g mid h (to_length x) last es (flat_map outcome_events calls) x go (subst (λ (n : ℕ). k < n) (sym call) past.0, past.1, past.2) (calls_rise mid h (to_length x) last calls rest) (made_in g mid x d)))))
       (opening k g mid0 (few_at g es go) go.in_call o)
 
-  one : (g mid h : Replaying) (last : ℕ) (x : RequestOutcome) (calls : List RequestOutcome) (es : List Event) → Going g es → Replays g x mid → Chain mid (to_length x) calls h last → One mid es x h last calls
+  one : (g mid h : Replaying) (last : ℕ) (x : RequestOutcome) (calls : List RequestOutcome) (es : List Event) → Going g es → Replays g x mid → Chain mid (to_length x) calls h last → OneEvent mid es x h last calls
   one g mid h last (stepped q before after s) calls es go d rest =
       let (n, l, (mid0, grown, b, next, step, e)) = d in
       one_going g mid0 mid h last es (stepped q before after s) calls go (opens q g (length before) mid0 grown b) tt d (ap (λ (r : Replaying). r.stop) e) (ap (λ (r : Replaying). r.call) e)

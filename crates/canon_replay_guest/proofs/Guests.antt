@@ -71,17 +71,17 @@ step_cause q g h m m2 (Ok s) d = tt
 step_cause q g h m m2 (Err fault.Trap) d = trap_rises g h q m (length m2) d
 step_cause q g h m m2 (Err fault.OutOfMemory) d = short_rises g h d
 
-pub start_moves : (func : ℕ) (words : List ℕ) (g h : Replaying) (m m2 : Memory) (r : Result Step GuestFault) → DoesStep (starts func words) g m.bytes h m2.bytes r
+pub replay_start_moves : (func : ℕ) (words : List ℕ) (g h : Replaying) (m m2 : Memory) (r : Result Step GuestFault) → DoesStep (starts func words) g m.bytes h m2.bytes r
     → OnAnswer r (ReplayMoves (guest_in g m) (start_events func words m.bytes m2.bytes r) (guest_in h m2))
-start_moves func words g h m m2 (Ok s) d = one_move g h m m2 (stepped (starts func words) m.bytes m2.bytes s) _ refl refl refl d
-start_moves func words g h m m2 (Err fault.Trap) d = one_move g h m m2 (trapped (starts func words) m.bytes (length m2.bytes)) _ refl refl refl d
-start_moves func words g h m m2 (Err fault.OutOfMemory) d = tt
+replay_start_moves func words g h m m2 (Ok s) d = one_move g h m m2 (stepped (starts func words) m.bytes m2.bytes s) _ refl refl refl d
+replay_start_moves func words g h m m2 (Err fault.Trap) d = one_move g h m m2 (trapped (starts func words) m.bytes (length m2.bytes)) _ refl refl refl d
+replay_start_moves func words g h m m2 (Err fault.OutOfMemory) d = tt
 
-pub resume_moves : (words : List ℕ) (g h : Replaying) (m m2 : Memory) (r : Result Step GuestFault) → DoesStep (resumes words) g m.bytes h m2.bytes r
+pub replay_resume_moves : (words : List ℕ) (g h : Replaying) (m m2 : Memory) (r : Result Step GuestFault) → DoesStep (resumes words) g m.bytes h m2.bytes r
     → OnAnswer r (ReplayMoves (guest_in g m) (resume_events words m.bytes m2.bytes r) (guest_in h m2))
-resume_moves words g h m m2 (Ok s) d = one_move g h m m2 (stepped (resumes words) m.bytes m2.bytes s) _ refl refl refl d
-resume_moves words g h m m2 (Err fault.Trap) d = one_move g h m m2 (trapped (resumes words) m.bytes (length m2.bytes)) _ refl refl refl d
-resume_moves words g h m m2 (Err fault.OutOfMemory) d = tt
+replay_resume_moves words g h m m2 (Ok s) d = one_move g h m m2 (stepped (resumes words) m.bytes m2.bytes s) _ refl refl refl d
+replay_resume_moves words g h m m2 (Err fault.Trap) d = one_move g h m m2 (trapped (resumes words) m.bytes (length m2.bytes)) _ refl refl refl d
+replay_resume_moves words g h m m2 (Err fault.OutOfMemory) d = tt
 
 -- ---- answers
 
@@ -123,14 +123,14 @@ end_cause q g h m (Ok tt) d = tt
 end_cause q g h m (Err fault.Trap) d = trap_rises g h q m (length m) d
 end_cause q g h m (Err fault.OutOfMemory) d = short_rises g h d
 
-pub post_moves : (func : ℕ) (words : List ℕ) (g h : Replaying) (m : Memory) (r : Result (Unit {0}) GuestFault) → DoesEnd (posts func words) g m.bytes h r
+pub replay_post_moves : (func : ℕ) (words : List ℕ) (g h : Replaying) (m : Memory) (r : Result (Unit {0}) GuestFault) → DoesEnd (posts func words) g m.bytes h r
     → OnAnswer r (ReplayMoves (guest_in g m) (post_events func words m.bytes r) (guest_in h m))
-post_moves func words g h m (Ok tt) d = one_move g h m m (ended (posts func words) m.bytes) _ refl refl refl d
-post_moves func words g h m (Err fault.Trap) d = one_move g h m m (trapped (posts func words) m.bytes (length m.bytes)) _ refl refl refl d
-post_moves func words g h m (Err fault.OutOfMemory) d = tt
+replay_post_moves func words g h m (Ok tt) d = one_move g h m m (ended (posts func words) m.bytes) _ refl refl refl d
+replay_post_moves func words g h m (Err fault.Trap) d = one_move g h m m (trapped (posts func words) m.bytes (length m.bytes)) _ refl refl refl d
+replay_post_moves func words g h m (Err fault.OutOfMemory) d = tt
 
-pub dtor_moves : (func rep : ℕ) (g h : Replaying) (m : Memory) (r : Result (Unit {0}) GuestFault) → DoesEnd (destroys func rep) g m.bytes h r
+pub replay_dtor_moves : (func rep : ℕ) (g h : Replaying) (m : Memory) (r : Result (Unit {0}) GuestFault) → DoesEnd (destroys func rep) g m.bytes h r
     → OnAnswer r (ReplayMoves (guest_in g m) (dtor_events func rep m.bytes r) (guest_in h m))
-dtor_moves func rep g h m (Ok tt) d = one_move g h m m (ended (destroys func rep) m.bytes) _ refl refl refl d
-dtor_moves func rep g h m (Err fault.Trap) d = one_move g h m m (trapped (destroys func rep) m.bytes (length m.bytes)) _ refl refl refl d
-dtor_moves func rep g h m (Err fault.OutOfMemory) d = tt
+replay_dtor_moves func rep g h m (Ok tt) d = one_move g h m m (ended (destroys func rep) m.bytes) _ refl refl refl d
+replay_dtor_moves func rep g h m (Err fault.Trap) d = one_move g h m m (trapped (destroys func rep) m.bytes (length m.bytes)) _ refl refl refl d
+replay_dtor_moves func rep g h m (Err fault.OutOfMemory) d = tt

@@ -4,7 +4,7 @@ use Rattle.serde_json.specs.Data.{Data, null, boolean, number, string, array, ob
 use Rattle.serde_json.specs.Find.{as_array, as_null, as_str}
 use Rattle.serde_json.specs.View.{items_view}
 use Rattle.serde_json.specs.declared.value.Value.{Value}
-use Rattle.canon_json.specs.Json.{Gives, two}
+use Rattle.canon_json.specs.Json.{ReadsAs, two}
 use Rattle.canon_json.specs.declared.error.ScriptError.{ScriptError}
 use Rattle.canon_json.specs.declared.error.ScriptError.TheVariants as refused
 use Rattle.canon_model.specs.Shape.{Name}
@@ -57,14 +57,14 @@ pub pair_given : (d a b : Data) (x y : Literal) → Some (a, b) ≡ two d → va
 pair_given d a b x y e first second =
     pair_is d a b e ∙ (ap (option_and_then (λ x. option_map (λ y. (x, y)) (value_of b))) first ∙ ap (option_map (λ y. (x, y))) second)
 
-pub key_refused : (e : ScriptError) (d a b : Data) → Some (a, b) ≡ two d → Gives {X = Val} literal_view (Err e) (value_of a) → Gives {X = Val × Val} pair_view (Err e) (pair_of d)
-key_refused refused.BadScript d a b is h = pair_is d a b is ∙ ap (option_and_then (λ x. option_map (λ y. (x, y)) (value_of b))) h
-key_refused refused.OutOfMemory d a b is h = tt
+pub script_key_refused : (e : ScriptError) (d a b : Data) → Some (a, b) ≡ two d → ReadsAs {X = Val} literal_view (Err e) (value_of a) → ReadsAs {X = Val × Val} pair_view (Err e) (pair_of d)
+script_key_refused refused.BadScript d a b is h = pair_is d a b is ∙ ap (option_and_then (λ x. option_map (λ y. (x, y)) (value_of b))) h
+script_key_refused refused.OutOfMemory d a b is h = tt
 
-pub value_refused : (e : ScriptError) (d a b : Data) (x : Literal) → Some (a, b) ≡ two d → value_of a ≡ Some x → Gives {X = Val} literal_view (Err e) (value_of b) → Gives {X = Val × Val} pair_view (Err e) (pair_of d)
-value_refused refused.BadScript d a b x is first h =
+pub script_value_refused : (e : ScriptError) (d a b : Data) (x : Literal) → Some (a, b) ≡ two d → value_of a ≡ Some x → ReadsAs {X = Val} literal_view (Err e) (value_of b) → ReadsAs {X = Val × Val} pair_view (Err e) (pair_of d)
+script_value_refused refused.BadScript d a b x is first h =
     pair_is d a b is ∙ (ap (option_and_then (λ x. option_map (λ y. (x, y)) (value_of b))) first ∙ ap (option_map (λ y. (x, y))) h)
-value_refused refused.OutOfMemory d a b x is first h = tt
+script_value_refused refused.OutOfMemory d a b x is first h = tt
 
 -- ---- cases
 
@@ -169,20 +169,20 @@ result_reads d = refl
 pub unread : (by : Name × Payload → Option Literal) (d : Data) (q : Option Literal) → q ≡ option_and_then by (option_and_then case_in (as_array d)) → None ≡ case_parts d → q ≡ None
 unread by d q is e = is ∙ ap (option_and_then by) (no_case d e)
 
-refused_payload : (by : Name × Payload → Option Literal) (name : Name) (o : Option Payload) (e : ScriptError) → Gives {X = Option (Box Val Global)} payload_view (Err e) o
-    → Gives {X = Val} literal_view (Err e) (option_and_then by (option_map (λ p. case_with name p) o))
+refused_payload : (by : Name × Payload → Option Literal) (name : Name) (o : Option Payload) (e : ScriptError) → ReadsAs {X = Option (Box Val Global)} payload_view (Err e) o
+    → ReadsAs {X = Val} literal_view (Err e) (option_and_then by (option_map (λ p. case_with name p) o))
 refused_payload by name o refused.BadScript h = ap (λ p. option_and_then by (option_map (λ x. case_with name x) p)) h
 refused_payload by name o refused.OutOfMemory h = tt
 
 pub case_refused : (by : Name × Payload → Option Literal) (d : Data) (q : Option Literal) (name : Name) (f : Option Data) (e : ScriptError) → q ≡ option_and_then by (option_and_then case_in (as_array d)) → Some (name, f) ≡ case_parts d
-    → Gives {X = Option (Box Val Global)} payload_view (Err e) (payload_by f) → Gives {X = Val} literal_view (Err e) q
+    → ReadsAs {X = Option (Box Val Global)} payload_view (Err e) (payload_by f) → ReadsAs {X = Val} literal_view (Err e) q
 case_refused by d q name f e is parts h =
-    subst (λ o. Gives {X = Val} literal_view (Err e) o) (sym (is ∙ ap (option_and_then by) (case_is d (name, f) parts))) (refused_payload by name (payload_by f) e h)
+    subst (λ o. ReadsAs {X = Val} literal_view (Err e) o) (sym (is ∙ ap (option_and_then by) (case_is d (name, f) parts))) (refused_payload by name (payload_by f) e h)
 
 pub case_given : (by : Name × Payload → Option Literal) (d : Data) (q : Option Literal) (name : Name) (f : Option Data) (x : Payload) (r : Result Val ScriptError) → q ≡ option_and_then by (option_and_then case_in (as_array d))
-    → Some (name, f) ≡ case_parts d → payload_by f ≡ Some x → Gives literal_view r (by (name, x)) → Gives literal_view r q
+    → Some (name, f) ≡ case_parts d → payload_by f ≡ Some x → ReadsAs literal_view r (by (name, x)) → ReadsAs literal_view r q
 case_given by d q name f x r is parts found h =
-    subst (λ o. Gives literal_view r o) (sym (is ∙ (ap (option_and_then by) (case_is d (name, f) parts) ∙ ap (λ p. option_and_then by (option_map (λ y. case_with name y) p)) found))) h
+    subst (λ o. ReadsAs literal_view r o) (sym (is ∙ (ap (option_and_then by) (case_is d (name, f) parts) ∙ ap (λ p. option_and_then by (option_map (λ y. case_with name y) p)) found))) h
 
 -- ---- options
 

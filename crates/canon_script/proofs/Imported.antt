@@ -158,17 +158,17 @@ answer_sound results (array ds) a e = option_and_then_some (if_many results) (ea
     by_test (nat_eq (length xs) results) (Some (Some xs)) a h (λ is same. subst (IsAnswer (Some results)) (same_Some (Some xs) a same) (ap Some (sym (eqb-true (length xs) results is)))))
 answer_sound results (object ms) a e = absurd (cc)
 
-abbrev HasParts : HostParts → Type 0
-HasParts h = AllByRecursion (IsAnswer (Some (length h.results))) h.answers
+abbrev HasImportParts : HostParts → Type 0
+HasImportParts h = AllByRecursion (IsAnswer (Some (length h.results))) h.answers
 
-host_sound : (types : List InterfaceType) (d : Data) (h : HostParts) → host_of types d ≡ Some h → HasParts h
+host_sound : (types : List InterfaceType) (d : Data) (h : HostParts) → host_of types d ≡ Some h → HasImportParts h
 host_sound types d h e =
     option_and_then_some _ (option_and_then (each_of (reference_of types)) (get (codes "params") d)) h e (λ params s1 e1.
     option_and_then_some _ (option_and_then (each_of (reference_of types)) (get (codes "results") d)) h e1 (λ results s2 e2.
     by_map (host_with params results) (option_and_then (each_of (host_answer_of (length results))) (get (codes "answers") d)) h e2 (λ answers s3 is.
     option_and_then_some (each_of (host_answer_of (length results))) (get (codes "answers") d) answers s3 (λ x s4 e4.
     option_and_then_some (each (host_answer_of (length results))) (as_array x) answers e4 (λ ds s5 e5.
-    subst HasParts is (each_all (IsAnswer (Some (length results))) (host_answer_of (length results)) (answer_sound (length results)) ds answers e5))))))
+    subst HasImportParts is (each_all (IsAnswer (Some (length results))) (host_answer_of (length results)) (answer_sound (length results)) ds answers e5))))))
 
 builtin_over : (t : TypeTable) (r : ℕ) (word : List ℕ) (i : Import) → r < length t.resources → builtin_by r word ≡ Some i → IsTaken t i []
 builtin_over t r word i known e = by_word (pointwise nat_eq word (codes "new")) (pointwise nat_eq word (codes "rep")) (pointwise nat_eq word (codes "drop")) e
@@ -192,7 +192,7 @@ pub record AreImports (count : ℕ) (m : Imported) : Type 0 where
   pub funcs : count ≤ length m.table.funcs
   pub taken : AreTaken m.table m.imports m.answers
 
-host_keeps : (count : ℕ) (m n : Imported) (h : HostParts) → AreImports count m → HasParts h → with_host m h ≡ Some n → AreImports count n
+host_keeps : (count : ℕ) (m n : Imported) (h : HostParts) → AreImports count m → HasImportParts h → with_host m h ≡ Some n → AreImports count n
 host_keeps count m n h are parts e =
     let t = grown m.table h.params h.results in
     let i = import.Host (length m.table.funcs) 0 in

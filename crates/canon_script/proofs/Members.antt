@@ -6,7 +6,7 @@ use Rattle.serde_json.specs.Data.{Data, null, boolean, number, string, array, ob
 use Rattle.serde_json.specs.Find.{as_array, as_str}
 use Rattle.serde_json.specs.View.{items_view, view}
 use Rattle.serde_json.specs.declared.value.Value.{Value}
-use Rattle.canon_json.specs.Json.{Gives, each_of, onward, two}
+use Rattle.canon_json.specs.Json.{ReadsAs, each_of, onward, two}
 use Rattle.canon_json.specs.declared.error.ScriptError.{ScriptError}
 use Rattle.canon_json.specs.declared.error.ScriptError.TheVariants as refused
 use Rattle.canon_model.specs.Shape.{Name}
@@ -164,7 +164,7 @@ no_list F f us k x done lists lt at none inv = row_none (λ ws. F (items_view ws
 
 pub array_refused : {A X : Type 0} (F : Items → Option (List A)) (f : Data → Option A) (seen : X → A) (e : ScriptError) (d : Data) (vs us : List Value) (k : ℕ) (x : Value) (done : List A) → Lists F f
     → Some (items_view vs) ≡ as_array d → us ≡ vs → k < length us → x ≡ get_or us k x → option_map (λ xs. done ++ xs) (F (items_view (drop k us))) ≡ F (items_view us)
-    → Gives {X = X} seen (Err e) (f (view x)) → Gives {X = Vec X Global} (λ xs. map seen xs.items) (Err e) (option_and_then F (as_array d))
+    → ReadsAs {X = X} seen (Err e) (f (view x)) → ReadsAs {X = Vec X Global} (λ xs. map seen xs.items) (Err e) (option_and_then F (as_array d))
 array_refused F f seen refused.BadScript d vs us k x done lists is same lt at inv h =
     array_by F d (items_view vs) None is (ap (λ ws. F (items_view ws)) (sym same) ∙ no_list F f us k x done lists lt at h inv)
 array_refused F f seen refused.OutOfMemory d vs us k x done lists is same lt at inv h = tt
@@ -177,18 +177,18 @@ array_step F f us k x done new a lists lt at is grown inv =
 -- ---- values made of what was read
 
 same_refusal : {A X : Type 0} (seen : X → A) (wrap : A → Literal) (o : Option A) (p : Option Literal) (e : ScriptError) → p ≡ option_map wrap o
-    → Gives {X = X} seen (Err e) o → Gives {X = Val} literal_view (Err e) p
+    → ReadsAs {X = X} seen (Err e) o → ReadsAs {X = Val} literal_view (Err e) p
 same_refusal seen wrap o p refused.BadScript is given = is ∙ ap (option_map wrap) given
 same_refusal seen wrap o p refused.OutOfMemory is given = tt
 
 -- a value is made of what was read, where that was there
 pub made_of : {A X : Type 0} (make : X → Val) (seen : X → A) (wrap : A → Literal) (o : Option A) (p : Option Literal) (r : Result X ScriptError) (v : Result Val ScriptError)
     → p ≡ option_map wrap o → ((x : X) → literal_view (make x) ≡ wrap (seen x))
-    → Gives seen r o → MatchResult r (λ x. IsOkAnd v (λ y. y ≡ make x)) (λ e. v ≡ Err e) → Gives literal_view v p
+    → ReadsAs seen r o → MatchResult r (λ x. IsOkAnd v (λ y. y ≡ make x)) (λ e. v ≡ Err e) → ReadsAs literal_view v p
 made_of make seen wrap o p (Ok x) (Ok y) is shown given made =
     is ∙ (ap (option_map wrap) given ∙ ap (λ z. Some z) (sym (ap literal_view made ∙ shown x)))
 made_of make seen wrap o p (Ok x) (Err e) is shown given made = absurd made
-made_of make seen wrap o p (Err e) v is shown given made = subst (λ (w : Result Val ScriptError). Gives literal_view w p) (sym made) (same_refusal seen wrap o p e is given)
+made_of make seen wrap o p (Err e) v is shown given made = subst (λ (w : Result Val ScriptError). ReadsAs literal_view w p) (sym made) (same_refusal seen wrap o p e is given)
 
 pub text_by : (d : Data) → value_by d kind.String ≡ option_map text (as_str d)
 text_by (string s) = refl
@@ -268,7 +268,7 @@ record_by (object ms) ds o e is = absurd (cc)
 
 pub record_refused : (e : ScriptError) (d : Data) (vs us : List Value) (k : ℕ) (x : Value) (n f : Data) (name : Name) (done : List (Name × Literal)) → Some (items_view vs) ≡ as_array d → us ≡ vs → k < length us → x ≡ get_or us k x
     → Some (n, f) ≡ two (view x) → Some name ≡ as_str n → option_map (λ fs. done ++ fs) (named_literals (items_view (drop k us))) ≡ named_literals (items_view us)
-    → Gives {X = Val} literal_view (Err e) (value_of f) → Gives {X = Val} literal_view (Err e) (value_by d kind.Record)
+    → ReadsAs {X = Val} literal_view (Err e) (value_of f) → ReadsAs {X = Val} literal_view (Err e) (value_by d kind.Record)
 record_refused refused.BadScript d vs us k x n f name done is same lt at pair named inv h =
     record_by d (items_view vs) None is (ap (λ ws. named_literals (items_view ws)) (sym same) ∙ no_list named_literals field_of us k x done (λ d ds. refl) lt at (no_field (view x) n f name pair named h) inv)
 record_refused refused.OutOfMemory d vs us k x n f name done is same lt at pair named inv h = tt

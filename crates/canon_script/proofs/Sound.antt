@@ -8,7 +8,7 @@ use Rattle.std.specs.Option.{option_map_or}
 use lib.Pointwise.{pointwise}
 use Rattle.serde_json.specs.Data.{Data, Items, array, boolean, null, number, object, string}
 use Rattle.serde_json.specs.Find.{as_array, as_bool, as_object, get}
-use Rattle.canon_json.specs.Json.{Gives, each, each_of, has_len, u32_of, word_of}
+use Rattle.canon_json.specs.Json.{ReadsAs, each, each_of, has_len, u32_of, word_of}
 use Rattle.canon_json.specs.declared.error.ScriptError.{ScriptError}
 use Rattle.canon_json.proofs.Found.{by_map, by_test, each_all}
 use Rattle.canon_types.specs.Table.{TypeTable}
@@ -145,6 +145,6 @@ module _ (s : Settings) (inside : s.heap ≤ s.memory) (items : Items) where
   played_sound resources types funcs imports p e =
       option_and_then_some (played_over s items) (declared_of resources types funcs imports) p e (λ d s1 e1. over_sound d p (declared_sound resources types funcs imports d s1) e1)
 
-pub reads_sound : (d : Data) (s : Settings) (resources types funcs imports items : Items) (r : Result Script ScriptError) → Some s ≡ settings_of d → Gives play_of r (played s resources types funcs imports items) → IfOk r (λ x. IsWellFormed (play_of x))
+pub reads_sound : (d : Data) (s : Settings) (resources types funcs imports items : Items) (r : Result Script ScriptError) → Some s ≡ settings_of d → ReadsAs play_of r (played s resources types funcs imports items) → IfOk r (λ x. IsWellFormed (play_of x))
 reads_sound d s resources types funcs imports items (Ok x) e h = played_sound s (settings_sound d s (sym e)) items resources types funcs imports (play_of x) h
 reads_sound d s resources types funcs imports items (Err f) e h = tt

@@ -6,14 +6,14 @@ use Rattle.canon_model.specs.Shape.{Name}
 use Rattle.canon_json.proofs.Found.{by_map}
 use Rattle.canon_val.specs.declared.val.Val.{Val}
 use Rattle.canon_literals.specs.Literals.{Literal, Literals, Payload, literals_view, bool, list, literal, literals_of, no_literals, no_payload, option, text, tuple, u32, u64, with_payload}
-use Rattle.canon_script.specs.Typed.{IsForm, AreReadBack, TypedValues, a_number, a_text, alone, both_literals, each_literal, flag_from, flag_in, flag_payload, list_items_in, long_in, number_in, string_and_long_in, pair_literal, signature_number, string_in, the_numbers, the_pairs, truth_in, tuple_in, two_in, typed_literals, typed_values}
+use Rattle.canon_script.specs.Typed.{IsForm, AreReadBack, TypedValues, a_number, a_text, alone, both_literals, each_literal, flag_from, flag_in, flag_payload, list_items_in, long_in, literal_number, string_and_long_in, pair_literal, signature_number, string_in, the_numbers, the_pairs, truth_in, tuple_in, two_in, typed_literals, typed_values}
 
 -- a row of another length has no two members
-pub two_of_none : (vs : List Val) → length vs ≢ 2 → two_in (literals_of (literals_view vs)) ≡ None
-two_of_none [] h = refl
-two_of_none (v ∷ []) h = refl
-two_of_none (v ∷ w ∷ []) h = absurd (h refl)
-two_of_none (v ∷ w ∷ x ∷ vs) h = refl
+pub script_two_of_none : (vs : List Val) → length vs ≢ 2 → two_in (literals_of (literals_view vs)) ≡ None
+script_two_of_none [] h = refl
+script_two_of_none (v ∷ []) h = refl
+script_two_of_none (v ∷ w ∷ []) h = absurd (h refl)
+script_two_of_none (v ∷ w ∷ x ∷ vs) h = refl
 
 -- ---- what is read has these literals
 
@@ -21,7 +21,7 @@ two_of_none (v ∷ w ∷ x ∷ vs) h = refl
 abbrev Inverts : {A : Type 0} → (Literal → Option A) → (A → Literal) → Type 0
 Inverts {A} read told = (x : Literal) (a : A) → read x ≡ Some a → told a ≡ x
 
-number_inverts : Inverts number_in u32
+number_inverts : Inverts literal_number u32
 number_inverts (u32 n) a e = ap u32 (sym (same_Some n a e))
 number_inverts _ a e = absurd (cc)
 
@@ -98,12 +98,12 @@ either false o q x e go other = other e
 
 pub is_form : (signature : ℕ) (xs : List Literal) (v : TypedValues) → typed_values signature xs ≡ Some v → IsForm signature xs v
 is_form signature xs v e =
-    either (nat_eq signature 1) _ _ v e (λ one f. by_map a_number (alone number_in xs) v f (λ n s is.
-    formed signature xs v (a_number n) is (sym (eqb-true signature 1 one)) (alone_inverts number_in u32 number_inverts xs n s))) (λ e.
+    either (nat_eq signature 1) _ _ v e (λ one f. by_map a_number (alone literal_number xs) v f (λ n s is.
+    formed signature xs v (a_number n) is (sym (eqb-true signature 1 one)) (alone_inverts literal_number u32 number_inverts xs n s))) (λ e.
     either (nat_eq signature 2) _ _ v e (λ one f. by_map a_text (alone string_in xs) v f (λ n s is.
     formed signature xs v (a_text n) is (sym (eqb-true signature 2 one)) (alone_inverts string_in text text_inverts xs n s))) (λ e.
-    either (nat_eq signature 3) _ _ v e (λ one f. by_map the_numbers (alone (list_items_in number_in) xs) v f (λ n s is.
-    formed signature xs v (the_numbers n) is (sym (eqb-true signature 3 one)) (alone_inverts (list_items_in number_in) (λ ys. list (literals_of (map u32 ys))) (items_inverts number_in u32 number_inverts) xs n s))) (λ e.
+    either (nat_eq signature 3) _ _ v e (λ one f. by_map the_numbers (alone (list_items_in literal_number) xs) v f (λ n s is.
+    formed signature xs v (the_numbers n) is (sym (eqb-true signature 3 one)) (alone_inverts (list_items_in literal_number) (λ ys. list (literals_of (map u32 ys))) (items_inverts literal_number u32 number_inverts) xs n s))) (λ e.
     either (nat_eq signature 4) _ _ v e (λ one f. by_map (λ p. the_pairs p.0 p.1) (both_literals (list_items_in string_and_long_in) flag_in xs) v f (λ p s is.
     formed signature xs v (the_pairs p.0 p.1) is (sym (eqb-true signature 4 one))
     (both_inverts (list_items_in string_and_long_in) (λ ys. list (literals_of (map pair_literal ys))) flag_in (λ flag. option (flag_payload flag)) (items_inverts string_and_long_in pair_literal pair_inverts) flag_inverts xs p s)))
@@ -128,7 +128,7 @@ by_pairs p = the_pairs p.0 p.1
 pub is_read : (v : TypedValues) → AreReadBack v
 is_read (a_number n) = refl
 is_read (a_text s) = refl
-is_read (the_numbers ns) = ap (option_map the_numbers) (each_read number_in u32 (λ n. refl) ns)
+is_read (the_numbers ns) = ap (option_map the_numbers) (each_read literal_number u32 (λ n. refl) ns)
 is_read (the_pairs ps flag) =
     ap (λ o. option_map by_pairs (option_and_then (λ a. option_map (λ b. (a, b)) (flag_from (flag_payload flag))) o)) (each_read string_and_long_in pair_literal (λ p. refl) ps)
     ∙ ap (λ o. option_map by_pairs (option_map (λ b. (ps, b)) o)) (flag_read flag)

@@ -13,8 +13,8 @@ use Rattle.canon_scripted.specs.declared.orders.Ordered.TheVariants as order
 
 -- ---- actions
 
-abbrev pub words_of : Data → Option (List ℕ)
-words_of d = each_of word_of d
+abbrev pub words_in : Data → Option (List ℕ)
+words_in d = each_of word_of d
 
 abbrev pub trap_of : Option Bool → Option Action
 trap_of (Some true) = Some action.Trap
@@ -26,12 +26,12 @@ abbrev pub action_by : List ℕ → Data → Option Action
 action_by name d =
     if pointwise nat_eq name (codes "write") then option_map (λ p. action.Write p.0 p.1) (array_of_two word_of bytes_of d)
     else (if pointwise nat_eq name (codes "grow") then option_map action.Grow (word_of d)
-    else (if pointwise nat_eq name (codes "return") then option_map action.Return (words_of d)
+    else (if pointwise nat_eq name (codes "return") then option_map action.Return (words_in d)
     else (if pointwise nat_eq name (codes "trap") then trap_of (as_bool d)
     else None)))
 
 abbrev pub ask_of : Data → Option Action
-ask_of d = option_and_then (λ n. option_map (action.Ask n) (option_and_then words_of (get (codes "words") d))) (option_and_then u32_of (get (codes "ask") d))
+ask_of d = option_and_then (λ n. option_map (action.Ask n) (option_and_then words_in (get (codes "words") d))) (option_and_then u32_of (get (codes "ask") d))
 
 -- an object: of two members where it asks, else of one
 abbrev pub action_of : Data → Option Action

@@ -37,9 +37,9 @@ typed_literals (the_pairs ps flag) = list (literals_of (map pair_literal ps)) �
 
 -- ---- from literals
 
-abbrev pub number_in : Literal → Option ℕ
-number_in (u32 n) = Some n
-number_in _ = None
+abbrev pub literal_number : Literal → Option ℕ
+literal_number (u32 n) = Some n
+literal_number _ = None
 
 abbrev pub long_in : Literal → Option ℕ
 long_in (u64 n) = Some n
@@ -97,9 +97,9 @@ both_literals read read2 _ = None
 -- the values of this signature that literals are
 abbrev pub typed_values : ℕ → List Literal → Option TypedValues
 typed_values signature xs =
-    if nat_eq signature 1 then option_map a_number (alone number_in xs)
+    if nat_eq signature 1 then option_map a_number (alone literal_number xs)
     else (if nat_eq signature 2 then option_map a_text (alone string_in xs)
-    else (if nat_eq signature 3 then option_map the_numbers (alone (list_items_in number_in) xs)
+    else (if nat_eq signature 3 then option_map the_numbers (alone (list_items_in literal_number) xs)
     else (if nat_eq signature 4 then option_map (λ p. the_pairs p.0 p.1) (both_literals (list_items_in string_and_long_in) flag_in xs)
     else None)))
 

@@ -4,7 +4,7 @@ ghost use Rattle.std.specs.Prelude.{◌≡◌, option_map, option_and_then};
 ghost use Rattle.serde_json.specs.Find.{as_bool};
 ghost use Rattle.serde_json.specs.View.{view};
 ghost use Rattle.canon_json.specs.Hex as hex_spec;
-ghost use Rattle.canon_json.specs.Json.{Gives, each_of, word_of};
+ghost use Rattle.canon_json.specs.Json.{ReadsAs, each_of, word_of};
 ghost use Rattle.canon_layout.specs.Entries.{array_of_two};
 ghost use Rattle.canon_memory.specs.declared.val_raw.ValRaw.{ValRaw};
 ghost use Rattle.canon_scripted.specs.declared.actions.Action.{Action};
@@ -20,7 +20,7 @@ use std::alloc::Global;
 
 /// What a guest does: an array of actions. `BadScript` says that it is none.
 pub fn actions_of_json(alloc: Global, v: &Value) -> Result<Vec<Action>, ScriptError>
-    ensures { Gives (λ actions. actions.items) result (each_of spec.action_of (view v.now)) }
+    ensures { ReadsAs (λ actions. actions.items) result (each_of spec.action_of (view v.now)) }
 {
     each_of(alloc, &Actions, Some(v))
 }
@@ -43,7 +43,7 @@ impl Reader for Actions {
 }
 
 fn action_of(alloc: Global, v: &Value) -> Result<Action, ScriptError>
-    ensures { Gives (λ a. a) result (spec.action_of (view v.now)) }
+    ensures { ReadsAs (λ a. a) result (spec.action_of (view v.now)) }
 {
     if has_len(v, 2) {
         return ask_of(alloc, v);
@@ -56,7 +56,7 @@ fn action_of(alloc: Global, v: &Value) -> Result<Action, ScriptError>
 
 /// An action of one member, by its name.
 fn action_by(alloc: Global, name: &str, form: &Value) -> Result<Action, ScriptError>
-    ensures { Gives (λ a. a) result (spec.action_by name.now (view form.now)) }
+    ensures { ReadsAs (λ a. a) result (spec.action_by name.now (view form.now)) }
 {
     if name == "write" {
         write_of(alloc, form)
@@ -73,7 +73,7 @@ fn action_by(alloc: Global, name: &str, form: &Value) -> Result<Action, ScriptEr
 
 /// A write: an address and hex.
 fn write_of(alloc: Global, v: &Value) -> Result<Action, ScriptError>
-    ensures { Gives (λ a. a) result (option_map (λ p. Action.Write p.0 p.1) (array_of_two word_of hex_spec.bytes_of (view v.now))) }
+    ensures { ReadsAs (λ a. a) result (option_map (λ p. Action.Write p.0 p.1) (array_of_two word_of hex_spec.bytes_of (view v.now))) }
 {
     let Some((address, hex)) = two(v) else {
         return Err(ScriptError::BadScript);
@@ -86,7 +86,7 @@ fn write_of(alloc: Global, v: &Value) -> Result<Action, ScriptError>
 }
 
 fn bytes_of(alloc: Global, v: &Value) -> Result<Bytes, ScriptError>
-    ensures { Gives (λ bytes. bytes) result (hex_spec.bytes_of (view v.now)) }
+    ensures { ReadsAs (λ bytes. bytes) result (hex_spec.bytes_of (view v.now)) }
 {
     let bytes = bytes_of_json(alloc, v)?;
     match Bytes::from_slice(alloc, &bytes) {
@@ -96,7 +96,7 @@ fn bytes_of(alloc: Global, v: &Value) -> Result<Bytes, ScriptError>
 }
 
 fn grow_of(v: &Value) -> Result<Action, ScriptError>
-    ensures { Gives (λ a. a) result (option_map Action.Grow (word_of (view v.now))) }
+    ensures { ReadsAs (λ a. a) result (option_map Action.Grow (word_of (view v.now))) }
 {
     match v.as_u64() {
         Some(by) => Ok(Action::Grow(by)),
@@ -105,14 +105,14 @@ fn grow_of(v: &Value) -> Result<Action, ScriptError>
 }
 
 fn return_of(alloc: Global, v: &Value) -> Result<Action, ScriptError>
-    ensures { Gives (λ a. a) result (option_map Action.Return (spec.words_of (view v.now))) }
+    ensures { ReadsAs (λ a. a) result (option_map Action.Return (spec.words_in (view v.now))) }
 {
     let words = words_of(alloc, Some(v))?;
     Ok(Action::Return(words))
 }
 
 fn trap_of(v: &Value) -> Result<Action, ScriptError>
-    ensures { Gives (λ a. a) result (spec.trap_of (as_bool (view v.now))) }
+    ensures { ReadsAs (λ a. a) result (spec.trap_of (as_bool (view v.now))) }
 {
     match v.as_bool() {
         Some(true) => Ok(Action::Trap),
@@ -122,7 +122,7 @@ fn trap_of(v: &Value) -> Result<Action, ScriptError>
 
 /// An ask: the number of an import and words.
 fn ask_of(alloc: Global, v: &Value) -> Result<Action, ScriptError>
-    ensures { Gives (λ a. a) result (spec.ask_of (view v.now)) }
+    ensures { ReadsAs (λ a. a) result (spec.ask_of (view v.now)) }
 {
     let Some(import) = u32_in(v.get("ask")) else {
         return Err(ScriptError::BadScript);
@@ -132,7 +132,7 @@ fn ask_of(alloc: Global, v: &Value) -> Result<Action, ScriptError>
 }
 
 fn words_of(alloc: Global, v: Option<&Value>) -> Result<Words, ScriptError>
-    ensures { Gives (λ words. words) result (option_and_then spec.words_of (option_map (λ x. view x.now) v.entry)) }
+    ensures { ReadsAs (λ words. words) result (option_and_then spec.words_in (option_map (λ x. view x.now) v.entry)) }
 {
     let words = each_of(alloc, &RawWords, v)?;
     match Words::from_slice(alloc, &words) {

@@ -3,7 +3,7 @@
 ghost use Rattle.std.specs.Prelude.{◌≡◌, ◌++◌, ◌∷◌, [], List, IfErr, OnOk, false, length, map, option_and_then, ℕ};
 ghost use Rattle.serde_json.specs.Find.{as_array};
 ghost use Rattle.serde_json.specs.View.{items_view, view};
-ghost use Rattle.canon_json.specs.Json.{Gives, each};
+ghost use Rattle.canon_json.specs.Json.{ReadsAs, each};
 ghost use Rattle.canon_json.specs.declared.error.ScriptError.TheVariants as refused;
 ghost use Rattle.canon_layout.specs.Asked.{unless};
 ghost use Rattle.canon_layout.specs.Entries.{reference_of};
@@ -47,7 +47,7 @@ pub(crate) fn add_imports(
     types: &[InterfaceType],
     items: &[Value],
 ) -> Result<Imports, ScriptError>
-    ensures { Gives (spec.imported_view builder.new) result (spec.imports_over types.now builder.old (items_view items.now)) }
+    ensures { ReadsAs (spec.imported_view builder.new) result (spec.imports_over types.now builder.old (items_view items.now)) }
 {
     let mut imports = Imports {
         imports: Vec::new(alloc),
@@ -66,7 +66,7 @@ fn add_import(
     types: &[InterfaceType],
     v: &Value,
 ) -> Result<(), ScriptError>
-    ensures { Gives (λ _. spec.imported_view builder.new imports.new) result (spec.add_import types.now (spec.imported_view builder.old imports.old) (view v.now)) }
+    ensures { ReadsAs (λ _. spec.imported_view builder.new imports.new) result (spec.add_import types.now (spec.imported_view builder.old imports.old) (view v.now)) }
 {
     if has_len(v, 3) {
         return add_host(alloc, builder, imports, types, v);
@@ -85,7 +85,7 @@ fn add_host(
     types: &[InterfaceType],
     v: &Value,
 ) -> Result<(), ScriptError>
-    ensures { Gives (λ _. spec.imported_view builder.new imports.new) result (option_and_then (spec.with_host (spec.imported_view builder.old imports.old)) (spec.host_of types.now (view v.now))) }
+    ensures { ReadsAs (λ _. spec.imported_view builder.new imports.new) result (option_and_then (spec.with_host (spec.imported_view builder.old imports.old)) (spec.host_of types.now (view v.now))) }
 {
     let host = host_of(alloc, types, v)?;
     let ty = add_type(builder, host.params, host.results)?;
@@ -102,7 +102,7 @@ fn add_type(
     params: Vec<InterfaceType>,
     results: Vec<InterfaceType>,
 ) -> Result<TypeFuncIndex, ScriptError>
-    ensures { Gives {Y = ℕ × TypeTable} (λ ty. (ty, builder.new)) result (unless (func_refusal builder.old params.items results.items) (length builder.old.funcs, with_func builder.old params.items results.items false)) }
+    ensures { ReadsAs {Y = ℕ × TypeTable} (λ ty. (ty, builder.new)) result (unless (func_refusal builder.old params.items results.items) (length builder.old.funcs, with_func builder.old params.items results.items false)) }
 {
     match builder.add_func(params, results, false) {
         Ok(ty) => Ok(ty),
@@ -127,7 +127,7 @@ fn keep(
 }
 
 fn host_of(alloc: Global, types: &[InterfaceType], v: &Value) -> Result<Host, ScriptError>
-    ensures { Gives spec.host_view result (spec.host_of types.now (view v.now)) }
+    ensures { ReadsAs spec.host_view result (spec.host_of types.now (view v.now)) }
 {
     let references = References { types };
     let params = each_of(alloc, &references, v.get("params"))?;
@@ -185,7 +185,7 @@ impl Reader for Answers {
 
 /// An answer: as many values as there are results, or a refusal.
 fn answer_of(alloc: Global, v: &Value, results: usize) -> Result<Option<Vec<Val>>, ScriptError>
-    ensures { Gives spec.answer_view result (spec.host_answer_of results (view v.now)) }
+    ensures { ReadsAs spec.answer_view result (spec.host_answer_of results (view v.now)) }
 {
     match v {
         Value::String(word) if word.as_str() == "refuse" => Ok(None),
@@ -196,7 +196,7 @@ fn answer_of(alloc: Global, v: &Value, results: usize) -> Result<Option<Vec<Val>
 
 /// As many values as there are results, in which no resource stands.
 fn results_of(alloc: Global, v: &Value, results: usize) -> Result<Option<Vec<Val>>, ScriptError>
-    ensures { Gives spec.answer_view result (option_and_then (spec.if_many results) (option_and_then (each plain_value_of) (as_array (view v.now)))) }
+    ensures { ReadsAs spec.answer_view result (option_and_then (spec.if_many results) (option_and_then (each plain_value_of) (as_array (view v.now)))) }
 {
     let values = each_of(alloc, &PlainValues, Some(v))?;
     if values.len() != results {

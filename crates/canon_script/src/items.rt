@@ -4,7 +4,7 @@ ghost use Rattle.std.specs.Prelude.{◌≡◌, ◌≤◌, length, Some, option_m
 ghost use Rattle.std.specs.Option.{option_map_or};
 ghost use Rattle.serde_json.specs.Find.{as_object};
 ghost use Rattle.serde_json.specs.View.{view};
-ghost use Rattle.canon_json.specs.Json.{Gives, u32_of, word_of};
+ghost use Rattle.canon_json.specs.Json.{ReadsAs, u32_of, word_of};
 ghost use Rattle.canon_script.specs.Imports.{func_result_count};
 ghost use Rattle.canon_script.specs.Numbers.{if_below};
 ghost use Rattle.canon_script.specs.Script as spec;
@@ -53,7 +53,7 @@ fn item_of(
     funcs: usize,
     v: &Value,
 ) -> Result<Item, ScriptError>
-    ensures { Gives spec.item_view result (spec.item_of types.now funcs (view v.now)) }
+    ensures { ReadsAs spec.item_view result (spec.item_of types.now funcs (view v.now)) }
 {
     if v.get("call").is_some() {
         return called_item_of(alloc, types, funcs, v);
@@ -71,7 +71,7 @@ fn called_item_of(
     funcs: usize,
     v: &Value,
 ) -> Result<Item, ScriptError>
-    ensures { Gives spec.item_view result (spec.called_item_of types.now funcs (view v.now)) }
+    ensures { ReadsAs spec.item_view result (spec.called_item_of types.now funcs (view v.now)) }
 {
     if v.get("typed").is_some() {
         let call = typed_item_of(alloc, funcs, v)?;
@@ -138,7 +138,7 @@ fn call_item_of(
     funcs: usize,
     v: &Value,
 ) -> Result<CallItem, ScriptError>
-    ensures { Gives spec.call_item_view result (spec.call_item_of types.now funcs (view v.now)) }
+    ensures { ReadsAs spec.call_item_view result (spec.call_item_of types.now funcs (view v.now)) }
 {
     if !has_len(v, 3 + optional_call_members(v)) {
         return Err(ScriptError::BadScript);
@@ -184,7 +184,7 @@ fn result_count(types: &ComponentTypes, func: u32) -> Option<u64>
 
 /// A call of the function of this number, which has so many results.
 fn call_of_func(alloc: Global, v: &Value, func: u32, results: u64) -> Result<CallItem, ScriptError>
-    ensures { Gives spec.call_item_view result (spec.call_of_func (view v.now) func results) }
+    ensures { ReadsAs spec.call_item_view result (spec.call_of_func (view v.now) func results) }
 {
     let Some(slots) = number_or(v.get("slots"), MAX_SLOTS, results) else {
         return Err(ScriptError::BadScript);
@@ -207,7 +207,7 @@ fn call_of_func(alloc: Global, v: &Value, func: u32, results: u64) -> Result<Cal
 
 /// A typed call of one of the first `funcs` functions.
 fn typed_item_of(alloc: Global, funcs: usize, v: &Value) -> Result<TypedItem, ScriptError>
-    ensures { Gives spec.typed_item_view result (spec.typed_item_of funcs (view v.now)) }
+    ensures { ReadsAs spec.typed_item_view result (spec.typed_item_of funcs (view v.now)) }
 {
     if !has_len(v, 4 + optional_typed_members(v)) {
         return Err(ScriptError::BadScript);
@@ -227,7 +227,7 @@ fn optional_typed_members(v: &Value) -> usize
 
 /// A typed call of the function of this number.
 fn typed_of_func(alloc: Global, v: &Value, func: u32) -> Result<TypedItem, ScriptError>
-    ensures { Gives spec.typed_item_view result (spec.typed_of_func (view v.now) func) }
+    ensures { ReadsAs spec.typed_item_view result (spec.typed_of_func (view v.now) func) }
 {
     let Some(post_trap) = bool_or(v.get("post_trap"), false) else {
         return Err(ScriptError::BadScript);
@@ -246,7 +246,7 @@ fn typed_of_func(alloc: Global, v: &Value, func: u32) -> Result<TypedItem, Scrip
 
 /// The parameters of a typed call, by the number of its signature.
 fn typed_params_of(alloc: Global, v: &Value) -> Result<TypedParams, ScriptError>
-    ensures { Gives typed_view result (spec.typed_params_of (view v.now)) }
+    ensures { ReadsAs typed_view result (spec.typed_params_of (view v.now)) }
 {
     let Some(signature) = word_in(v.get("typed")) else {
         return Err(ScriptError::BadScript);
@@ -256,7 +256,7 @@ fn typed_params_of(alloc: Global, v: &Value) -> Result<TypedParams, ScriptError>
 }
 
 fn reallocs_of(alloc: Global, v: Option<&Value>) -> Result<Vec<Ordered>, ScriptError>
-    ensures { Gives (λ orders. orders.items) result (spec.reallocs_of (option_map (λ x. view x.now) v.entry)) }
+    ensures { ReadsAs (λ orders. orders.items) result (spec.reallocs_of (option_map (λ x. view x.now) v.entry)) }
 {
     match v {
         Some(_) => each_of(alloc, &Orders, v),

@@ -2,7 +2,7 @@
 
 ghost use Rattle.std.specs.Prelude.{◌≡◌, ◌≤◌, IfOk, map, option_map};
 ghost use Rattle.serde_json.specs.View.{view, items_view};
-ghost use Rattle.canon_json.specs.Json.{Gives};
+ghost use Rattle.canon_json.specs.Json.{ReadsAs};
 ghost use Rattle.canon_script.specs.Script as spec;
 ghost use Rattle.canon_script.specs.Types.{declared_view};
 
@@ -25,7 +25,7 @@ const MAX_TURNS: u64 = 1_000_000;
 
 /// The script that a JSON value stands for. `BadScript` says that there is none.
 pub fn script_of_json(alloc: Global, v: &Value) -> Result<Script, ScriptError>
-    ensures script { Gives spec.play_of result (spec.script_of (view v.now)) }
+    ensures script { ReadsAs spec.play_of result (spec.script_of (view v.now)) }
     ensures sound { IfOk result (λ s. spec.IsWellFormed (spec.play_of s)) }
 {
     if !has_len(v, script_members(v)) {
@@ -133,7 +133,7 @@ fn played(
     imports: &[Value],
     items: &[Value],
 ) -> Result<Script, ScriptError>
-    ensures { Gives spec.play_of result (spec.played settings (items_view resources.now) (items_view types.now) (items_view funcs.now) (items_view imports.now) (items_view items.now)) }
+    ensures { ReadsAs spec.play_of result (spec.played settings (items_view resources.now) (items_view types.now) (items_view funcs.now) (items_view imports.now) (items_view items.now)) }
 {
     let declared = declarations_of_json(alloc, resources, types, funcs, imports)?;
     played_over(alloc, settings, declared, items)
@@ -146,7 +146,7 @@ fn played_over(
     declared: Declarations,
     items: &[Value],
 ) -> Result<Script, ScriptError>
-    ensures { Gives spec.play_of result (spec.played_over settings (items_view items.now) (declared_view declared)) }
+    ensures { ReadsAs spec.play_of result (spec.played_over settings (items_view items.now) (declared_view declared)) }
 {
     let reader = Items {
         types: &declared.types,

@@ -1,7 +1,7 @@
 //! The parameters of typed calls, from a script's values.
 
 ghost use Rattle.std.specs.Prelude.{◌≡◌, ◌++◌, ◌∷◌, [], List, IfErr, OnOk, Some, map, option_map, string_bytes, ℕ};
-ghost use Rattle.canon_json.specs.Json.{Gives};
+ghost use Rattle.canon_json.specs.Json.{ReadsAs};
 ghost use Rattle.canon_json.specs.declared.error.ScriptError.TheVariants as refused;
 ghost use Rattle.canon_literals.specs.Literals.{Literal, literal_view, literals_of, literals_view, payload_view};
 ghost use Rattle.canon_script.specs.Typed as spec;
@@ -25,7 +25,7 @@ pub(crate) fn typed_params(
     signature: u64,
     values: &[Val],
 ) -> Result<TypedParams, ScriptError>
-    ensures { Gives spec.typed_view result (spec.typed_values signature (literals_view values.now)) }
+    ensures { ReadsAs spec.typed_view result (spec.typed_values signature (literals_view values.now)) }
 {
     match signature {
         1 => number_alone(values),
@@ -37,7 +37,7 @@ pub(crate) fn typed_params(
 }
 
 fn number_alone(values: &[Val]) -> Result<TypedParams, ScriptError>
-    ensures { Gives spec.typed_view result (option_map spec.a_number (spec.alone spec.number_in (literals_view values.now))) }
+    ensures { ReadsAs spec.typed_view result (option_map spec.a_number (spec.alone spec.literal_number (literals_view values.now))) }
 {
     let [value] = values else {
         return Err(ScriptError::BadScript);
@@ -49,7 +49,7 @@ fn number_alone(values: &[Val]) -> Result<TypedParams, ScriptError>
 }
 
 fn text_alone(alloc: Global, values: &[Val]) -> Result<TypedParams, ScriptError>
-    ensures { Gives spec.typed_view result (option_map spec.a_text (spec.alone spec.string_in (literals_view values.now))) }
+    ensures { ReadsAs spec.typed_view result (option_map spec.a_text (spec.alone spec.string_in (literals_view values.now))) }
 {
     let [value] = values else {
         return Err(ScriptError::BadScript);
@@ -59,7 +59,7 @@ fn text_alone(alloc: Global, values: &[Val]) -> Result<TypedParams, ScriptError>
 }
 
 fn numbers_alone(alloc: Global, values: &[Val]) -> Result<TypedParams, ScriptError>
-    ensures { Gives spec.typed_view result (option_map spec.the_numbers (spec.alone (spec.list_items_in spec.number_in) (literals_view values.now))) }
+    ensures { ReadsAs spec.typed_view result (option_map spec.the_numbers (spec.alone (spec.list_items_in spec.literal_number) (literals_view values.now))) }
 {
     let [value] = values else {
         return Err(ScriptError::BadScript);
@@ -69,7 +69,7 @@ fn numbers_alone(alloc: Global, values: &[Val]) -> Result<TypedParams, ScriptErr
 }
 
 fn pairs_and_flag(alloc: Global, values: &[Val]) -> Result<TypedParams, ScriptError>
-    ensures { Gives spec.typed_view result (option_map (λ p. spec.the_pairs p.0 p.1) (spec.both_literals (spec.list_items_in spec.string_and_long_in) spec.flag_in (literals_view values.now))) }
+    ensures { ReadsAs spec.typed_view result (option_map (λ p. spec.the_pairs p.0 p.1) (spec.both_literals (spec.list_items_in spec.string_and_long_in) spec.flag_in (literals_view values.now))) }
 {
     let [value, flag] = values else {
         return Err(ScriptError::BadScript);
@@ -83,7 +83,7 @@ fn pairs_and_flag(alloc: Global, values: &[Val]) -> Result<TypedParams, ScriptEr
 
 /// The number that a value is, if it is a `u32`.
 fn number_in(value: &Val) -> Option<u32>
-    ensures { result ≡ spec.number_in (literal_view value.now) }
+    ensures { result ≡ spec.literal_number (literal_view value.now) }
 {
     match value {
         Val::U32(n) => Some(*n),
@@ -113,7 +113,7 @@ fn truth_in(value: &Val) -> Option<bool>
 
 /// A copy of the text that a value is.
 fn text_in(alloc: Global, value: &Val) -> Result<String, ScriptError>
-    ensures { Gives (λ text. string_bytes text) result (spec.string_in (literal_view value.now)) }
+    ensures { ReadsAs (λ text. string_bytes text) result (spec.string_in (literal_view value.now)) }
 {
     match value {
         Val::String(text) => Ok(String::from_str(alloc, text.as_str())?),
@@ -152,7 +152,7 @@ fn items_in(value: &Val) -> Option<&[Val]>
 
 /// The numbers of a list of `u32`.
 fn numbers_in(alloc: Global, value: &Val) -> Result<Vec<u32>, ScriptError>
-    ensures { Gives (λ ns. ns.items) result (spec.list_items_in spec.number_in (literal_view value.now)) }
+    ensures { ReadsAs (λ ns. ns.items) result (spec.list_items_in spec.literal_number (literal_view value.now)) }
 {
     match items_in(value) {
         Some(items) => each_number(alloc, items),
@@ -161,7 +161,7 @@ fn numbers_in(alloc: Global, value: &Val) -> Result<Vec<u32>, ScriptError>
 }
 
 fn each_number(alloc: Global, items: &[Val]) -> Result<Vec<u32>, ScriptError>
-    ensures { Gives (λ ns. ns.items) result (spec.each_literal spec.number_in (literals_of (literals_view items.now))) }
+    ensures { ReadsAs (λ ns. ns.items) result (spec.each_literal spec.literal_number (literals_of (literals_view items.now))) }
 {
     let mut numbers = Vec::new(alloc);
     for item in items {
@@ -175,7 +175,7 @@ fn each_number(alloc: Global, items: &[Val]) -> Result<Vec<u32>, ScriptError>
 
 /// The pairs of a list of tuples, each of a text and a `u64`.
 fn pairs_in(alloc: Global, value: &Val) -> Result<Vec<(String, u64)>, ScriptError>
-    ensures { Gives (λ ps. map spec.name_view ps.items) result (spec.list_items_in spec.string_and_long_in (literal_view value.now)) }
+    ensures { ReadsAs (λ ps. map spec.name_view ps.items) result (spec.list_items_in spec.string_and_long_in (literal_view value.now)) }
 {
     match items_in(value) {
         Some(items) => each_pair(alloc, items),
@@ -184,7 +184,7 @@ fn pairs_in(alloc: Global, value: &Val) -> Result<Vec<(String, u64)>, ScriptErro
 }
 
 fn each_pair(alloc: Global, items: &[Val]) -> Result<Vec<(String, u64)>, ScriptError>
-    ensures { Gives (λ ps. map spec.name_view ps.items) result (spec.each_literal spec.string_and_long_in (literals_of (literals_view items.now))) }
+    ensures { ReadsAs (λ ps. map spec.name_view ps.items) result (spec.each_literal spec.string_and_long_in (literals_of (literals_view items.now))) }
 {
     let mut pairs = Vec::new(alloc);
     for item in items {
@@ -196,7 +196,7 @@ fn each_pair(alloc: Global, items: &[Val]) -> Result<Vec<(String, u64)>, ScriptE
 
 /// A tuple of a text and a `u64`.
 fn pair_in(alloc: Global, value: &Val) -> Result<(String, u64), ScriptError>
-    ensures { Gives spec.name_view result (spec.string_and_long_in (literal_view value.now)) }
+    ensures { ReadsAs spec.name_view result (spec.string_and_long_in (literal_view value.now)) }
 {
     let Some((text, number)) = two_in(value) else {
         return Err(ScriptError::BadScript);

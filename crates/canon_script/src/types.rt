@@ -1,7 +1,7 @@
 //! Reads what a script declares from JSON: resources, types, functions and imports.
 
 ghost use Rattle.serde_json.specs.View.{items_view};
-ghost use Rattle.canon_json.specs.Json.{Gives};
+ghost use Rattle.canon_json.specs.Json.{ReadsAs};
 ghost use Rattle.canon_script.specs.Types as spec;
 
 use crate::imports::{Imports, add_imports};
@@ -29,7 +29,7 @@ pub(crate) fn declarations_of_json(
     funcs: &[Value],
     imports: &[Value],
 ) -> Result<Declarations, ScriptError>
-    ensures { Gives spec.declared_view result (spec.declared_of (items_view resources.now) (items_view types.now) (items_view funcs.now) (items_view imports.now)) }
+    ensures { ReadsAs spec.declared_view result (spec.declared_of (items_view resources.now) (items_view types.now) (items_view funcs.now) (items_view imports.now)) }
 {
     let mut builder = TypeBuilder::new(alloc);
     add_resources(&mut builder, resources)?;

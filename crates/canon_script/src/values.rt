@@ -4,7 +4,7 @@ ghost use Rattle.std.specs.Prelude.{◌≡◌, ◌^◌, ◌++◌, [], ◌∷◌,
 ghost use Rattle.std.specs.Str.{chars};
 ghost use Rattle.serde_json.specs.Find.{as_array, as_str};
 ghost use Rattle.serde_json.specs.View.{view};
-ghost use Rattle.canon_json.specs.Json.{Gives, each_of};
+ghost use Rattle.canon_json.specs.Json.{ReadsAs, each_of};
 ghost use Rattle.canon_json.specs.declared.error.ScriptError.TheVariants as refused;
 ghost use Rattle.canon_model.specs.Shape.{Name};
 ghost use Rattle.canon_literals.specs.Literals.{Literal, fields_view, literal_view, literals_view, numbered_resource, pair_view, pairs_view, payload_view, variant, with_payload};
@@ -22,7 +22,7 @@ use std::alloc::Global;
 
 /// A value in which no resource stands: an object of one member, which names its kind. `BadScript` says that it is none.
 pub fn value_of_json(alloc: Global, v: &Value) -> Result<Val, ScriptError>
-    ensures { Gives literal_view result (spec.plain_value_of (view v.now)) }
+    ensures { ReadsAs literal_view result (spec.plain_value_of (view v.now)) }
 {
     let value = value_of(alloc, v)?;
     refuse_resources(alloc, &value)?;
@@ -31,7 +31,7 @@ pub fn value_of_json(alloc: Global, v: &Value) -> Result<Val, ScriptError>
 
 /// Refuses a value in which a resource stands.
 fn refuse_resources(alloc: Global, value: &Val) -> Result<(), ScriptError>
-    ensures { Gives (λ _. literal_view value.now) result (spec.if_plain (literal_view value.now)) }
+    ensures { ReadsAs (λ _. literal_view value.now) result (spec.if_plain (literal_view value.now)) }
 {
     match is_plain(alloc, value) {
         Ok(true) => Ok(()),
@@ -43,7 +43,7 @@ fn refuse_resources(alloc: Global, value: &Val) -> Result<(), ScriptError>
 /// A value: an object of one member, which names its kind.
 #[cycle(values)]
 fn value_of(alloc: Global, v: &Value) -> Result<Val, ScriptError>
-    ensures { Gives literal_view result (spec.value_of (view v.now)) }
+    ensures { ReadsAs literal_view result (spec.value_of (view v.now)) }
 {
     match kind_and_form(v) {
         Some((kind, form)) => value_by(alloc, kind, form),
@@ -63,7 +63,7 @@ fn kind_and_form(v: &Value) -> Option<(ValueKind, &Value)>
 /// A value of this kind.
 #[cycle(values)]
 fn value_by(alloc: Global, kind: ValueKind, form: &Value) -> Result<Val, ScriptError>
-    ensures { Gives literal_view result (spec.value_by (view form.now) kind) }
+    ensures { ReadsAs literal_view result (spec.value_by (view form.now) kind) }
 {
     match kind {
         ValueKind::String => name_of(alloc, form).map(Val::String),
@@ -84,7 +84,7 @@ fn value_by(alloc: Global, kind: ValueKind, form: &Value) -> Result<Val, ScriptE
 /// An array of values.
 #[cycle(values)]
 fn values_of(alloc: Global, v: &Value) -> Result<Vec<Val>, ScriptError>
-    ensures { Gives (λ values. literals_view values.items) result (option_and_then spec.values_of (as_array (view v.now))) }
+    ensures { ReadsAs (λ values. literals_view values.items) result (option_and_then spec.values_of (as_array (view v.now))) }
 {
     let Some(items) = v.as_array() else {
         return Err(ScriptError::BadScript);
@@ -102,7 +102,7 @@ fn values_of(alloc: Global, v: &Value) -> Result<Vec<Val>, ScriptError>
 /// A record: an array of pairs, each a name and a value.
 #[cycle(values)]
 fn record_of(alloc: Global, v: &Value) -> Result<Val, ScriptError>
-    ensures { Gives literal_view result (spec.value_by (view v.now) ValueKind.Record) }
+    ensures { ReadsAs literal_view result (spec.value_by (view v.now) ValueKind.Record) }
 {
     let Some(items) = v.as_array() else {
         return Err(ScriptError::BadScript);
@@ -126,7 +126,7 @@ fn record_of(alloc: Global, v: &Value) -> Result<Val, ScriptError>
 /// An array of pairs, each a key and a value.
 #[cycle(values)]
 fn pairs_of(alloc: Global, v: &Value) -> Result<Vec<(Val, Val)>, ScriptError>
-    ensures { Gives (λ pairs. pairs_view pairs.items) result (option_and_then spec.pairs_in (as_array (view v.now))) }
+    ensures { ReadsAs (λ pairs. pairs_view pairs.items) result (option_and_then spec.pairs_in (as_array (view v.now))) }
 {
     let Some(items) = v.as_array() else {
         return Err(ScriptError::BadScript);
@@ -144,7 +144,7 @@ fn pairs_of(alloc: Global, v: &Value) -> Result<Vec<(Val, Val)>, ScriptError>
 /// A key and its value.
 #[cycle(values)]
 fn pair_of(alloc: Global, v: &Value) -> Result<(Val, Val), ScriptError>
-    ensures { Gives pair_view result (spec.pair_of (view v.now)) }
+    ensures { ReadsAs pair_view result (spec.pair_of (view v.now)) }
 {
     let Some((key, value)) = two(v) else {
         return Err(ScriptError::BadScript);
@@ -162,7 +162,7 @@ fn pair_of(alloc: Global, v: &Value) -> Result<(Val, Val), ScriptError>
 /// A variant: the name of its case alone, or with a payload.
 #[cycle(values)]
 fn variant_of(alloc: Global, v: &Value) -> Result<Val, ScriptError>
-    ensures { Gives literal_view result (spec.value_by (view v.now) ValueKind.Variant) }
+    ensures { ReadsAs literal_view result (spec.value_by (view v.now) ValueKind.Variant) }
 {
     let Some((name, form)) = case_of(v) else {
         return Err(ScriptError::BadScript);
@@ -176,7 +176,7 @@ fn variant_of(alloc: Global, v: &Value) -> Result<Val, ScriptError>
 /// A result: `ok` or `err` alone, or with a payload.
 #[cycle(values)]
 fn result_of(alloc: Global, v: &Value) -> Result<Val, ScriptError>
-    ensures { Gives literal_view result (spec.value_by (view v.now) ValueKind.Result) }
+    ensures { ReadsAs literal_view result (spec.value_by (view v.now) ValueKind.Result) }
 {
     let Some((name, form)) = case_of(v) else {
         return Err(ScriptError::BadScript);
@@ -190,7 +190,7 @@ fn result_of(alloc: Global, v: &Value) -> Result<Val, ScriptError>
 /// The payload of a case, if it has one.
 #[cycle(values)]
 fn payload_of(alloc: Global, v: Option<&Value>) -> Result<Option<Box<Val>>, ScriptError>
-    ensures { Gives payload_view result (spec.payload_by (option_map (λ x. view x.now) v.entry)) }
+    ensures { ReadsAs payload_view result (spec.payload_by (option_map (λ x. view x.now) v.entry)) }
 {
     match v {
         Some(v) => some_of(alloc, v),
@@ -201,7 +201,7 @@ fn payload_of(alloc: Global, v: Option<&Value>) -> Result<Option<Box<Val>>, Scri
 /// `null`, or a payload.
 #[cycle(values)]
 fn optional_of(alloc: Global, v: &Value) -> Result<Option<Box<Val>>, ScriptError>
-    ensures { Gives payload_view result (spec.optional_of (view v.now)) }
+    ensures { ReadsAs payload_view result (spec.optional_of (view v.now)) }
 {
     if v.is_null() {
         return Ok(None);
@@ -212,7 +212,7 @@ fn optional_of(alloc: Global, v: &Value) -> Result<Option<Box<Val>>, ScriptError
 /// A payload.
 #[cycle(values)]
 fn some_of(alloc: Global, v: &Value) -> Result<Option<Box<Val>>, ScriptError>
-    ensures { Gives payload_view result (option_map with_payload (spec.value_of (view v.now))) }
+    ensures { ReadsAs payload_view result (option_map with_payload (spec.value_of (view v.now))) }
 {
     match value_of(alloc, v) {
         Ok(value) => boxed(alloc, value),
@@ -221,7 +221,7 @@ fn some_of(alloc: Global, v: &Value) -> Result<Option<Box<Val>>, ScriptError>
 }
 
 fn boxed(alloc: Global, value: Val) -> Result<Option<Box<Val>>, ScriptError>
-    ensures { Gives payload_view result (Some (with_payload (literal_view value))) }
+    ensures { ReadsAs payload_view result (Some (with_payload (literal_view value))) }
 {
     let value = Box::new(alloc, value)?;
     Ok(Some(value))
@@ -240,14 +240,14 @@ fn case_of(v: &Value) -> Option<(&str, Option<&Value>)>
 }
 
 fn variant_named(alloc: Global, name: &str, payload: Option<Box<Val>>) -> Result<Val, ScriptError>
-    ensures { Gives literal_view result (Some (variant name.now (payload_view payload))) }
+    ensures { ReadsAs literal_view result (Some (variant name.now (payload_view payload))) }
 {
     let name = String::from_str(alloc, name)?;
     Ok(Val::Variant(name, payload))
 }
 
 fn result_named(name: &str, payload: Option<Box<Val>>) -> Result<Val, ScriptError>
-    ensures { Gives literal_view result (spec.result_by name.now (payload_view payload)) }
+    ensures { ReadsAs literal_view result (spec.result_by name.now (payload_view payload)) }
 {
     if name == "ok" {
         Ok(Val::Result(Ok(payload)))
@@ -283,7 +283,7 @@ fn keep_field(
 
 /// A text, or a name.
 fn name_of(alloc: Global, v: &Value) -> Result<String, ScriptError>
-    ensures { Gives (λ name. string_bytes name) result (as_str (view v.now)) }
+    ensures { ReadsAs (λ name. string_bytes name) result (as_str (view v.now)) }
 {
     match v.as_str() {
         Some(name) => Ok(String::from_str(alloc, name)?),
@@ -293,7 +293,7 @@ fn name_of(alloc: Global, v: &Value) -> Result<String, ScriptError>
 
 /// An array of names.
 fn names_of(alloc: Global, v: &Value) -> Result<Vec<String>, ScriptError>
-    ensures { Gives (λ names. map (λ name. string_bytes name) names.items) result (each_of as_str (view v.now)) }
+    ensures { ReadsAs (λ names. map (λ name. string_bytes name) names.items) result (each_of as_str (view v.now)) }
 {
     each_of(alloc, &Names, Some(v))
 }
@@ -317,7 +317,7 @@ impl Reader for Names {
 
 /// A scalar of this kind.
 fn scalar_of(kind: ValueKind, v: &Value) -> Result<Val, ScriptError>
-    ensures { Gives literal_view result (spec.scalar_by kind (view v.now)) }
+    ensures { ReadsAs literal_view result (spec.scalar_by kind (view v.now)) }
 {
     match scalar_by(kind, v) {
         Some(value) => Ok(value),

@@ -14,9 +14,10 @@ use Rattle.canon_model.proofs.Layouts.{align_to-dvd, align_to-le}
 use Rattle.canon_memory.specs.Realloc.{InOthers, IsTidy, ReallocLaw, new_block, old_block}
 use Rattle.canon_scripted.specs.Allocator.{Allocator, InRow, Placed, allocate, copied, listed, with_block_resized}
 use Rattle.canon_scripted.proofs.Bytes.{paste_in, paste_out, paste_same}
-use Rattle.canon_scripted.proofs.Rows.{Among, added_keeps, added_lives, added_new, among_from, among_to, live_among, resized_keeps, resized_lives, resized_new, row_apart, row_place}
+use Rattle.canon_scripted.proofs.Rows.{added_keeps, added_lives, added_new, among_from, among_to, live_among, resized_keeps, resized_lives, resized_new, row_apart, row_place}
 use Rattle.canon_scripted.proofs.Rules.{at_place, by_rule, placed_is}
 use Rattle.canon_scripted.proofs.Steps.{allocator}
+use Rattle.canon_memory.proofs.Watch.{Among, within}
 
 -- ---- copied bytes
 
@@ -71,9 +72,6 @@ pub record Keeps (len : ℕ) (a : Allocator) (c : Call) (p : Placed) : Type 0 wh
   pub from : (kept c ≡ 0) ⊎ (c.old + kept c ≤ len)
   pub apart : (i : ℕ) → InOthers a.live c i → InBlocks (new_block c p.answer ∷ []) i → ⊥
   pub lives : (b : Block) → Contains p.after.live b ↔ LivesAfter a.live c p.answer b
-
-within : (b : Block) (i : ℕ) → InBlocks (b ∷ []) i → (b.start ≤ i) × (i < b.start + b.size)
-within b i h = ⊎_elim (λ p. p) (λ k. absurd k) h
 
 module _ (len : ℕ) (a : Allocator) (c : Call) (row : InRow 0 a.live a.top) where
   -- a new block, after the blocks of `rest` that live beside the old one

@@ -7,12 +7,9 @@ use Rattle.canon_model.specs.Memory.{Block}
 use Rattle.canon_memory.specs.Realloc.{block}
 use Rattle.canon_memory.specs.Watch.{is_block}
 use Rattle.canon_scripted.specs.Allocator.{InRow, is_live, listed, with_block_resized}
+use Rattle.canon_memory.proofs.Watch.{Among}
 
 -- ---- a block is one of a list
-
-abbrev pub Among : List Block → Block → Type 0
-Among [] b = ⊥
-Among (x ∷ xs) b = (x ≡ b) ⊎ Among xs b
 
 pub among_from : (xs : List Block) (b : Block) → Contains xs b → Among xs b
 among_from [] b (k, lt, e) = absurd (omega (arith, lt))
@@ -68,12 +65,12 @@ live_among (x ∷ xs) b e = ⊎_elim (λ h. inl (same_yes x b h)) (λ h. inr (li
 listed_none : (s n : ℕ) → n ≡ 0 → listed s n ≡ []
 listed_none s n e = cond-true _ _ _ (eq-eqb n 0 e)
 
-pub listed_some : (s n : ℕ) → 0 < n → listed s n ≡ block s n ∷ []
-listed_some s n h = cond-false _ _ _ (ne_eqb n 0 (λ e. omega (arith, h, e)))
+pub scripted_listed_some : (s n : ℕ) → 0 < n → listed s n ≡ block s n ∷ []
+scripted_listed_some s n h = cond-false _ _ _ (ne_eqb n 0 (λ e. omega (arith, h, e)))
 
 -- a fact of a list that holds of both
 by_size : (s n : ℕ) (P : List Block → Type 0) → (n ≡ 0 → P []) → (0 < n → P (block s n ∷ [])) → P (listed s n)
-by_size s n P f g = ⊎_elim (λ e. subst P (sym (listed_none s n e)) (f e)) (λ h. subst P (sym (listed_some s n h)) (g h)) (none_or_some n)
+by_size s n P f g = ⊎_elim (λ e. subst P (sym (listed_none s n e)) (f e)) (λ h. subst P (sym (scripted_listed_some s n h)) (g h)) (none_or_some n)
   where
     none_or_some : (k : ℕ) → (k ≡ 0) ⊎ (0 < k)
     none_or_some zero = inl refl
@@ -83,7 +80,7 @@ pub listed_is : (s n : ℕ) (b : Block) → Among (listed s n) b → (b ≡ bloc
 listed_is s n b = by_size s n (λ xs. Among xs b → (b ≡ block s n) × (0 < n)) (λ e h. absurd h) (λ some h. ⊎_elim (λ e. (sym e, some)) (λ k. absurd k) h)
 
 listed_has : (s n : ℕ) → 0 < n → Among (listed s n) (block s n)
-listed_has s n h = subst (λ xs. Among xs (block s n)) (sym (listed_some s n h)) (inl refl)
+listed_has s n h = subst (λ xs. Among xs (block s n)) (sym (scripted_listed_some s n h)) (inl refl)
 
 -- ---- rows
 
@@ -233,7 +230,7 @@ added_new xs s n some = among_append_right xs (listed s n) _ (listed_has s n som
 
 -- a block is written over another
 pub set_listed : (xs : List Block) (i s n : ℕ) → i < length xs → 0 < n → set xs i (block s n) ≡ take i xs ++ listed s n ++ drop (i + 1) xs
-set_listed xs i s n lt some = parts xs i (block s n) lt ∙ ap₂ (λ (ys : List Block) (k : ℕ). take i xs ++ ys ++ drop k xs) (sym (listed_some s n some)) (sym (add-one i))
+set_listed xs i s n lt some = parts xs i (block s n) lt ∙ ap₂ (λ (ys : List Block) (k : ℕ). take i xs ++ ys ++ drop k xs) (sym (scripted_listed_some s n some)) (sym (add-one i))
   where
     parts : (xs : List Block) (i : ℕ) (y : Block) → i < length xs → set xs i y ≡ take i xs ++ (y ∷ []) ++ drop (suc i) xs
     parts [] i y lt = absurd (omega (arith, lt))

@@ -65,8 +65,8 @@ by_rule P len a c p e one three four five =
 
 -- of a call
 module _ (len : ℕ) (a : Allocator) (c : Call) where
-  pub is_new : c.old_size ≡ 0 → allocate len a c ≡ new_placed len a c
-  is_new e = cond-true _ _ _ (eq-eqb _ 0 e)
+  pub scripted_is_new : c.old_size ≡ 0 → allocate len a c ≡ new_placed len a c
+  scripted_is_new e = cond-true _ _ _ (eq-eqb _ 0 e)
 
   not_new : 0 < c.old_size → nat_eq c.old_size 0 ≡ false
   not_new h = ne_eqb _ 0 (λ e. omega (arith, h, e))

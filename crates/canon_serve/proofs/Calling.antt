@@ -32,8 +32,8 @@ on_any_err P (Ok a) h = tt
 on_any_err P (Err e) h = h
 
 -- slots that were written, all of them
-pub slots_written : {X : Type 0} (items new : List X) (n : ℕ) → n ≡ length new → take n (new ++ drop (length new) items) ≡ new
-slots_written items new n is = ap (λ k. take k (new ++ drop (length new) items)) is ∙ take-append_seam new (drop (length new) items)
+pub session_slots_written : {X : Type 0} (items new : List X) (n : ℕ) → n ≡ length new → take n (new ++ drop (length new) items) ≡ new
+session_slots_written items new n is = ap (λ k. take k (new ++ drop (length new) items)) is ∙ take-append_seam new (drop (length new) items)
 
 module _ {E H : Type 0} (log : E → Option (List Message)) (f : Named) (s s2 : EngineStore E H) (a : Answer) where
   by_type : (params : List Val) (slots : ℕ) (r : Result (Unit {0}) Error) (rs : List Val) (o : Option TypeFunc) → o ≡ type_of s f

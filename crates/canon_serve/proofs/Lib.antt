@@ -2,4 +2,3 @@ pub mod Beginning
 pub mod Calling
 pub mod Passing
 pub mod Sessions
-pub mod Unlogged

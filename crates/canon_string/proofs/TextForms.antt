@@ -1,8 +1,7 @@
 -- What the conversions of a text into its block say of its scalar values.
 use Rattle.std.proofs.Common.{◌≡◌, ◌≤◌, ◌<◌, ◌*◌, ◌+◌, ◌-◌, ◌/◌, ◌%◌, ◌++◌, ◌^◌, ◌∙◌, ◌⊎◌, ◌↔◌, Bool, IsTrue, IsUtf8, List, [], ◌∷◌, ap}
-use Rattle.std.proofs.Common.{arith, drop, false, flat_map, get_or, inl, inr, le-ltb, length, lt-ltb, nat_lt, refl, subst, suc, sym, take, true, zero, ℕ, ⊎_elim}
+use Rattle.std.proofs.Common.{arith, drop, false, get_or, inl, inr, le-ltb, length, lt-ltb, nat_lt, refl, subst, suc, sym, take, true, zero, ℕ, ⊎_elim}
 use Rattle.std.proofs.lemmas.Bool.{cases_lt, cond-false, cond-true, false≢true}
-use Rattle.std.proofs.lemmas.Grind.{flat_map-append}
 use Rattle.std.proofs.lemmas.List.{append-nil, drop_at, get_or-append-add, get_or_at, length-append, length-drop, length-take, take-take, take_all, take_at}
 use Rattle.std.proofs.lemmas.Str.{encode_ascii, encodes_same, length-le-encodes}
 use Rattle.std.specs.Char.{encode_utf8}
@@ -10,7 +9,7 @@ use Rattle.std.specs.Str.{all_scalars, encode_utf8_all}
 use Rattle.canon_lowering.specs.Storing.{narrow}
 use Rattle.canon_model.proofs.Passes.{units-append}
 use Rattle.canon_model.specs.Memory.{bytes_at, bytes_in}
-use Rattle.canon_model.specs.Text.{Spells, all_latin1, can_spell, compact, in_utf16, in_utf8, spelling, unit_bytes, units}
+use Rattle.canon_model.specs.Text.{Spells, all_latin1, can_spell, compact, in_utf16, in_utf8, spelling, units}
 use Rattle.canon_text.proofs.Bytes.{latin1_not, latin1_units}
 use Rattle.canon_text.proofs.Splits.{GoesOn, first_can, first_units, fronts}
 use Rattle.canon_text.proofs.Widths.{length-unit_bytes, widths_le}
@@ -22,6 +21,7 @@ use Rattle.canon_model.proofs.Numbers.{bytes_at-put_mid}
 use borrow.Rule.Slice.PartMut.{put_mid}
 use Rattle.canon_text.specs.Writing.{over}
 use Rattle.canon_model.specs.Text.{most_bytes}
+use Rattle.canon_text.proofs.Kept.{spelling16-append}
 
 -- ---- which texts are Latin-1
 
@@ -54,10 +54,10 @@ high_byte (c ∷ cs) k h = ⊎_elim
     (λ g. cond-false (nat_lt c 256) (all_latin1 cs) false (le-ltb c 256 g))
     (cases_lt c 256)
 
-pub low_bytes : (cs : List ℕ) → ((k : ℕ) → get_or (encode_utf8_all cs) k 0 < 196) → all_latin1 cs ≡ true
-low_bytes [] h = refl
-low_bytes (c ∷ cs) h = ⊎_elim
-    (λ l. cond-true (nat_lt c 256) (all_latin1 cs) false (lt-ltb c 256 l) ∙ low_bytes cs (λ k. later c cs k h))
+pub string_low_bytes : (cs : List ℕ) → ((k : ℕ) → get_or (encode_utf8_all cs) k 0 < 196) → all_latin1 cs ≡ true
+string_low_bytes [] h = refl
+string_low_bytes (c ∷ cs) h = ⊎_elim
+    (λ l. cond-true (nat_lt c 256) (all_latin1 cs) false (lt-ltb c 256 l) ∙ string_low_bytes cs (λ k. later c cs k h))
     (λ g. absurd (omega (arith, h 0, high_first c (encode_utf8_all cs) g)))
     (cases_lt c 256)
   where
@@ -131,9 +131,6 @@ cut_short source cs new read written front more spells h short = ⊎_elim
     h.stops
 
 -- ---- a text in UTF-16 behind its front in Latin-1
-
-spelling16-append : (cs ds : List ℕ) → spelling in_utf16 (cs ++ ds) ≡ spelling in_utf16 cs ++ spelling in_utf16 ds
-spelling16-append cs ds = ap (λ (l : List ℕ). flat_map unit_bytes l) (units-append in_utf16 cs ds) ∙ flat_map-append unit_bytes (units in_utf16 cs) (units in_utf16 ds)
 
 pub wide_count : (front more text old new : List ℕ) (so_far units16 : ℕ) → all_latin1 front ≡ true → so_far ≡ length front → text ≡ encode_utf8_all more → Widens in_utf8 text old new so_far units16
     → units16 ≡ length (units in_utf16 (front ++ more))

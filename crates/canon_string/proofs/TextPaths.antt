@@ -105,26 +105,26 @@ module _ {T G : Type 0} (L : GuestLaws G) (options : ℕ) (a : Parts T G) (sourc
 
   module _ (b : Parts T G) (ys m : List ℕ) (p read written : ℕ) (form : encoding_by a options ≡ compact) (same : ys ≡ b.memory) (h : AsksFor L.seen L.moves a b (call 0 0 2 n) (Ok p)) (w : Writes (block p n) ys m)
       (done : Narrows in_utf8 source (bytes_at (narrow ys) p n) (bytes_at (narrow m) p n) read written) where
-    abbrev parts : (front : List ℕ) × (more : List ℕ) × IsCut source cs (bytes_at (narrow m) p n) read written front more
+    abbrev parts : (string_front : List ℕ) × (more : List ℕ) × IsCut source cs (bytes_at (narrow m) p n) read written string_front more
     parts = cut source cs _ _ read written spells done
 
-    abbrev front : List ℕ
-    front = parts.0
+    abbrev string_front : List ℕ
+    string_front = parts.0
 
     abbrev more : List ℕ
     more = parts.1
 
-    front_fits : length front ≤ n
-    front_fits = omega (arith, ap length parts.2.is, length-append front more, length-le-encodes cs, ap length spells.is)
+    front_fits : length string_front ≤ n
+    front_fits = omega (arith, ap length parts.2.is, length-append string_front more, length-le-encodes cs, ap length spells.is)
 
-    compact_begun : Begun L options a (after b m) 2 (anew 2 n ∷ []) p n front
-    compact_begun = begun_written L options a b 2 (anew 2 n ∷ []) p n [] front m (begun_first L options a b 2 n p h) (subst (λ (xs : List ℕ). Writes (block p n) xs m) same w) front_fits
-        (λ _. sym (first_bytes m p (length front) n front_fits) ∙ (ap (λ (x : ℕ). take x (bytes_at (narrow m) p n)) (sym parts.2.count) ∙ parts.2.there))
+    compact_begun : Begun L options a (after b m) 2 (anew 2 n ∷ []) p n string_front
+    compact_begun = begun_written L options a b 2 (anew 2 n ∷ []) p n [] string_front m (begun_first L options a b 2 n p h) (subst (λ (xs : List ℕ). Writes (block p n) xs m) same w) front_fits
+        (λ _. sym (first_bytes m p (length string_front) n front_fits) ∙ (ap (λ (x : ℕ). take x (bytes_at (narrow m) p n)) (sym parts.2.count) ∙ parts.2.there))
 
     -- all of it is Latin-1
     module _ (all : read ≡ n) where
-      whole : cs ≡ front
-      whole = cut_whole source cs _ read written front more spells parts.2 all
+      whole : cs ≡ string_front
+      whole = cut_whole source cs _ read written string_front more spells parts.2 all
 
       narrow_text : all_latin1 cs ≡ true
       narrow_text = ap all_latin1 whole ∙ parts.2.latin1
@@ -150,51 +150,51 @@ module _ {T G : Type 0} (L : GuestLaws G) (options : ℕ) (a : Parts T G) (sourc
       narrow_unfitted d e short fits = text_unfitted L options a source cs spells compact form (after b m) d 2 (anew 2 n ∷ []) p n written cs e narrow_begun (narrow_asks short) fits
 
     -- what is left is a text
-    abbrev left : List ℕ
-    left = take (n - read) (drop read source)
+    abbrev string_left : List ℕ
+    string_left = take (n - read) (drop read source)
 
-    left_is : left ≡ encode_utf8_all more
+    left_is : string_left ≡ encode_utf8_all more
     left_is = rest_slice source read ∙ parts.2.rest
 
-    pub left_text : IsUtf8 left
+    pub left_text : IsUtf8 string_left
     left_text = (more, (parts.2.can, sym left_is))
 
     -- some of it isn't
     module _ (some : read ≡ n → ⊥) where
       wide_text : all_latin1 cs ≡ false
-      wide_text = cut_short source cs _ read written front more spells parts.2 some
+      wide_text = cut_short source cs _ read written string_front more spells parts.2 some
 
       wide_asks : most_bytes compact n cs < 2 ^ 31 → text_requests compact cs ≡ anew 2 n ∷ resized n (2 * n) ∷ shrunk (2 * n) (length wide)
       wide_asks short = compact_asks short ∙ ap (λ (rs : List Request). anew 2 n ∷ rs) (cond-false (all_latin1 cs) _ _ wide_text)
 
       pub wide_ungrown : (c : Parts T G) (e : Fault) → most_bytes compact n cs < 2 ^ 31 → AsksFor L.seen L.moves (after b m) c (call p n 2 (2 * n)) (Err e) → PutsText L.seen L.moves options a c source (Err e)
-      wide_ungrown c e short g = text_ungrown L options a source cs spells compact form (after b m) c 2 (anew 2 n ∷ []) p n (2 * n) front (shrunk (2 * n) (length wide)) e compact_begun (wide_asks short) g
+      wide_ungrown c e short g = text_ungrown L options a source cs spells compact form (after b m) c 2 (anew 2 n ∷ []) p n (2 * n) string_front (shrunk (2 * n) (length wide)) e compact_begun (wide_asks short) g
 
       module _ (c : Parts T G) (zs m2 : List ℕ) (q k : ℕ) (same2 : zs ≡ c.memory) (g : AsksFor L.seen L.moves (after b m) c (call p n 2 (2 * n)) (Ok q)) (w2 : Writes (block q (2 * n)) zs m2)
-          (widened : Widens in_utf8 left (bytes_at (narrow zs) q (2 * n)) (bytes_at (narrow m2) q (2 * n)) written k) where
-        abbrev asked : List Request
-        asked = anew 2 n ∷ resized n (2 * n) ∷ []
+          (widened : Widens in_utf8 string_left (bytes_at (narrow zs) q (2 * n)) (bytes_at (narrow m2) q (2 * n)) written k) where
+        abbrev string_asked : List Request
+        string_asked = anew 2 n ∷ resized n (2 * n) ∷ []
 
         wide_units : k ≡ length (units in_utf16 cs)
-        wide_units = wide_count front more left _ _ written k parts.2.latin1 parts.2.count left_is widened ∙ ap (λ (l : List ℕ). length (units in_utf16 l)) (sym parts.2.is)
+        wide_units = wide_count string_front more string_left _ _ written k parts.2.latin1 parts.2.count left_is widened ∙ ap (λ (l : List ℕ). length (units in_utf16 l)) (sym parts.2.is)
 
         wide_long : length wide ≡ 2 * k
         wide_long = length-wide cs ∙ ap (λ (x : ℕ). 2 * x) (sym wide_units)
 
         -- where the front is still there
-        there : bytes_at (narrow c.memory) q (length front) ≡ front → bytes_at (narrow m2) q (length wide) ≡ wide
+        there : bytes_at (narrow c.memory) q (length string_front) ≡ string_front → bytes_at (narrow m2) q (length wide) ≡ wide
         there known =
-            let first : take written (bytes_at (narrow zs) q (2 * n)) ≡ front =
+            let first : take written (bytes_at (narrow zs) q (2 * n)) ≡ string_front =
             ap (λ (x : ℕ). take x (bytes_at (narrow zs) q (2 * n))) parts.2.count
-            ∙ (first_bytes zs q (length front) (2 * n) (omega (arith, front_fits)) ∙ (ap (λ (xs : List ℕ). bytes_at (narrow xs) q (length front)) same2 ∙ known)) in
-            let written_so : take (length (spelling in_utf16 (front ++ more))) (bytes_at (narrow m2) q (2 * n)) ≡ spelling in_utf16 (front ++ more) = wide_there front more left _ _ written k left_is widened first in
+            ∙ (first_bytes zs q (length string_front) (2 * n) (omega (arith, front_fits)) ∙ (ap (λ (xs : List ℕ). bytes_at (narrow xs) q (length string_front)) same2 ∙ known)) in
+            let written_so : take (length (spelling in_utf16 (string_front ++ more))) (bytes_at (narrow m2) q (2 * n)) ≡ spelling in_utf16 (string_front ++ more) = wide_there string_front more string_left _ _ written k left_is widened first in
             sym (first_bytes m2 q (length wide) (2 * n) wide_fits) ∙ subst (λ (l : List ℕ). take (length (spelling in_utf16 l)) (bytes_at (narrow m2) q (2 * n)) ≡ spelling in_utf16 l) (sym parts.2.is) written_so
 
-        wide_begun : Begun L options a (after c m2) 2 asked q (2 * n) wide
-        wide_begun = begun_written L options a c 2 asked q (2 * n) front wide m2 (begun_again L options a (after b m) c 2 (anew 2 n ∷ []) p n (2 * n) q front compact_begun g (omega (arith, front_fits)))
+        wide_begun : Begun L options a (after c m2) 2 string_asked q (2 * n) wide
+        wide_begun = begun_written L options a c 2 string_asked q (2 * n) string_front wide m2 (begun_again L options a (after b m) c 2 (anew 2 n ∷ []) p n (2 * n) q string_front compact_begun g (omega (arith, front_fits)))
             (subst (λ (xs : List ℕ). Writes (block q (2 * n)) xs m2) same2 w2) wide_fits there
 
-        wide_asks_so : most_bytes compact n cs < 2 ^ 31 → text_requests compact cs ≡ asked ++ shrunk (2 * n) (2 * k)
+        wide_asks_so : most_bytes compact n cs < 2 ^ 31 → text_requests compact cs ≡ string_asked ++ shrunk (2 * n) (2 * k)
         wide_asks_so short = wide_asks short ∙ ap (λ (x : ℕ). anew 2 n ∷ resized n (2 * n) ∷ shrunk (2 * n) x) wide_long
 
         pub wide_stands : (d : Parts T G) (r : ℕ) → most_bytes compact n cs < 2 ^ 31 → FitsTo L.seen L.moves (after c m2) d 2 q (2 * n) (2 * k) (Ok r)
@@ -203,8 +203,8 @@ module _ {T G : Type 0} (L : GuestLaws G) (options : ℕ) (a : Parts T G) (sourc
             let few : n < 2 ^ 31 = omega (arith, short, most_more n cs (all_latin1 cs) refl) in
             let (len, spelled, least) = compact_ends cs (k + 2 ^ 31) in_utf16 wide (omega (arith, few, units_few source cs spells))
             (ap (λ (x : ℕ). x + 2 ^ 31) wide_units ∙ sym (cond-false (all_latin1 cs) _ _ wide_text)) (sym (cond-false (all_latin1 cs) _ _ wide_text)) (record { can = spells.can; is = refl }) in
-            text_stands L options a source cs spells compact form d 2 (asked ++ shrunk (2 * n) (2 * k)) r (2 * k) (k + 2 ^ 31) wide short
-            (begun_fitted L options a (after c m2) d 2 asked q (2 * n) (2 * k) r wide wide_begun (sym wide_long) fits) (omega (arith, few, wide_units, units_few source cs spells)) refl len spelled least (wide_asks_so short)
+            text_stands L options a source cs spells compact form d 2 (string_asked ++ shrunk (2 * n) (2 * k)) r (2 * k) (k + 2 ^ 31) wide short
+            (begun_fitted L options a (after c m2) d 2 string_asked q (2 * n) (2 * k) r wide wide_begun (sym wide_long) fits) (omega (arith, few, wide_units, units_few source cs spells)) refl len spelled least (wide_asks_so short)
 
         pub wide_unfitted : (d : Parts T G) (e : Fault) → most_bytes compact n cs < 2 ^ 31 → FitsTo L.seen L.moves (after c m2) d 2 q (2 * n) (2 * k) (Err e) → PutsText L.seen L.moves options a d source (Err e)
-        wide_unfitted d e short fits = text_unfitted L options a source cs spells compact form (after c m2) d 2 asked q (2 * n) (2 * k) wide e wide_begun (wide_asks_so short) fits
+        wide_unfitted d e short fits = text_unfitted L options a source cs spells compact form (after c m2) d 2 string_asked q (2 * n) (2 * k) wide e wide_begun (wide_asks_so short) fits

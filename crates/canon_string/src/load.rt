@@ -10,6 +10,7 @@ ghost use Rattle.canon_text.specs.Decoding.{cow_text};
 ghost use Rattle.canon_string.specs.Loading.{IsTextLoaded};
 ghost use Rattle.canon_context.specs.Told.{Exactly, IsNoRefusal, LiftBlames, place_of};
 
+use canon_bytes::ends_inside;
 use canon_context::{At, Fault, Source, charge};
 use canon_text::{CowStr, DecodeError, UTF16_TAG, decode_latin1, decode_utf8, decode_utf16};
 use canon_types::StringEncoding;
@@ -26,7 +27,6 @@ pub fn load_text(
     length: u64,
     at: At,
 ) -> Result<String, Fault>
-    requires narrow { pointer < 2 ^ 32 }
     requires narrow_length { length < 2 ^ 32 }
     ensures ok { IfOk result (IsTextLoaded (encoding_of source.now.encoding) (narrow source.now.memory.now) pointer length fuel.old fuel.new) }
     ensures err { IfErr result (LiftBlames (Exactly (TextFault (encoding_of source.now.encoding) (narrow source.now.memory.now) (place_of at) pointer length))
@@ -51,8 +51,6 @@ fn charged_bytes<'a>(
     align: u64,
     at: At,
 ) -> Result<&'a [u8], Fault>
-    requires narrow { pointer < 2 ^ 32 }
-    requires sized { count < 2 ^ 33 }
     requires some { 0 < align }
     ensures bytes { IfOk result (λ bytes. bytes.now ≡ bytes_at (narrow memory.now) pointer count) }
     ensures good { IfOk result (λ _. IsGood (narrow memory.now) pointer count align) }
@@ -65,7 +63,7 @@ fn charged_bytes<'a>(
     if pointer % align != 0 {
         return Err(Fault::PointerMisaligned(at));
     }
-    if pointer + count > memory.len() as u64 {
+    if !ends_inside(memory, pointer, count, 1) {
         return Err(Fault::PointerOutOfBounds(at));
     }
     charge(fuel, count)?;
@@ -82,8 +80,6 @@ fn load_utf8(
     length: u64,
     at: At,
 ) -> Result<String, Fault>
-    requires narrow { pointer < 2 ^ 32 }
-    requires narrow_length { length < 2 ^ 32 }
     ensures ok { IfOk result (IsTextLoaded utf8 (narrow memory.now) pointer length fuel.old fuel.new) }
     ensures err { IfErr result (LiftBlames (Exactly (TextFault utf8 (narrow memory.now) (place_of at) pointer length))
         (fuel.old < text_reach utf8 (narrow memory.now) pointer length)) }
@@ -108,7 +104,6 @@ fn load_utf16(
     units: u64,
     at: At,
 ) -> Result<String, Fault>
-    requires narrow { pointer < 2 ^ 32 }
     requires narrow_length { units < 2 ^ 32 }
     ensures ok { IfOk result (IsTextLoaded utf16 (narrow memory.now) pointer units fuel.old fuel.new) }
     ensures err { IfErr result (LiftBlames (Exactly (TextFault utf16 (narrow memory.now) (place_of at) pointer units))
@@ -135,7 +130,6 @@ fn load_compact(
     length: u64,
     at: At,
 ) -> Result<String, Fault>
-    requires narrow { pointer < 2 ^ 32 }
     requires narrow_length { length < 2 ^ 32 }
     ensures ok { IfOk result (IsTextLoaded compact (narrow memory.now) pointer length fuel.old fuel.new) }
     ensures err { IfErr result (LiftBlames (Exactly (TextFault compact (narrow memory.now) (place_of at) pointer length))
@@ -159,7 +153,6 @@ fn load_latin1(
     length: u64,
     at: At,
 ) -> Result<String, Fault>
-    requires narrow { pointer < 2 ^ 32 }
     requires untagged { length < 2 ^ 31 }
     ensures ok { IfOk result (IsTextLoaded compact (narrow memory.now) pointer length fuel.old fuel.new) }
     ensures err { IfErr result (LiftBlames (Exactly (TextFault compact (narrow memory.now) (place_of at) pointer length))

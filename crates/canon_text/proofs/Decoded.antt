@@ -155,6 +155,6 @@ spells_nothing16 bytes at h cs s =
     let r = spelled_units bytes cs s in
     one_fault.excludes in_utf16 (units_in bytes) at h (record { scalars = cs; can = r.can; is = r.is })
 
-pub on_err : {X E : Type 0} (r : Result X E) (P : Type 0) → P → OnErr r P
-on_err (Ok x) P p = tt
-on_err (Err e) P p = p
+pub text_on_err : {X E : Type 0} (r : Result X E) (P : Type 0) → P → OnErr r P
+text_on_err (Ok x) P p = tt
+text_on_err (Err e) P p = p

@@ -13,7 +13,7 @@ use Rattle.canon_text.specs.Writing.{over}
 use Rattle.canon_text.proofs.Bytes.{latin1_scalars, latin1_units}
 use Rattle.canon_text.proofs.Widths.{length-unit_bytes}
 
-spelling16-append : (cs ds : List ℕ) → spelling in_utf16 (cs ++ ds) ≡ spelling in_utf16 cs ++ spelling in_utf16 ds
+pub spelling16-append : (cs ds : List ℕ) → spelling in_utf16 (cs ++ ds) ≡ spelling in_utf16 cs ++ spelling in_utf16 ds
 spelling16-append cs ds = ap (λ l. flat_map unit_bytes l) (units-append in_utf16 cs ds) ∙ flat_map-append unit_bytes (units in_utf16 cs) (units in_utf16 ds)
 
 pub narrow_then_wide : NarrowThenWide

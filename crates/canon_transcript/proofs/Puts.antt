@@ -7,12 +7,12 @@ use Rattle.std.specs.List.{position, position_or_len}
 use Rattle.canon_transcript.specs.Blocks.{answered_block, is_at, put_block}
 use Rattle.canon_transcript.specs.declared.blocks.Block.{Block}
 
-abbrev first : ℕ → ℕ → List Block → ℕ
-first start size bs = position_or_len (is_at start size) bs
+abbrev transcript_first : ℕ → ℕ → List Block → ℕ
+transcript_first start size bs = position_or_len (is_at start size) bs
 
-put_first : (start size : ℕ) (new bs : List Block) → put_block start size new bs ≡ take (first start size bs) bs ++ (new ++ drop (suc (first start size bs)) bs)
+put_first : (start size : ℕ) (new bs : List Block) → put_block start size new bs ≡ take (transcript_first start size bs) bs ++ (new ++ drop (suc (transcript_first start size bs)) bs)
 put_first start size new [] = sym (append-nil new)
-put_first start size new (b ∷ bs) = by_test (is_at start size b) (first start size bs) (1 + first start size bs) (omega arith) (put_first start size new bs)
+put_first start size new (b ∷ bs) = by_test (is_at start size b) (transcript_first start size bs) (1 + transcript_first start size bs) (omega arith) (put_first start size new bs)
   where
     by_test : (t : Bool) (k m : ℕ) → m ≡ suc k → put_block start size new bs ≡ take k bs ++ (new ++ drop (suc k) bs)
         → cond t (new ++ bs) (b ∷ put_block start size new bs) ≡ take (cond (not t) m 0) (b ∷ bs) ++ (new ++ drop (suc (cond (not t) m 0)) (b ∷ bs))
@@ -29,7 +29,7 @@ some_below n l i false e h = cc
 
 pub put_absent : (start size : ℕ) (new bs : List Block) → position (is_at start size) bs ≡ None → put_block start size new bs ≡ bs ++ new
 put_absent start size new bs e =
-    let n = first start size bs in
+    let n = transcript_first start size bs in
     let past = none_below n (length bs) (nat_lt n (length bs)) refl e in
     let further : length bs ≤ suc n = omega (arith, past) in
     put_first start size new bs ∙ (ap (λ xs. xs ++ (new ++ drop (suc n) bs)) (take_all n bs past)
@@ -42,7 +42,7 @@ record Place (start size i : ℕ) (new bs : List Block) : Type 0 where
 
 place : (start size i : ℕ) (new bs : List Block) → position (is_at start size) bs ≡ Some i → Place start size i new bs
 place start size i new bs e =
-    let n = first start size bs in
+    let n = transcript_first start size bs in
     let at = some_below n (length bs) i (nat_lt n (length bs)) refl e in
     let more : suc i ≡ i + 1 = omega arith in
     record {

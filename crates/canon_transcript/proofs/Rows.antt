@@ -16,23 +16,23 @@ abbrev pub lead : Bool → ℕ → List ℕ
 lead is_first by = if is_first then [] else by ∷ []
 
 -- the first behind this, and each other behind the separator
-abbrev pub row : {X : Type 0} → ℕ → (X → List ℕ) → List ℕ → List X → List ℕ
-row by f before [] = []
-row by f before (x ∷ xs) = before ++ f x ++ row by f (by ∷ []) xs
+abbrev pub transcript_row : {X : Type 0} → ℕ → (X → List ℕ) → List ℕ → List X → List ℕ
+transcript_row by f before [] = []
+transcript_row by f before (x ∷ xs) = before ++ f x ++ transcript_row by f (by ∷ []) xs
 
-row_joined : {X : Type 0} (by : ℕ) (f : X → List ℕ) (xs : List X) → row by f [] xs ≡ join_with_byte by (map f xs)
+row_joined : {X : Type 0} (by : ℕ) (f : X → List ℕ) (xs : List X) → transcript_row by f [] xs ≡ join_with_byte by (map f xs)
 row_joined by f [] = refl
 row_joined by f (x ∷ []) = append-nil (f x)
 row_joined by f (x ∷ y ∷ xs) = ap (λ ys. f x ++ (by ∷ ys)) (row_joined by f (y ∷ xs))
 
 pub row_begins : {X : Type 0} (by : ℕ) (f : X → List ℕ) (xs : List X) (text text2 before : List ℕ) → text2 ≡ text ++ before
-    → text2 ++ row by f [] xs ≡ text ++ before ++ join_with_byte by (map f xs)
-row_begins by f xs text text2 before e = ap (λ s. s ++ row by f [] xs) e ∙ ap (λ s. text ++ before ++ s) (row_joined by f xs)
+    → text2 ++ transcript_row by f [] xs ≡ text ++ before ++ join_with_byte by (map f xs)
+row_begins by f xs text text2 before e = ap (λ s. s ++ transcript_row by f [] xs) e ∙ ap (λ s. text ++ before ++ s) (row_joined by f xs)
 
 -- what is left of a row: its first stands alone, and each other after a comma
-abbrev pub left : Bool → List Printing → Printing
-left true fs = comma_separated fs
-left false fs = each_after (codes ",") fs
+abbrev pub transcript_left : Bool → List Printing → Printing
+transcript_left true fs = comma_separated fs
+transcript_left false fs = each_after (codes ",") fs
 
 -- the printing of a value, by those of its members
 pub value_of_record : (fields : Vec (String Global × Val) Global) → value_printing (val.Record fields) ≡ fields_printing fields.items

@@ -1,9 +1,9 @@
 -- A definition's depth and its borrows are those of its parts.
-use Rattle.std.proofs.Common.{◌≡◌, ℕ, ◌+◌, max, Bool, true, false, ◌||◌, Option, Some, None, List, [], ◌∷◌, map, filter_map, refl, ap, arith}
-use Rattle.canon_model.specs.Shape.{Name, Shape, bare_cases}
+use Rattle.std.proofs.Common.{Bool, List, None, Option, Some, [], ap, arith, false, filter_map, length, map, max, refl, suc, true, ℕ, ◌+◌, ◌||◌, ◌∷◌, ◌≡◌}
+use Rattle.canon_model.specs.Shape.{Name, Shape, bare_cases, member_count}
 use Rattle.canon_types.specs.declared.types.InterfaceType.{InterfaceType}
 use Rattle.canon_types.specs.Depth.{case_borrows, deepest, deepest_case, depth, has_borrow, member_borrows}
-use Rattle.canon_types.specs.Table.{Definition, EnumType, FixedListType, FlagsType, ListType, MapType, OptionType, RecordType, ResultType, TupleType, VariantType, cases_in, defined_shape, fields_in, members_in, parts, shape_in}
+use Rattle.canon_types.specs.Table.{Definition, EnumType, FixedListType, FlagsType, ListType, MapType, OptionType, RecordType, ResultType, TupleType, TypeTable, VariantType, cases_in, defined_shape, fields_in, members_in, members_of, parts, shape_in}
 
 deepest-fields : (known : List Shape) (fs : List (Name × InterfaceType)) → deepest (fields_in known fs) ≡ deepest (members_in known (map (λ f. f.1) fs))
 deepest-fields known [] = refl
@@ -64,3 +64,8 @@ borrows_defined known (ResultType None (Some b)) = refl
 borrows_defined known (ResultType (Some a) (Some b)) = refl
 borrows_defined known (FlagsType ns) = refl
 borrows_defined known (FixedListType e n) = or_false _
+
+-- a tuple has a member for each type
+pub count_members : (t : TypeTable) (types : List InterfaceType) → member_count (members_of t types) ≡ length types
+count_members t [] = refl
+count_members t (type ∷ types) = ap suc (count_members t types)

@@ -48,15 +48,15 @@ IsProduct of_fields names vs v = (fields : Vec (String Global × Val) Global) ×
 IsProduct of_places names vs v = (members : Vec Val Global) × (v ≡ val.Tuple members) × (names ≡ no_names members.items) × (vs ≡ members.items)
 
 -- the value is a text of these scalar values
-abbrev pub IsText : List ℕ → Val → Type 0
-IsText cs v = (s : String Global) × (v ≡ val.String s) × Spells in_utf8 (string_bytes s) cs
+abbrev pub IsTextValue : List ℕ → Val → Type 0
+IsTextValue cs v = (s : String Global) × (v ≡ val.String s) × Spells in_utf8 (string_bytes s) cs
 
 -- it is a list of these items, and a list of fixed length
 abbrev pub IsItems : List Val → Val → Type 0
 IsItems vs v = (members : Vec Val Global) × (v ≡ val.List members) × (vs ≡ members.items)
 
-abbrev pub IsFixed : List Val → Val → Type 0
-IsFixed vs v = (members : Vec Val Global) × (v ≡ val.FixedLengthList members) × (vs ≡ members.items)
+abbrev pub IsFixedListValue : List Val → Val → Type 0
+IsFixedListValue vs v = (members : Vec Val Global) × (v ≡ val.FixedLengthList members) × (vs ≡ members.items)
 
 -- it is a map of these keys and values
 abbrev pub IsPairs : List (Val × Val) → Val → Type 0
@@ -135,12 +135,12 @@ module _ (lifted : Bool) where
     -- handle stands for a resource: the ledger says which.
     pub HasTreeAs : Shape → Val → Tree → Type 0
     HasTreeAs (scalar k) v t = HasScalar k v t
-    HasTreeAs string v t = (cs : List ℕ) × (n : ℕ) × IsText cs v × (t ≡ text cs n)
+    HasTreeAs string v t = (cs : List ℕ) × (n : ℕ) × IsTextValue cs v × (t ≡ text cs n)
     HasTreeAs (own r) v t = (x : AnyResource) × (h : ℕ) × (v ≡ val.Resource x) × (t ≡ handle h)
     HasTreeAs (borrow r) v t = (x : AnyResource) × (h : ℕ) × (v ≡ val.Resource x) × (t ≡ handle h)
     HasTreeAs (list of_items s) v t = (vs : List Val) × (ts : Trees) × IsItems vs v × (t ≡ items ts) × EachHas (λ w u. HasTreeAs s w u) vs ts
     HasTreeAs (list of_pairs s) v t = IsPairShape s × ((pairs : List (Val × Val)) × (ts : Trees) × IsPairs pairs v × (t ≡ items ts) × EachHas (λ p u. PairHas s p u) pairs ts)
-    HasTreeAs (fixed n s) v t = (vs : List Val) × (ts : Trees) × IsFixed vs v × (length vs ≡ n) × (t ≡ parts ts) × EachHas (λ w u. HasTreeAs s w u) vs ts
+    HasTreeAs (fixed n s) v t = (vs : List Val) × (ts : Trees) × IsFixedListValue vs v × (length vs ≡ n) × (t ≡ parts ts) × EachHas (λ w u. HasTreeAs s w u) vs ts
     HasTreeAs (product k ms) v t = (vs : List Val) × (ts : Trees) × IsProduct k (member_names ms) vs v × (t ≡ parts ts) × HaveTreesAs ms vs ts
     HasTreeAs (variant k cs) v t = (d : ℕ) × (vs : List Val) × (ts : Trees) × IsCase k cs d vs v × (t ≡ case_tree d ts) × CaseHas cs d vs ts
     HasTreeAs (flags names) v t = (set : List Name) × (bs : List Bool) × IsFlags set v × All (λ n. Occurs n names) set × (t ≡ bits bs) × AreMarked set names bs × (IsTrue lifted → set ≡ chosen names bs)
@@ -220,12 +220,12 @@ abbrev mutual
   pub IsSame : Shape → Val → Val → Type 0
   IsSame (product k ms) v w = (names : List Name) × (vs ws : List Val) × IsProduct k names vs v × IsProduct k names ws w × AreSame ms vs ws
   IsSame (scalar k) v w = v ≡ w
-  IsSame string v w = (cs : List ℕ) × IsText cs v × IsText cs w
+  IsSame string v w = (cs : List ℕ) × IsTextValue cs v × IsTextValue cs w
   IsSame (own r) v w = (x y : AnyResource) × (v ≡ val.Resource x) × (w ≡ val.Resource y)
   IsSame (borrow r) v w = (x y : AnyResource) × (v ≡ val.Resource x) × (w ≡ val.Resource y)
   IsSame (list of_items s) v w = (vs ws : List Val) × IsItems vs v × IsItems ws w × EachSame (λ x y. IsSame s x y) vs ws
   IsSame (list of_pairs s) v w = (ps qs : List (Val × Val)) × IsPairs ps v × IsPairs qs w × EachSame (λ p q. PairSame s p q) ps qs
-  IsSame (fixed n s) v w = (vs ws : List Val) × IsFixed vs v × IsFixed ws w × EachSame (λ x y. IsSame s x y) vs ws
+  IsSame (fixed n s) v w = (vs ws : List Val) × IsFixedListValue vs v × IsFixedListValue ws w × EachSame (λ x y. IsSame s x y) vs ws
   IsSame (variant k cs) v w = (d : ℕ) × (vs ws : List Val) × IsCase k cs d vs v × IsCase k cs d ws w × CaseSame cs d vs ws
   IsSame (flags names) v w = (set other : List Name) × IsFlags set v × IsFlags other w × ((n : Name) → Occurs n set ↔ Occurs n other)
 

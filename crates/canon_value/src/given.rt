@@ -18,6 +18,7 @@ ghost use Rattle.canon_val.specs.Value.{HaveTrees};
 
 use crate::{At, Core, Fault, LowerContext, Val};
 use canon_abi::MAX_FLAT_RESULTS;
+use canon_bytes::ends_inside;
 use canon_memory::{Guest, ValRaw};
 use canon_types::TypeTupleIndex;
 use canon_value_parts::{Members, told};
@@ -41,7 +42,7 @@ pub fn results_area<T, G>(
     if at % u64::from(tuple.abi.align32) != 0 {
         return Err(Fault::PointerMisaligned(At::Word(word)));
     }
-    if at + u64::from(tuple.abi.size32) > core.memory().len() {
+    if !ends_inside(core.memory().as_slice(), at, 1, tuple.abi.size32) {
         return Err(Fault::PointerOutOfBounds(At::Word(word)));
     }
     Ok(at)

@@ -34,10 +34,10 @@ case_rebuilt s k i vs v e lt is = λ ts have. subst (λ (x : Shape). IsLiftedFro
 is_first : (names : List Name) (i : ℕ) (name : Name) → AllPairs (λ a b. a ≢ b) names → slice_get names i ≡ Some name → IsFirst name names i
 is_first names i name differ e = (e, λ j lt f. differ j i name lt (slice_get_within names i name e) (get_or_from_slice_get names j name name f ∙ sym (get_or_from_slice_get names i name name e)))
 
-abbrev Named : Type 0
-Named = Name × Option InterfaceType
+abbrev MemberNamed : Type 0
+MemberNamed = Name × Option InterfaceType
 
-names_of_cases : (known : List Shape) (xs : List Named) → map (λ c. c.0) xs ≡ case_names (cases_in known xs)
+names_of_cases : (known : List Shape) (xs : List MemberNamed) → map (λ c. c.0) xs ≡ case_names (cases_in known xs)
 names_of_cases known [] = refl
 names_of_cases known ((name, None) ∷ xs) = ap (λ (names : List Name). name ∷ names) (names_of_cases known xs)
 names_of_cases known ((name, Some type) ∷ xs) = ap (λ (names : List Name). name ∷ names) (names_of_cases known xs)
@@ -46,9 +46,9 @@ pub first_of_cases : {Z : Type 0} (t : TypeTable) (j : ℕ) (entries : List (Str
     → IsDefined t (ty.Variant j) (cases_type entries) → NamesDiffer (cases_type entries)
     → slice_get entries tag ≡ Some (name, o) → IsFirst (string_bytes name) (case_names (variant_cases (shape_of t (ty.Variant j)))) tag
 first_of_cases {Z} t j entries tag name o defined differ e =
-    let f : String Z × Option InterfaceType → Named = λ x. (string_bytes x.0, x.1) in
+    let f : String Z × Option InterfaceType → MemberNamed = λ x. (string_bytes x.0, x.1) in
     let here : slice_get (map f entries) tag ≡ Some (string_bytes name, o) = slice_get-map f entries tag ∙ ap (option_map f) e in
-    let there : slice_get (map (λ (c : Named). c.0) (map f entries)) tag ≡ Some (string_bytes name) = slice_get-map (λ (c : Named). c.0) (map f entries) tag ∙ ap (option_map (λ (c : Named). c.0)) here in
+    let there : slice_get (map (λ (c : MemberNamed). c.0) (map f entries)) tag ≡ Some (string_bytes name) = slice_get-map (λ (c : MemberNamed). c.0) (map f entries) tag ∙ ap (option_map (λ (c : MemberNamed). c.0)) here in
     subst (λ (names : List Name). IsFirst (string_bytes name) names tag) (names_of_cases (all_shapes t) (map f entries) ∙ sym (ap (λ (s : Shape). case_names (variant_cases s)) defined.shape))
     (is_first _ tag (string_bytes name) differ there)
 

@@ -63,9 +63,9 @@ found_in name ks d i e =
       λ j l is. no_both _ ((bytes_eq-Decides name (string_bytes (get_or ks j d))).1 (same_some name (string_bytes (get_or ks j d)) _ is (spelled ks d j (omega (arith, l, lt))))) (before j l),
     )
 
-pub found : (name : Name) (ks : List (String Global)) (i : ℕ) → position (λ k. bytes_eq name (string_bytes k)) ks ≡ Some i → IsFirst name (map (λ k. string_bytes k) ks) i
-found name [] i e = cc
-found name (k ∷ ks) i e = found_in name (k ∷ ks) k i e
+pub value_found : (name : Name) (ks : List (String Global)) (i : ℕ) → position (λ k. bytes_eq name (string_bytes k)) ks ≡ Some i → IsFirst name (map (λ k. string_bytes k) ks) i
+value_found name [] i e = cc
+value_found name (k ∷ ks) i e = found_in name (k ∷ ks) k i e
 
 cond_none : (b : Bool) (n : ℕ) → (if b then Some n else None) ≡ None → b ≡ false
 cond_none true n e = cc
@@ -176,17 +176,17 @@ module _ (t : TypeTable) (s : Shape) (v : Val) (info : VariantInfo) (ks : List (
   spellings = map (λ (k : String Global). string_bytes k) ks
 
   pub enum_first : (i : ℕ) → position (λ k. bytes_eq xs (string_bytes k)) ks ≡ Some i → IsFirst (string_bytes name) (case_names (bare_cases spellings)) i
-  enum_first i e = subst (λ (ns : List Name). IsFirst (string_bytes name) ns i) (sym (enum_names spellings)) (subst (λ (x : Name). IsFirst x spellings i) en (found xs ks i e))
+  enum_first i e = subst (λ (ns : List Name). IsFirst (string_bytes name) ns i) (sym (enum_names spellings)) (subst (λ (x : Name). IsFirst x spellings i) en (value_found xs ks i e))
 
-  pub enum_info : HasInfo info (bare_cases spellings)
-  enum_info = subst (λ (x : Shape). HasInfo info (variant_cases x)) shape has
+  pub value_enum_info : HasInfo info (bare_cases spellings)
+  value_enum_info = subst (λ (x : Shape). HasInfo info (variant_cases x)) shape has
 
   pub enum_seen : (i : ℕ) → position (λ k. bytes_eq xs (string_bytes k)) ks ≡ Some i → IsCaseSeen t s v (record { info = info; tag = i; payload = members.Empty })
   enum_seen i e = record {
     kind = of_names;
     cases = bare_cases spellings;
     shape = shape;
-    info = enum_info;
+    info = value_enum_info;
     inside = first_below (bare_cases spellings) (string_bytes name) i (enum_first i e);
     known = tt;
     shapes = sym (bare_members spellings i);
@@ -210,7 +210,7 @@ module _ (t : TypeTable) (s : Shape) (v : Val) (info : VariantInfo) (entries : L
 
   pub variant_first : (i : ℕ) → position (λ k. bytes_eq xs (string_bytes k)) (keys_of entries) ≡ Some i → IsFirst (string_bytes name) (case_names cs) i
   variant_first i e = subst (λ (ns : List Name). IsFirst (string_bytes name) ns i) (sym (variant_names (all_shapes t) entries))
-      (subst (λ (x : Name). IsFirst x (map (λ k. string_bytes k) (keys_of entries)) i) en (found xs (keys_of entries) i e))
+      (subst (λ (x : Name). IsFirst x (map (λ k. string_bytes k) (keys_of entries)) i) en (value_found xs (keys_of entries) i e))
 
   pub variant_info : HasInfo info cs
   variant_info = subst (λ (x : Shape). HasInfo info (variant_cases x)) shape has

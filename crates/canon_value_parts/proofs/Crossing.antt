@@ -19,41 +19,41 @@ abbrev wanting : Fault
 wanting = fault.Resource resource.OutOfMemory
 
 -- what is reported is out of memory, or the same
-pub told_by : (P : Fault → Type 0) (e : Fault) → (e ≡ wanting → P fault.OutOfMemory) → P e → P (told_fault e)
-told_by P (fault.TypeMismatch k) f h = h
-told_by P (fault.LengthMismatch k) f h = h
-told_by P (fault.FieldName k) f h = h
-told_by P (fault.UnknownCase k) f h = h
-told_by P (fault.UnknownFlag k) f h = h
-told_by P (fault.PayloadExpected k) f h = h
-told_by P (fault.PayloadNotExpected k) f h = h
-told_by P (fault.ReallocMisaligned a) f h = h
-told_by P (fault.ReallocOutOfBounds a) f h = h
-told_by P fault.GuestTrap f h = h
-told_by P (fault.PointerMisaligned at) f h = h
-told_by P (fault.PointerOutOfBounds at) f h = h
-told_by P (fault.StringTooLong n) f h = h
-told_by P (fault.SizeOverflow n) f h = h
-told_by P (fault.InvalidUtf8 at) f h = h
-told_by P (fault.InvalidUtf16 at) f h = h
-told_by P (fault.InvalidChar at) f h = h
-told_by P (fault.BadDiscriminant at n) f h = h
-told_by P fault.HostcallFuelExhausted f h = h
-told_by P fault.OutOfMemory f h = h
-told_by P (fault.Resource (resource.UnknownHandle i)) f h = h
-told_by P (fault.Resource (resource.NotAResource i)) f h = h
-told_by P (fault.Resource resource.ResourceTypeMismatch) f h = h
-told_by P (fault.Resource (resource.StillLent i)) f h = h
-told_by P (fault.Resource (resource.TooManyLends i)) f h = h
-told_by P (fault.Resource resource.HandleLimit) f h = h
-told_by P (fault.Resource resource.IndexOverflow) f h = h
-told_by P (fault.Resource resource.BorrowAsOwn) f h = h
-told_by P (fault.Resource resource.HostConsumed) f h = h
-told_by P (fault.Resource resource.HostDeallocated) f h = h
-told_by P (fault.Resource resource.GenerationExhausted) f h = h
-told_by P (fault.Resource resource.BorrowsRemain) f h = h
-told_by P (fault.Resource resource.NoScope) f h = h
-told_by P (fault.Resource resource.OutOfMemory) f h = f refl
+pub value_told_by : (P : Fault → Type 0) (e : Fault) → (e ≡ wanting → P fault.OutOfMemory) → P e → P (told_fault e)
+value_told_by P (fault.TypeMismatch k) f h = h
+value_told_by P (fault.LengthMismatch k) f h = h
+value_told_by P (fault.FieldName k) f h = h
+value_told_by P (fault.UnknownCase k) f h = h
+value_told_by P (fault.UnknownFlag k) f h = h
+value_told_by P (fault.PayloadExpected k) f h = h
+value_told_by P (fault.PayloadNotExpected k) f h = h
+value_told_by P (fault.ReallocMisaligned a) f h = h
+value_told_by P (fault.ReallocOutOfBounds a) f h = h
+value_told_by P fault.GuestTrap f h = h
+value_told_by P (fault.PointerMisaligned at) f h = h
+value_told_by P (fault.PointerOutOfBounds at) f h = h
+value_told_by P (fault.StringTooLong n) f h = h
+value_told_by P (fault.SizeOverflow n) f h = h
+value_told_by P (fault.InvalidUtf8 at) f h = h
+value_told_by P (fault.InvalidUtf16 at) f h = h
+value_told_by P (fault.InvalidChar at) f h = h
+value_told_by P (fault.BadDiscriminant at n) f h = h
+value_told_by P fault.HostcallFuelExhausted f h = h
+value_told_by P fault.OutOfMemory f h = h
+value_told_by P (fault.Resource (resource.UnknownHandle i)) f h = h
+value_told_by P (fault.Resource (resource.NotAResource i)) f h = h
+value_told_by P (fault.Resource resource.ResourceTypeMismatch) f h = h
+value_told_by P (fault.Resource (resource.StillLent i)) f h = h
+value_told_by P (fault.Resource (resource.TooManyLends i)) f h = h
+value_told_by P (fault.Resource resource.HandleLimit) f h = h
+value_told_by P (fault.Resource resource.IndexOverflow) f h = h
+value_told_by P (fault.Resource resource.BorrowAsOwn) f h = h
+value_told_by P (fault.Resource resource.HostConsumed) f h = h
+value_told_by P (fault.Resource resource.HostDeallocated) f h = h
+value_told_by P (fault.Resource resource.GenerationExhausted) f h = h
+value_told_by P (fault.Resource resource.BorrowsRemain) f h = h
+value_told_by P (fault.Resource resource.NoScope) f h = h
+value_told_by P (fault.Resource resource.OutOfMemory) f h = f refl
 
 -- what was reported is reported as it is
 told_itself : (e : Fault) → told_fault (told_fault e) ≡ told_fault e
@@ -128,9 +128,9 @@ module _ (types : Instance) (handles : Bool) (ps : List PassedResource) (none : 
   crossed {X} Attempted hs told is h = subst (λ (x : Fault). Crosses {T = X} types handles ps Attempted l n (Err x)) (sym is) (record {
     given = hs;
     ending = fault_ending e;
-    ends = told_by (λ x. EndsAs {T = X} handles ps (Err x) (fault_ending e)) e (λ want. inr (wants_handles handles ps e none stopped.1 want, ap fault_ending want)) (ends_as X handles ps e);
+    ends = value_told_by (λ x. EndsAs {T = X} handles ps (Err x) (fault_ending e)) e (λ want. inr (wants_handles handles ps e none stopped.1 want, ap fault_ending want)) (ends_as X handles ps e);
     lowered = h;
-    passed = told_by (λ x. Ended types l n ps x) e (λ want. (subst (λ x. LeavesStop (stop_of x) l (map (lower_parts types) ps) n) want stopped.0, inl refl)) stopped;
+    passed = value_told_by (λ x. Ended types l n ps x) e (λ want. (subst (λ x. LeavesStop (stop_of x) l (map (lower_parts types) ps) n) want stopped.0, inl refl)) stopped;
     as_told = told_itself e;
   })
 
@@ -140,8 +140,8 @@ module _ (types : Instance) (handles : Bool) (ps : List PassedResource) (none : 
   quiet_but blocks Same told is h quiet = (
     (h quiet).0,
     subst (λ (x : Fault). (fault_ending x ≡ refused) ⊎ (UsesLedger handles ps × (x ≡ fault.OutOfMemory))) (sym is)
-        (told_by (λ x. (fault_ending x ≡ refused) ⊎ (UsesLedger handles ps × (x ≡ fault.OutOfMemory))) e (λ want. inr (wants_handles handles ps e none stopped.1 want, refl)) (inl (h quiet).1)),
+        (value_told_by (λ x. (fault_ending x ≡ refused) ⊎ (UsesLedger handles ps × (x ≡ fault.OutOfMemory))) e (λ want. inr (wants_handles handles ps e none stopped.1 want, refl)) (inl (h quiet).1)),
   )
 
 pub told_blames : (enc : Encoding) (F : Failure → ℕ → Type 0) (from : ℕ) (e told : Fault) → told ≡ told_fault e → Blames enc F from e → Blames enc F from told
-told_blames enc F from e told is h = subst (λ x. Blames enc F from x) (sym is) (told_by (λ x. Blames enc F from x) e (λ want. tt) h)
+told_blames enc F from e told is h = subst (λ x. Blames enc F from x) (sym is) (value_told_by (λ x. Blames enc F from x) e (λ want. tt) h)

@@ -34,7 +34,7 @@ use Rattle.canon_context.specs.declared.fault.Fault.{Fault}
 use Rattle.canon_val.specs.declared.val.Val.{Val}
 use Rattle.canon_context.proofs.Moves.{GuestLaws}
 use Rattle.canon_context.proofs.Cores.{same_encoding, same_types}
-use Rattle.canon_value_parts.proofs.StoreSteps.{Named, count_members}
+use Rattle.canon_value_parts.proofs.StoreSteps.{MemberNamed, value_count_members}
 use Rattle.canon_lowering.specs.Stages.{Stage}
 
 pub tuple_shape_of_now : (t t2 : TypeTable) (j : ℕ) (types : List InterfaceType) → t2 ≡ t → IsDefined t2 (ty.Tuple j) (TupleType types) → types ≡ tuple_types_of t2 j → shape_of t2 (ty.Tuple j) ≡ product of_places (tuple_members t j)
@@ -69,19 +69,19 @@ module _ {T G : Type 0} (L : GuestLaws G) (options options2 : ℕ) (a b c : Part
   stood = subst (λ (x : TypeTable). PartsStoreTo L.seen L.moves options b c 0 (tuple_members x j) 0 p (no_names vs) vs 0 r) (same_types a b g.same)
       (subst (λ (n : ℕ). PartsStoreTo L.seen L.moves n b c 0 (tuple_members (component_types b) j) 0 p (no_names vs) vs 0 r) eo h)
 
-  storing : StoresMembers false (stage_of L.seen L.moves b) (stage_of L.seen L.moves c) (host_texts (encoding_by a options)) ms 0 p (Named ms (no_names vs) vs) stood.handles (ending_of r)
-  storing = subst (λ (x : Encoding). StoresMembers false (stage_of L.seen L.moves b) (stage_of L.seen L.moves c) (host_texts x) ms 0 p (Named ms (no_names vs) vs) stood.handles (ending_of r)) (same_encoding a b options g.same) stood.storing
+  storing : StoresMembers false (stage_of L.seen L.moves b) (stage_of L.seen L.moves c) (host_texts (encoding_by a options)) ms 0 p (MemberNamed ms (no_names vs) vs) stood.handles (ending_of r)
+  storing = subst (λ (x : Encoding). StoresMembers false (stage_of L.seen L.moves b) (stage_of L.seen L.moves c) (host_texts x) ms 0 p (MemberNamed ms (no_names vs) vs) stood.handles (ending_of r)) (same_encoding a b options g.same) stood.storing
 
-  from : (ts : Trees) → HaveTrees ms vs ts → Named ms (no_names vs) vs ts
+  from : (ts : Trees) → HaveTrees ms vs ts → MemberNamed ms (no_names vs) vs ts
   from ts have = (tuple_names (component_types a) j vs count, have)
 
   -- the block is given, and the members are stored there
   lowered : LowersParams (stage_of L.seen L.moves a) (stage_of L.seen L.moves c) (encoding_by a options) ms (HaveTrees ms vs) (p ∷ []) stood.handles (ending_of r)
   lowered = record {
-    lowered = args_far false (host_texts (encoding_by a options)) ms (Named ms (no_names vs) vs) (HaveTrees ms vs) (λ ts have. have.1) from (stage_of L.seen L.moves a) (stage_of L.seen L.moves b) (stage_of L.seen L.moves c) p (ending_of r) far g.small g.does storing;
+    lowered = args_far false (host_texts (encoding_by a options)) ms (MemberNamed ms (no_names vs) vs) (HaveTrees ms vs) (λ ts have. have.1) from (stage_of L.seen L.moves a) (stage_of L.seen L.moves b) (stage_of L.seen L.moves c) p (ending_of r) far g.small g.does storing;
     asks = λ many. (
-      far_first false (host_texts (encoding_by a options)) ms (Named ms (no_names vs) vs) (HaveTrees ms vs) (λ ts have. have.1) from (stage_of L.seen L.moves a) (stage_of L.seen L.moves b) (stage_of L.seen L.moves c) p (ending_of r) far g.small g.does storing,
-      λ quiet. far_only false (host_texts (encoding_by a options)) ms (Named ms (no_names vs) vs) (HaveTrees ms vs) (λ ts have. have.1) from (stage_of L.seen L.moves a) (stage_of L.seen L.moves b) (stage_of L.seen L.moves c) p (ending_of r) far g.small g.does storing
+      far_first false (host_texts (encoding_by a options)) ms (MemberNamed ms (no_names vs) vs) (HaveTrees ms vs) (λ ts have. have.1) from (stage_of L.seen L.moves a) (stage_of L.seen L.moves b) (stage_of L.seen L.moves c) p (ending_of r) far g.small g.does storing,
+      λ quiet. far_only false (host_texts (encoding_by a options)) ms (MemberNamed ms (no_names vs) vs) (HaveTrees ms vs) (λ ts have. have.1) from (stage_of L.seen L.moves a) (stage_of L.seen L.moves b) (stage_of L.seen L.moves c) p (ending_of r) far g.small g.does storing
           (none_answered (L.seen b.guest).marks storing.answers (ap (λ (x : G). (L.seen x).marks) (sym (stood.quiet quiet).0) ∙ storing.lowering.goes.marks))
           (no_trap (moment_of L.seen b) (moment_of L.seen c) storing.answers storing.trap r (stood.quiet quiet).1 storing.lowering.cause),
     );
@@ -94,7 +94,7 @@ module _ {T G : Type 0} (L : GuestLaws G) (options options2 : ℕ) (a b c : Part
   far_same = handles_then a b c (same_handles a b g.same) stood.same
 
   pub far_counted : PlacesCounted (encoding_by a options) (λ how k. MemberFails how ms vs k) 0 (all_places vs) r
-  far_counted = count_members (encoding_by a options) 0 ms (no_names vs) vs 0 r (tuple_names (component_types a) j vs count)
+  far_counted = value_count_members (encoding_by a options) 0 ms (no_names vs) vs 0 r (tuple_names (component_types a) j vs count)
       (subst (λ (x : Encoding). FieldsCount x 0 ms (no_names vs) vs 0 r) (same_encoding a b options g.same) stood.counted)
 
 module _ (enc : Encoding) (ms : Members) (Have : Trees → Type 0) where
@@ -125,8 +125,8 @@ far_many s ms None most is e h f =
     let many : ¬ (flat s ≤ 16) = λ l. h (omega (arith, l, e), l) in
     omega (arith, same, many)
 
-pub near_words : (ms : Members) → members_flat ms ≤ max_params → args_words ms ≡ members_flat ms
-near_words ms near = cond-true (nat_le (members_flat ms) max_params) _ _ (le-leb _ _ near)
+pub value_near_words : (ms : Members) → members_flat ms ≤ max_params → args_words ms ≡ members_flat ms
+value_near_words ms near = cond-true (nat_le (members_flat ms) max_params) _ _ (le-leb _ _ near)
 
 pub far_words : (ms : Members) → max_params < members_flat ms → args_words ms ≡ 1
 far_words ms far = cond-false (nat_le (members_flat ms) max_params) _ _ (lt-leb (members_flat ms) max_params far)

@@ -6,7 +6,7 @@ use Rattle.canon_lowering.specs.Storing.{narrow}
 use Rattle.canon_model.specs.Flat.{low_number}
 use Rattle.canon_model.specs.Layout.{flag_words, flags_size}
 use Rattle.canon_model.specs.Memory.{bytes_in, le_number, low, num}
-use Rattle.canon_value_parts.specs.Flags.{HasPlace, HasRoom, digit_of, marked_number, width_of}
+use Rattle.canon_value_parts.specs.Flags.{HasPlace, MarksHaveRoom, digit_of, marked_number, width_of}
 use Rattle.canon_value_parts.specs.declared.flags.Marks.{Marks}
 use Rattle.canon_value_parts.specs.declared.flags.Marks.TheVariants as marks
 use Rattle.canon_value_parts.proofs.FlagBits.{digit_bit, digits}
@@ -39,12 +39,12 @@ bytes_enough n = grind (arith, nat_tests)
 
 -- ---- the bits that are read
 
-pub has_place : (ms : Marks) (n k : ℕ) → HasRoom ms n → k < n → HasPlace ms (k / width_of ms)
+pub has_place : (ms : Marks) (n k : ℕ) → MarksHaveRoom ms n → k < n → HasPlace ms (k / width_of ms)
 has_place (marks.Bytes memory at) n k room l = omega (arith, room, byte_inside n k l)
 has_place (marks.Words words from) n k room l = omega (arith, room, word_inside n k l)
 
 -- bit k of the number is that of its digit, where the digits before it are no larger than they may be
-pub bit_read : (ms : Marks) (n k : ℕ) → HasRoom ms n → k < n → ((j : ℕ) → j < k → digit_of ms (j / width_of ms) < 2 ^ width_of ms) → bit_at (marked_number ms n) k ≡ bit_at (digit_of ms (k / width_of ms)) (k % width_of ms)
+pub bit_read : (ms : Marks) (n k : ℕ) → MarksHaveRoom ms n → k < n → ((j : ℕ) → j < k → digit_of ms (j / width_of ms) < 2 ^ width_of ms) → bit_at (marked_number ms n) k ≡ bit_at (digit_of ms (k / width_of ms)) (k % width_of ms)
 bit_read (marks.Bytes memory at) n k room l below =
     let xs = memory.now in
     let before : (q : ℕ) → q < k / 8 → slice_index xs (at + q) < 2 ^ 8 = λ q u. subst (λ (p : ℕ). slice_index xs (at + p) < 2 ^ 8) (let e : 8 * q / 8 ≡ q = omega arith in e) (below (8 * q) (omega (arith, u))) in

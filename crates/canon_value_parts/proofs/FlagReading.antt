@@ -10,7 +10,7 @@ use Rattle.canon_model.specs.Cost.{set_length}
 use Rattle.canon_model.specs.Rep.{bits_of}
 use Rattle.canon_model.specs.Shape.{Name, Shape, flags}
 use Rattle.canon_types.specs.Keeps.{names_of}
-use Rattle.canon_value_parts.specs.Flags.{AreFlags, AreUnpaid, HasRoom, digit_of, marked_number, width_of}
+use Rattle.canon_value_parts.specs.Flags.{AreFlags, AreUnpaid, MarksHaveRoom, digit_of, marked_number, width_of}
 use Rattle.canon_val.specs.Value.{chosen}
 use Rattle.canon_context.specs.declared.fault.Fault.{Fault}
 use Rattle.canon_context.specs.declared.fault.Fault.TheVariants as fault
@@ -29,7 +29,7 @@ pub record IsReading (ms : Marks) (names : List Name) (k before now : ℕ) (set 
   pub so_far : set ++ chosen (drop k names) (drop k (bits_in ms names)) ≡ chosen names (bits_in ms names)
   pub falls : now ≤ before
 
-module _ (ms : Marks) (names : List Name) (k before now : ℕ) (set : List Name) (h : IsReading ms names k before now set) (inside : k < length names) (room : HasRoom ms (length names))
+module _ (ms : Marks) (names : List Name) (k before now : ℕ) (set : List Name) (h : IsReading ms names k before now set) (inside : k < length names) (room : MarksHaveRoom ms (length names))
     (below : (j : ℕ) → j < k → digit_of ms (j / width_of ms) < 2 ^ width_of ms) (name : Name) (is : get_or names k [] ≡ name) where
   split : drop k names ≡ name ∷ drop (k + 1) names
   split = drop-cons names k [] inside ∙ ap₂ (λ x xs. x ∷ xs) is (ap (λ (n : ℕ). drop n names) (let e : suc k ≡ k + 1 = omega arith in e))
@@ -75,8 +75,8 @@ read_end ms names before now set s es differ h =
 
 -- the names, and the first k of them read from the marks
 module _ (ms : Marks) (names others : List Name) (same : names ≡ others) (before : ℕ) where
-  pub room_of : HasRoom ms (length names) → HasRoom ms (length others)
-  room_of room = subst (λ (ns : List Name). HasRoom ms (length ns)) same room
+  pub room_of : MarksHaveRoom ms (length names) → MarksHaveRoom ms (length others)
+  room_of room = subst (λ (ns : List Name). MarksHaveRoom ms (length ns)) same room
 
   pub flags_unpaid : {X : Type 0} (s : Shape) (r : Result X Fault) (e : Fault) → s ≡ flags names → IsErr r × IsErrAnd r (λ x. x ≡ e) → e ≡ fault.HostcallFuelExhausted → before < set_length others (bits_in ms others)
       → IfErr r (AreUnpaid s (marked_number ms (length names)) before)

@@ -119,8 +119,8 @@ put_more ws vs us first count names set k x es differ h l is s =
       known = All-push (λ y. Occurs y names) set x h.known (occurs_at names k x l is);
     }
 
-pub put_end : (ws vs : List ℕ) (first : ℕ) (names set : List Name) → ArePut ws vs first (flag_words (length names)) names set → AreSetInWords names set vs first
-put_end ws vs first names set h =
+pub value_put_end : (ws vs : List ℕ) (first : ℕ) (names set : List Name) → ArePut ws vs first (flag_words (length names)) names set → AreSetInWords names set vs first
+value_put_end ws vs first names set h =
     (λ j l u. subst (λ (i : ℕ). slice_index vs i < 2 ^ 32) (let e : first + (j - first) ≡ j = omega (arith, l) in e) (h.below (j - first) (omega (arith, l, u))), marked_all names set _ h.marked h.known)
 
 -- a name of the value that the type hasn't

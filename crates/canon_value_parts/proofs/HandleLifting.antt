@@ -1,7 +1,7 @@
 -- The resource whose handle stands in memory or in a word.
 use Rattle.std.proofs.Common.{Bool, Err, IfErr, IfOk, Ok, Result, Some, List, [], ap, arith, false, inl, inr, length, refl, subst, sym, true, ℕ, ◌+◌, ◌<◌, ◌∷◌, ◌≡◌, ◌≤◌, ◌∙◌, ◌⊎◌}
 use Rattle.std.specs.Prelude.{slice_index}
-use Rattle.canon_context.proofs.Told.{on_ok}
+use Rattle.canon_context.proofs.Told.{core_on_ok}
 use Rattle.canon_context.specs.Told.{LiftBlames, ToldAt}
 use Rattle.canon_context.specs.declared.fault.At.{At}
 use Rattle.canon_context.specs.declared.fault.Fault.{Fault}
@@ -130,7 +130,7 @@ module _ (types : Instance) (before after : LedgerState) where
       pub handle_loaded : (enc : Encoding) (fuel : ℕ) → a + size false (shape_of t type) ≤ length bytes → IfOk r (IsLoaded enc (narrow bytes) (shape_of t type) a fuel fuel)
       handle_loaded enc fuel inside =
           let room : a + 4 ≤ length bytes = omega (arith, inside, handle_bytes t type h is) in
-          on_ok r (λ v. (x : Any) × (v ≡ val.Resource x)) (IsLoaded enc (narrow bytes) (shape_of t type) a fuel fuel)
+          core_on_ok r (λ v. (x : Any) × (v ≡ val.Resource x)) (IsLoaded enc (narrow bytes) (shape_of t type) a fuel fuel)
           (λ v one. subst (λ (s : Shape). IsLoaded enc (narrow bytes) s a fuel fuel v) (sym (handle_shape t type h is)) (loaded_so enc fuel h.owned h.resource v room one)) takes.is
 
       pub handle_lifts : LiftsHandles resources types before after (reach_leaves (narrow bytes) (shape_of t type) a) r

@@ -15,7 +15,7 @@ use Rattle.canon_types.specs.Depth.{deepest, depth, variant_cases}
 use Rattle.canon_types.specs.Table.{TypeTable}
 use Rattle.std.specs.Prelude.{slice_index}
 use Rattle.canon_plan.specs.CasePlan.{IsCaseSlots, case_name_cost, name_charge}
-use Rattle.canon_value_parts.specs.Lifts.{AreTaken, LiftsTo}
+use Rattle.canon_value_parts.specs.Lifts.{AreValuesTaken, LiftsTo}
 use Rattle.canon_context.specs.Told.{LiftBlames, ToldAt}
 use Rattle.canon_value_parts.specs.Plan.{IsCaseRebuilt}
 use Rattle.canon_plan.specs.Plan.{IsVariant, shapes_of}
@@ -25,7 +25,7 @@ use Rattle.canon_context.specs.declared.fault.Fault.TheVariants as fault
 use Rattle.canon_val.specs.declared.val.Val.{Val}
 use Rattle.canon_value_parts.proofs.LoadCases.{payload_nameless, variant_charges, variant_depth}
 use Rattle.canon_value_parts.proofs.LeavesAt.{payload_flat_leaves}
-use Rattle.canon_context.proofs.Told.{told_by}
+use Rattle.canon_context.proofs.Told.{core_told_by}
 use Rattle.canon_value_parts.proofs.Values.{have_count}
 
 case_words : (cs : Cases) (i : ℕ) → members_flat (case_members cs i) ≤ cases_flat cs
@@ -36,9 +36,9 @@ case_words (bare name cs) (suc i) = case_words cs i
 case_words (payload name s cs) zero = omega arith
 case_words (payload name s cs) (suc i) = omega (arith, case_words cs i)
 
-pub variant_words : (s : Shape) (tag : ℕ) → IsVariant s → 1 + members_flat (case_members (variant_cases s) tag) ≤ flat s
+pub value_variant_words : (s : Shape) (tag : ℕ) → IsVariant s → 1 + members_flat (case_members (variant_cases s) tag) ≤ flat s
 unfolding flat
-variant_words s tag is = omega (arith, ap flat is.1, case_words (variant_cases s) tag)
+value_variant_words s tag is = omega (arith, ap flat is.1, case_words (variant_cases s) tag)
 
 pub variant_word : (s : Shape) → IsVariant s → 1 ≤ flat s
 unfolding flat
@@ -95,7 +95,7 @@ module _ (enc : Encoding) (m : Memory) (ws : List ℕ) where
     pub payload_told : (before mid : ℕ) → before ≡ mid + member_count these * val_cost → (e : Fault)
         → LiftBlames (ToldAt (MemberFlatFault enc m ws these (i + 1))) (mid < names_length these + members_flat_reach enc m ws these (i + 1)) e → LiftBlames (ToldAt (FlatFault enc m ws s i)) (before < flat_reach enc m ws s i) e
     payload_told before mid charged e h =
-        told_by (MemberFlatFault enc m ws these (i + 1)) (FlatFault enc m ws s i) _ _ case_blames
+        core_told_by (MemberFlatFault enc m ws these (i + 1)) (FlatFault enc m ws s i) _ _ case_blames
         (λ (less : mid < names_length these + members_flat_reach enc m ws these (i + 1)). case_low before (omega (arith, less, charged, payload_nameless (variant_cases s) tag))) e h
 
     module _ (there : tag < case_count (variant_cases s)) where
@@ -105,7 +105,7 @@ module _ (enc : Encoding) (m : Memory) (ws : List ℕ) where
           subst (λ (x : Shape). RepFlatAt false enc m ws i x (case_tree tag ts)) (sym is.1)
           (subst (λ (d : ℕ). CaseFlat (Inside m) false enc m ws cs d d (i + 1) (i + 1 + cases_flat cs) (case_tree tag ts)) read (case_in_words cs tag tag (i + 1) (i + 1 + cases_flat cs) ts there reps), λ strict. cc)
 
-      module _ (to before mid late : ℕ) (vs : List Val) (charged : before ≡ mid + member_count these * val_cost) (lifted : AreTaken enc m ws (i + 1) to mid late these vs) where
+      module _ (to before mid late : ℕ) (vs : List Val) (charged : before ≡ mid + member_count these * val_cost) (lifted : AreValuesTaken enc m ws (i + 1) to mid late these vs) where
         -- the name isn't paid
         pub flat_name_unpaid : late < name_charge s tag → before < flat_reach enc m ws s i
         flat_name_unpaid less =
@@ -127,9 +127,9 @@ pub record WeighsCaseWords (enc : Encoding) (m : Memory) (ws : List ℕ) (s : Sh
   pub shallow : 4 * deepest ms + 1 < 4 * depth s - 1
   pub leaves : flat_leaves m ws s i ≡ members_flat_leaves m ws ms (i + 1)
   pub room : 1 + members_flat ms ≤ flat s
-  pub count : (to mid late : ℕ) (vs : List Val) → AreTaken enc m ws (i + 1) to mid late ms vs → length vs ≡ member_count (case_members (variant_cases s) tag)
-  pub nameless : (to before mid late : ℕ) (vs : List Val) → before ≡ mid + member_count ms * val_cost → AreTaken enc m ws (i + 1) to mid late ms vs → late < name_charge s tag → before < flat_reach enc m ws s i
-  pub lifted : (to before mid late end after : ℕ) (vs : List Val) → before ≡ mid + member_count ms * val_cost → AreTaken enc m ws (i + 1) to mid late ms vs → late ≡ after + name_charge s tag → end ≡ i + flat s
+  pub count : (to mid late : ℕ) (vs : List Val) → AreValuesTaken enc m ws (i + 1) to mid late ms vs → length vs ≡ member_count (case_members (variant_cases s) tag)
+  pub nameless : (to before mid late : ℕ) (vs : List Val) → before ≡ mid + member_count ms * val_cost → AreValuesTaken enc m ws (i + 1) to mid late ms vs → late < name_charge s tag → before < flat_reach enc m ws s i
+  pub lifted : (to before mid late end after : ℕ) (vs : List Val) → before ≡ mid + member_count ms * val_cost → AreValuesTaken enc m ws (i + 1) to mid late ms vs → late ≡ after + name_charge s tag → end ≡ i + flat s
       → (r : Result Val Fault) → IfOk r (IsCaseRebuilt s tag vs) → IfErr r (λ e. e ≡ fault.OutOfMemory) → LiftsTo enc m ws i end before after s r
 
 pub case_weighs_words : (enc : Encoding) (m : Memory) (ws : List ℕ) (s : Shape) (i tag : ℕ) → IsVariant s → tag ≡ low (slice_index ws i) → (t : TypeTable) (c : CaseSlots) → IsCaseSlots t s tag c
@@ -140,7 +140,7 @@ case_weighs_words enc m ws s i tag is read t c h =
       refused = payload_told enc m ws s i tag is read;
       shallow = variant_depth s tag is;
       leaves = payload_flat_leaves m ws s i tag is read;
-      room = variant_words s tag is;
+      room = value_variant_words s tag is;
       count = λ to mid late vs (ts, reps, have, spent, moved). have_count true (case_members (variant_cases s) tag) vs ts have;
       nameless = λ to before mid late vs charged lifted. flat_name_unpaid enc m ws s i tag is read h.there to before mid late vs charged lifted;
       lifted = λ to before mid late end after vs charged lifted. case_lifted enc m ws s i tag is read h.there to before mid late vs charged lifted end after;

@@ -17,7 +17,7 @@ use Rattle.canon_model.specs.Text.{Encoding}
 use Rattle.canon_model.specs.Tree.{no_trees, text, tree}
 use Rattle.canon_types.specs.declared.types.InterfaceType.{InterfaceType}
 use Rattle.canon_types.specs.Table.{plain_shape}
-use Rattle.canon_value_parts.specs.Lifts.{AreLifted, AreTaken, AreValues, PartsLiftTo, IsOfWord, IsOfWords, LiftsTo, MembersLiftTo}
+use Rattle.canon_value_parts.specs.Lifts.{AreLifted, AreValuesTaken, AreValues, PartsLiftTo, IsOfWord, IsOfWords, LiftsTo, MembersLiftTo}
 use Rattle.canon_string.specs.Loading.{IsTextLoaded}
 use Rattle.canon_context.specs.Told.{Exactly, IsPlace, LiftBlames, ToldAt, place_of}
 use Rattle.canon_context.specs.declared.fault.At.{At}
@@ -26,7 +26,7 @@ use Rattle.canon_context.specs.declared.fault.Fault.{Fault}
 use Rattle.canon_context.specs.declared.fault.Fault.TheVariants as fault
 use Rattle.canon_val.specs.declared.val.Val.{Val}
 use Rattle.canon_val.specs.declared.val.Val.TheVariants as val
-use Rattle.canon_context.proofs.Told.{blamed_by, text_told, told_by}
+use Rattle.canon_context.proofs.Told.{blamed_by, text_told, core_told_by}
 use Rattle.canon_plan.proofs.ScalarTypes.{plain_scalar}
 use Rattle.canon_value_parts.proofs.ResourcesOf.{scalar_has_none, text_has_none}
 use Rattle.canon_value_parts.specs.Resources.{resources}
@@ -45,9 +45,9 @@ pub text_words : (s : Shape) → s ≡ string → flat s ≡ 2
 unfolding flat
 text_words s e = ap flat e
 
-pub fixed_words : (s element : Shape) (n : ℕ) → s ≡ fixed n element → flat s ≡ n * flat element
+pub value_fixed_words : (s element : Shape) (n : ℕ) → s ≡ fixed n element → flat s ≡ n * flat element
 unfolding flat
-fixed_words s element n e = ap flat e
+value_fixed_words s element n e = ap flat e
 
 module _ (enc : Encoding) (m : Memory) (ws : List ℕ) where
   -- ---- scalars
@@ -84,13 +84,13 @@ module _ (enc : Encoding) (m : Memory) (ws : List ℕ) where
   reach_spent : (s : Shape) (from to before left : ℕ) (v : Val) → LiftsTo enc m ws from to before left s (Ok v) → before ≡ left + flat_reach enc m ws s from
   reach_spent s from to before left v ((t, rep, has, spent), words) = omega (arith, spent, reach_is_the_cost.flat false enc m ws from s t rep)
 
-  pub parts_none : (from fuel : ℕ) → AreTaken enc m ws from from fuel fuel no_members []
+  pub parts_none : (from fuel : ℕ) → AreValuesTaken enc m ws from from fuel fuel no_members []
   unfolding flat cost
   parts_none from fuel = (no_trees, refl, (refl, refl), omega arith, omega arith)
 
   -- The first one was lifted, up to word `mid`, and `left` is the fuel that is left.
   module _ (s : Shape) (from mid before left : ℕ) (v : Val) (one : LiftsTo enc m ws from mid before left s (Ok v)) where
-    pub part_before : (name : Name) (ms : Members) (to less after : ℕ) (vs : List Val) → left ≡ less + length name → AreTaken enc m ws mid to less after ms vs → AreTaken enc m ws from to before after (member name s ms) (v ∷ vs)
+    pub part_before : (name : Name) (ms : Members) (to less after : ℕ) (vs : List Val) → left ≡ less + length name → AreValuesTaken enc m ws mid to less after ms vs → AreValuesTaken enc m ws from to before after (member name s ms) (v ∷ vs)
     unfolding flat cost
     part_before name ms to less after vs charged (ts, reps, have, spent, words) =
         let ((t, rep, has, taken), moved) = one in (
@@ -108,7 +108,7 @@ module _ (enc : Encoding) (m : Memory) (ws : List ℕ) where
     unfolding flat_reach
     part_later name ms less e charged h =
         let reach : members_flat_reach enc m ws ms mid ≡ members_flat_reach enc m ws ms (from + flat s) = ap (members_flat_reach enc m ws ms) one.1 in
-        told_by (MemberFlatFault enc m ws ms mid) (MemberFlatFault enc m ws (member name s ms) from) _ _ (λ k x f. inr (subst (λ i. MemberFlatFault enc m ws ms i k x) one.1 f))
+        core_told_by (MemberFlatFault enc m ws ms mid) (MemberFlatFault enc m ws (member name s ms) from) _ _ (λ k x f. inr (subst (λ i. MemberFlatFault enc m ws ms i k x) one.1 f))
         (λ low. omega (arith, low, charged, reach, reach_spent s from mid before left v one)) e h
 
     pub name_unpaid : (name : Name) (ms : Members) → left < length name → PartsLiftTo enc m ws from from before before (member name s ms) (Err fault.HostcallFuelExhausted)
@@ -119,7 +119,7 @@ module _ (enc : Encoding) (m : Memory) (ws : List ℕ) where
 
   pub part_first : (name : Name) (s : Shape) (ms : Members) (from before : ℕ) (e : Fault) → LiftsTo enc m ws from from before before s (Err e) → PartsLiftTo enc m ws from from before before (member name s ms) (Err e)
   unfolding flat_reach
-  part_first name s ms from before e h = told_by (FlatFault enc m ws s from) (MemberFlatFault enc m ws (member name s ms) from) _ _ (λ k x f. inl f) (λ low. omega (arith, low)) e h
+  part_first name s ms from before e h = core_told_by (FlatFault enc m ws s from) (MemberFlatFault enc m ws (member name s ms) from) _ _ (λ k x f. inl f) (λ low. omega (arith, low)) e h
 
   -- ---- parameters or results in a row
 
@@ -133,7 +133,7 @@ module _ (enc : Encoding) (m : Memory) (ws : List ℕ) where
       → LiftBlames (ToldAt (ValuesFault enc m ws most ms)) (before < values_reach enc m ws most ms) e
   results_refused most ms before e near h =
       let reach : values_reach enc m ws most ms ≡ members_flat_reach enc m ws ms 0 = cond-true (nat_le (members_flat ms) most) _ _ (le-leb _ _ near) in
-      told_by (MemberFlatFault enc m ws ms 0) (ValuesFault enc m ws most ms) _ _ (λ k x f. inl (near, f)) (λ low. omega (arith, low, reach)) e h
+      core_told_by (MemberFlatFault enc m ws ms 0) (ValuesFault enc m ws most ms) _ _ (λ k x f. inl (near, f)) (λ low. omega (arith, low, reach)) e h
 
   pub results_ok : (most : ℕ) (ms : Members) (to before after : ℕ) (r : Result (Vec Val Global) Fault) → members_flat ms ≤ most → length ws ≡ members_flat ms → MembersLiftTo enc m ws 0 to before after ms r
       → IfOk r (λ values. AreValues most enc m ms ws before after values.items)

@@ -12,8 +12,8 @@ use Rattle.canon_val.specs.Equal as equal
 use Rattle.canon_val.specs.Equal.{Data, Datas, data_of, no_data, pair_data, row, value}
 use Rattle.canon_value_parts.specs.Laws.{OneValue}
 use Rattle.canon_value_parts.specs.Resources.{all_resources, joined, resources}
-use Rattle.canon_val.specs.Value.{AreLiftedFrom, CaseHas, EachHas, HasTree, HaveTrees, IsCase, IsFixed, IsFlags, IsItems, IsLiftedFrom}
-use Rattle.canon_val.specs.Value.{IsPairs, IsProduct, IsText, PairHas, chosen, member_names, result_case, result_payload, unboxed}
+use Rattle.canon_val.specs.Value.{AreLiftedFrom, CaseHas, EachHas, HasTree, HaveTrees, IsCase, IsFixedListValue, IsFlags, IsItems, IsLiftedFrom}
+use Rattle.canon_val.specs.Value.{IsPairs, IsProduct, IsTextValue, PairHas, chosen, member_names, result_case, result_payload, unboxed}
 use Rattle.canon_val.specs.declared.val.Val.{Val, the_lemmas}
 use Rattle.canon_val.specs.declared.val.Val.TheVariants as val
 use Rattle.canon_value_parts.proofs.Cases.{Both, Payload, case_back, same_some}
@@ -71,7 +71,7 @@ datas vs = map data_of vs
 data_text : (s : String Global) → data_of (val.String s) ≡ value equal.string (pos 0) (string_bytes s ∷ []) no_data
 data_text s = search (rules, the_lemmas)
 
-text_data : (cs : List ℕ) (v w : Val) → IsText cs v → IsText cs w → data_of v ≡ data_of w
+text_data : (cs : List ℕ) (v w : Val) → IsTextValue cs v → IsTextValue cs w → data_of v ≡ data_of w
 text_data cs v w (s, ev, h) (r, ew, g) =
     ap data_of ev ∙ (data_text s ∙ (ap (λ (bs : Name). value equal.string (pos 0) (bs ∷ []) no_data) (sym h.is ∙ g.is) ∙ (sym (data_text r) ∙ sym (ap data_of ew))))
 
@@ -85,7 +85,7 @@ list_data vs ws v w (xs, ev, es) (ys, ew, et) e =
 data_fixed : (xs : Vec Val Global) → data_of (val.FixedLengthList xs) ≡ value equal.fixed (pos 0) [] (row (datas xs.items))
 data_fixed xs = search (rules, the_lemmas)
 
-fixed_data : (vs ws : List Val) (v w : Val) → IsFixed vs v → IsFixed ws w → datas vs ≡ datas ws → data_of v ≡ data_of w
+fixed_data : (vs ws : List Val) (v w : Val) → IsFixedListValue vs v → IsFixedListValue ws w → datas vs ≡ datas ws → data_of v ≡ data_of w
 fixed_data vs ws v w (xs, ev, es) (ys, ew, et) e =
     ap data_of ev ∙ (data_fixed xs ∙ (ap (λ (ds : List Data). value equal.fixed (pos 0) [] (row ds)) (sym (ap datas es) ∙ (e ∙ ap datas et)) ∙ (sym (data_fixed ys) ∙ sym (ap data_of ew))))
 
@@ -177,7 +177,7 @@ turned (p ∷ ps) = sym (append_assoc (resources p.0) (resources p.1) (all_resou
 pub items_resources : (vs : List Val) (v : Val) → IsItems vs v → resources v ≡ all_resources vs
 items_resources vs v (xs, e, ev) = ap resources e ∙ (resources_list xs ∙ ap all_resources (sym ev))
 
-pub fixed_resources : (vs : List Val) (v : Val) → IsFixed vs v → resources v ≡ all_resources vs
+pub fixed_resources : (vs : List Val) (v : Val) → IsFixedListValue vs v → resources v ≡ all_resources vs
 fixed_resources vs v (xs, e, ev) = ap resources e ∙ (resources_fixed xs ∙ ap all_resources (sym ev))
 
 -- of one handle
@@ -194,7 +194,7 @@ mutual
   one_data string v w t xs ys (cs, n, h, et) (ds, m, g, eu) r =
       let same : text cs n ≡ text ds m = sym et ∙ eu in
       let scalars : ds ≡ cs = cc in
-      (text_data cs v w h (subst (λ zs. IsText zs w) scalars g), without v w xs ys (text_has_none cs v h) (text_has_none ds w g) r)
+      (text_data cs v w h (subst (λ zs. IsTextValue zs w) scalars g), without v w xs ys (text_has_none cs v h) (text_has_none ds w g) r)
   one_data (own i) v w t xs ys (x, h, e, et) (y, k, f, eu) r = handle_data v w x y xs ys e f r
   one_data (borrow i) v w t xs ys (x, h, e, et) (y, k, f, eu) r = handle_data v w x y xs ys e f r
   one_data (list of_pairs s) v w t xs ys (is, (ps, ts, p, et, have)) (js, (qs, us, q, eu, have2)) r =

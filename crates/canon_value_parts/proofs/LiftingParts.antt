@@ -12,15 +12,15 @@ use Rattle.canon_model.specs.Shape.{Members, Shape, borrow, fixed, flags, list, 
 use Rattle.canon_model.specs.Text.{Encoding}
 use Rattle.canon_types.specs.Table.{TypeTable, members_of}
 use Rattle.canon_types.specs.declared.types.InterfaceType.{InterfaceType}
-use Rattle.canon_value_parts.specs.Lifts.{ArePartsLifted, AreTaken, LiftsTo, MembersLiftTo, PartsLiftTo}
+use Rattle.canon_value_parts.specs.Lifts.{ArePartsLifted, AreValuesTaken, LiftsTo, MembersLiftTo, PartsLiftTo}
 use Rattle.canon_context.specs.Told.{LiftBlames, ToldAt}
-use Rattle.canon_value_parts.specs.Plan.{IsRebuilt, parts_of, whole}
+use Rattle.canon_value_parts.specs.Plan.{IsRebuilt, parts_of, whole_tree}
 use Rattle.canon_plan.specs.Plan.{Unnamed, LiesAs}
 use Rattle.canon_context.specs.declared.fault.Fault.{Fault}
 use Rattle.canon_context.specs.declared.fault.Fault.TheVariants as fault
 use Rattle.canon_val.specs.declared.val.Val.{Val}
 use Rattle.canon_value_parts.proofs.LeavesAt.{fixed_flat_leaves}
-use Rattle.canon_context.proofs.Told.{told_by}
+use Rattle.canon_context.proofs.Told.{core_told_by}
 use Rattle.canon_value_parts.proofs.LoadingParts.{copies_cost, copies_nameless}
 use Rattle.canon_plan.proofs.TypeKinds.{no_length}
 use Rattle.canon_plan.proofs.Lookups.{copies_count}
@@ -46,7 +46,7 @@ module _ (enc : Encoding) (m : Memory) (ws : List ℕ) where
     pub blames : (k : Kind) (x : At) → MemberFlatFault enc m ws these i k x → FlatFault enc m ws s i k x
     pub words : members_flat these ≡ flat s
     pub leaves : flat_leaves m ws s i ≡ members_flat_leaves m ws these i
-    pub lifted : (before mid to after : ℕ) (vs : List Val) → before ≡ mid + member_count these * val_cost → AreTaken enc m ws i to mid after these vs → ArePartsLifted enc m ws i to before after s vs
+    pub lifted : (before mid to after : ℕ) (vs : List Val) → before ≡ mid + member_count these * val_cost → AreValuesTaken enc m ws i to mid after these vs → ArePartsLifted enc m ws i to before after s vs
 
   pub weighs_words : (s : Shape) (these : Members) (i : ℕ) → LiesAs s these → Unnamed s → WeighsWords s these i
   unfolding flat_reach cost flat flat_leaves
@@ -87,18 +87,18 @@ module _ (enc : Encoding) (m : Memory) (ws : List ℕ) where
 
     -- what is rebuilt of them
     pub whole_lifted : (vs : List Val) (r : Result Val Fault) → ArePartsLifted enc m ws from to before after s vs → IfOk r (IsRebuilt s vs) → IfErr r (λ e. e ≡ fault.OutOfMemory) → LiftsTo enc m ws from to before after s r
-    whole_lifted vs (Ok v) (ts, rep, have, spent, moved) made only = ((whole s ts, rep, made ts have, spent), moved)
+    whole_lifted vs (Ok v) (ts, rep, have, spent, moved) made only = ((whole_tree s ts, rep, made ts have, spent), moved)
     whole_lifted vs (Err e) h made only = subst (λ x. LiftsTo enc m ws from to before after s (Err x)) (sym only) tt
 
   pub parts_told : (s : Shape) (these : Members) (i before mid : ℕ) → WeighsWords s these i → before ≡ mid + member_count these * val_cost → (e : Fault)
       → LiftBlames (ToldAt (MemberFlatFault enc m ws these i)) (mid < names_length these + members_flat_reach enc m ws these i) e → LiftBlames (ToldAt (FlatFault enc m ws s i)) (before < flat_reach enc m ws s i) e
   parts_told s these i before mid w charged e h =
-      told_by (MemberFlatFault enc m ws these i) (FlatFault enc m ws s i) _ _ w.blames (λ (low : mid < names_length these + members_flat_reach enc m ws these i). w.low before (omega (arith, low, charged))) e h
+      core_told_by (MemberFlatFault enc m ws these i) (FlatFault enc m ws s i) _ _ w.blames (λ (low : mid < names_length these + members_flat_reach enc m ws these i). w.low before (omega (arith, low, charged))) e h
 
   -- a tuple's members, as results
   pub unnamed_lifted : (t : TypeTable) (types : List InterfaceType) (from to before after : ℕ) (r : Result (Vec Val Global) Fault)
       → PartsLiftTo enc m ws from to before after (members_of t types) r → MembersLiftTo enc m ws from to before after (members_of t types) r
   unnamed_lifted t types from to before after (Ok values) (ts, reps, have, spent, moved) = (ts, reps, have, omega (arith, spent, no_length t types), moved)
   unnamed_lifted t types from to before after (Err e) h =
-      told_by (MemberFlatFault enc m ws (members_of t types) from) (MemberFlatFault enc m ws (members_of t types) from) _ _ (λ k x f. f)
+      core_told_by (MemberFlatFault enc m ws (members_of t types) from) (MemberFlatFault enc m ws (members_of t types) from) _ _ (λ k x f. f)
       (λ (low : before < names_length (members_of t types) + members_flat_reach enc m ws (members_of t types) from). omega (arith, low, no_length t types)) e h

@@ -29,7 +29,7 @@ use Rattle.canon_plan.specs.declared.element.Element.TheVariants as element
 use Rattle.canon_context.specs.declared.fault.At.{At as Place}
 use Rattle.canon_context.specs.declared.fault.Fault.{Fault}
 use Rattle.canon_val.specs.declared.val.Val.{Val}
-use Rattle.canon_context.proofs.Told.{blamed_by, list_told}
+use Rattle.canon_context.proofs.Told.{blamed_by, core_list_told}
 use Rattle.canon_value_parts.proofs.Loading.{aligned_part}
 use Rattle.canon_value_parts.proofs.LoadingParts.{copies_cost, copies_nameless, row_aligned, row_blame, row_low}
 use Rattle.canon_plan.proofs.Pairs.{count_pairs}
@@ -199,7 +199,7 @@ module _ (enc : Encoding) (m : Memory) where
           let k : Shape = list kind part in
           let mine : LiftBlames (Exactly (ItemsFault enc m k (place_of at) p n)) (before < items_reach enc m k p n) e =
           subst (λ (x : Shape). LiftBlames (Exactly (ItemsFault enc m x (place_of at) p n)) (before < items_reach enc m x p n) e) is h in
-          let told : LiftBlames (ToldAt (ItemsFault enc m k (word i) p n)) (before < items_reach enc m k p n) e = blamed_by _ _ _ _ (list_told at (word i) here enc m (StoredFault enc m part) part p n) (λ low. low) e mine in
+          let told : LiftBlames (ToldAt (ItemsFault enc m k (word i) p n)) (before < items_reach enc m k p n) e = blamed_by _ _ _ _ (core_list_told at (word i) here enc m (StoredFault enc m part) part p n) (λ low. low) e mine in
           subst (λ (x : Shape). LiftBlames (ToldAt (FlatFault enc m ws x i)) (before < flat_reach enc m ws x i) e) (sym is)
           (subst (λ (low : ℕ). LiftBlames (ToldAt (FlatFault enc m ws k i)) (before < low) e) (sym (flat_reached ws kind part i))
           (subst (λ q. LiftBlames (ToldAt (ItemsFault enc m k (word i) q (ptr m (slice_index ws (i + 1))))) (before < items_reach enc m k q (ptr m (slice_index ws (i + 1)))) e) pointer

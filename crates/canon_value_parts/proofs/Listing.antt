@@ -30,7 +30,7 @@ use Rattle.canon_value_parts.proofs.Contents.{places_list}
 use Rattle.canon_value_parts.proofs.MapsAndFlags.{one_pairs}
 use Rattle.canon_value_parts.proofs.PairRows.{have_pairs, pairs_no_handle, pairs_deepest, pairs_fail, pairs_have, pairs_named, places_map}
 use Rattle.canon_value_parts.proofs.Sizes.{items_fit, items_inner, pairs_fit, pairs_inner}
-use Rattle.canon_value_parts.proofs.StoreSteps.{Named}
+use Rattle.canon_value_parts.proofs.StoreSteps.{MemberNamed}
 use Rattle.canon_value_parts.proofs.Viewing.{block_size}
 use Rattle.canon_value_parts.proofs.Walks.{copies_no_handle, copies_deepest, copies_fail, copies_names, row_back, row_is}
 
@@ -43,8 +43,8 @@ pub record IsListOf (whole : Shape) (v : Val) (n : ℕ) (ms : Members) (vs : Lis
   pub group : Trees → Trees
   pub ungroup : Tree → Trees
   pub row : (enc : Encoding) → MakesRow false (host_texts enc) part n ms all group
-  pub is : (ts : Trees) → Named ms (no_names vs) vs ts → HasTree (list kind part) v (items (group ts)) × (tree_count ts ≡ all)
-  pub back : (t : Tree) → HasTree (list kind part) v t → Named ms (no_names vs) vs (ungroup t) × (trees_of t ≡ group (ungroup t))
+  pub is : (ts : Trees) → MemberNamed ms (no_names vs) vs ts → HasTree (list kind part) v (items (group ts)) × (tree_count ts ≡ all)
+  pub back : (t : Tree) → HasTree (list kind part) v t → MemberNamed ms (no_names vs) vs (ungroup t) × (trees_of t ≡ group (ungroup t))
   pub fails : (how : Failure) (j : ℕ) → MemberFails how ms vs j → FailsAt how (list kind part) v (1 + j)
   pub overflows : (2 ^ 32 ≤ n) ⊎ (2 ^ 32 ≤ n * size false part) → FailsAt (overflow n) (list kind part) v 0
   pub inner : (how : Failure) (j : ℕ) → ¬ Fails how (list kind part) v → FailsAt how (list kind part) v j → (i : ℕ) × MemberFails how ms vs i
@@ -84,7 +84,7 @@ pairs_listed s u xs = record {
   back = λ t (two, (ps, ts, p, et, each)).
       let same : ps ≡ xs.items = one_pairs xs.items ps (val.Map xs) (xs, refl, refl) p in
       let (have, e) = have_pairs s u xs.items ts (subst (λ qs. EachHas (λ q x. PairHas false (pair_shape s u) q x) qs ts) same each) in
-      subst (λ x. Named (pairs_of (length xs.items) s u) (no_names (by_turns xs.items)) (by_turns xs.items) (unpaired (trees_of x)) × (trees_of x ≡ paired (unpaired (trees_of x)))) (sym et) ((pairs_named s u xs.items, have), e);
+      subst (λ x. MemberNamed (pairs_of (length xs.items) s u) (no_names (by_turns xs.items)) (by_turns xs.items) (unpaired (trees_of x)) × (trees_of x ≡ paired (unpaired (trees_of x)))) (sym et) ((pairs_named s u xs.items, have), e);
   fails = λ how j f. inr (xs.items, j, (xs, refl, refl), refl, pairs_fail how s u xs.items j f);
   overflows = λ many. inl (refl, (xs.items, (xs, refl, refl), refl, many));
   inner = pairs_inner s u xs;

@@ -24,7 +24,7 @@ use Rattle.canon_context.specs.declared.fault.At.{At as Place}
 use Rattle.canon_context.specs.declared.fault.Fault.{Fault}
 use Rattle.canon_val.specs.declared.val.Val.{Val}
 use Rattle.canon_plan.proofs.TypeKinds.{no_length}
-use Rattle.canon_context.proofs.Told.{blamed_by, on_err}
+use Rattle.canon_context.proofs.Told.{blamed_by, core_on_err}
 
 -- ---- the walk
 
@@ -133,7 +133,7 @@ pub scalar_refused : {X : Type 0} (enc : Encoding) (bytes : List ℕ) (k : Scala
 scalar_refused enc bytes k a before r h =
     let F : Kind → Place → Type 0 = Exactly (StoredFault enc (narrow bytes) (scalar k) a) in
     let Low : Type 0 = before < reach_cost enc (narrow bytes) (scalar k) a in
-    on_err r (LiftBlames F ⊥) (LiftBlames F Low) (λ e g. blamed_by F F ⊥ Low (λ j x f. f) (λ (no : ⊥). absurd no) e g) h
+    core_on_err r (LiftBlames F ⊥) (LiftBlames F Low) (λ e g. blamed_by F F ⊥ Low (λ j x f. f) (λ (no : ⊥). absurd no) e g) h
 
 -- ---- members of a tuple, whose names are empty
 

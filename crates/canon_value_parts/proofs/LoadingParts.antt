@@ -17,7 +17,7 @@ use Rattle.canon_model.specs.Text.{Encoding}
 use Rattle.canon_model.specs.Tree.{Trees, no_trees, sum_of, tree, tree_count}
 use Rattle.canon_context.specs.Told.{Exactly, LiftBlames, place_of}
 use Rattle.canon_value_parts.specs.Loads.{AreCharged, IsLoaded, charged_reach}
-use Rattle.canon_value_parts.specs.Plan.{ArePartsLoaded, IsRebuilt, parts_of, whole}
+use Rattle.canon_value_parts.specs.Plan.{ArePartsLoaded, IsRebuilt, parts_of, whole_tree}
 use Rattle.canon_plan.specs.Plan.{Unnamed, LiesAs}
 use Rattle.canon_context.specs.declared.fault.Fault.{Fault}
 use Rattle.canon_val.specs.declared.val.Val.{Val}
@@ -123,7 +123,7 @@ weighs enc bytes (flags names) these a e none = absurd e
 -- ---- and its value
 
 pub whole_loaded : (enc : Encoding) (bytes : List ℕ) (s : Shape) (a before after : ℕ) (vs : List Val) (v : Val) → ArePartsLoaded enc (narrow bytes) s a before after vs → IsRebuilt s vs v → IsLoaded enc (narrow bytes) s a before after v
-whole_loaded enc bytes s a before after vs v (ts, rep, have, spent) made = (whole s ts, rep, made ts have, spent)
+whole_loaded enc bytes s a before after vs v (ts, rep, have, spent) made = (whole_tree s ts, rep, made ts have, spent)
 
 pub parts_refused : (enc : Encoding) (bytes : List ℕ) (s : Shape) (these : Members) (a before mid : ℕ) → Weighs enc bytes s these a → before ≡ mid + member_count these * val_cost → (e : Fault)
     → LiftBlames (Exactly (MemberFault enc (narrow bytes) these 0 a)) (mid < charged_reach enc (narrow bytes) these 0 a) e → LiftBlames (Exactly (StoredFault enc (narrow bytes) s a)) (before < reach_cost enc (narrow bytes) s a) e

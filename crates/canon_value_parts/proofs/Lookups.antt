@@ -6,7 +6,7 @@ use Rattle.canon_types.specs.declared.types.InterfaceType.{InterfaceType}
 use Rattle.canon_types.specs.Table.{TypeTable, members_of, tuple_members, types_of as tuple_types_of}
 use Rattle.canon_val.specs.Value.{member_names, no_names, values_in, names_in}
 use Rattle.canon_val.specs.declared.val.Val.{Val}
-use Rattle.canon_plan.proofs.Lookups.{count_members}
+use Rattle.canon_types.proofs.Measures.{count_members}
 
 -- ---- the fields of a record and the members of a tuple, one after another
 
@@ -51,9 +51,9 @@ values_from (v ∷ values) (suc i) d x e h = values_from values i d x e (omega (
 pub values_at : (values : List (String Global × Val)) (i : ℕ) (d x : String Global × Val) → x ≡ get_or values i d → i < length values → drop i (values_in values) ≡ x.1 ∷ drop (i + 1) (values_in values)
 values_at values i d x e h = values_from values i d x e h ∙ ap (λ n. x.1 ∷ drop n (values_in values)) (sym (add-one i))
 
-pub count_names : (values : List (String Global × Val)) → length (names_in values) ≡ length values
-count_names [] = refl
-count_names (v ∷ values) = ap suc (count_names values)
+pub value_count_names : (values : List (String Global × Val)) → length (names_in values) ≡ length values
+value_count_names [] = refl
+value_count_names (v ∷ values) = ap suc (value_count_names values)
 
 no_names_from : (vs : List Val) (i : ℕ) → i < length vs → drop i (no_names vs) ≡ [] ∷ drop (suc i) (no_names vs)
 no_names_from [] i h = absurd (omega (arith, h))

@@ -7,7 +7,7 @@ use Rattle.canon_model.specs.Same.{Carried, CarriedTrees}
 use Rattle.canon_model.specs.Shape.{Cases, Members, Scalar, Shape, bare, bool, borrow, char, f32, f64, fixed, flags, list, member, no_cases, no_members}
 use Rattle.canon_model.specs.Shape.{of_items, of_pairs, own, payload, product, s16, s32, s64, s8, scalar, string, u16, u32, u64, u8, variant}
 use Rattle.canon_model.specs.Tree.{Tree, Trees, bits, case_number, code_point, items, no_trees, number, parts, text, tree, truth}
-use Rattle.canon_val.specs.Value.{AreMarked, AreSame, CaseHas, CaseSame, EachHas, EachSame, HasScalar, HasTree, HaveTrees, IsCase, IsSame, IsText, PairHas, PairSame, member_names}
+use Rattle.canon_val.specs.Value.{AreMarked, AreSame, CaseHas, CaseSame, EachHas, EachSame, HasScalar, HasTree, HaveTrees, IsCase, IsSame, IsTextValue, PairHas, PairSame, member_names}
 use Rattle.canon_val.specs.declared.val.Val.{Val}
 use Rattle.canon_val.specs.declared.val.Val.TheVariants as val
 use Rattle.canon_value_parts.proofs.Cases.{case_back, case_carried, one_case}
@@ -134,7 +134,7 @@ mutual
   value_one string v w t (cs, n, h, et) (ds, m, g, eu) =
       let same : text cs n ≡ text ds m = sym et ∙ eu in
       let scalars : ds ≡ cs = cc in
-      (cs, h, subst (λ xs. IsText xs w) scalars g)
+      (cs, h, subst (λ xs. IsTextValue xs w) scalars g)
   value_one (own r) v w t (x, h, e, et) (y, k, f, eu) = (x, y, e, f)
   value_one (borrow r) v w t (x, h, e, et) (y, k, f, eu) = (x, y, e, f)
   value_one (list of_pairs s) v w t (is, (ps, ts, p, et, have)) (js, (qs, us, q, eu, have2)) =

@@ -47,8 +47,8 @@ key_at ps k d x even e h =
     let after : suc (twice (k / 2)) ≡ k + 1 = omega (arith, even-is k even) in
     ap (λ i. drop i (by_turns ps)) (even-is k even) ∙ (first_turn ps (k / 2) d x e lt ∙ ap (λ i. x.0 ∷ drop i (by_turns ps)) after)
 
-pub value_at : (ps : List (Val × Val)) (k : ℕ) (d x : Val × Val) → ¬ (k % 2 ≡ 0) → x ≡ get_or ps (k / 2) d → k < length (by_turns ps) → drop k (by_turns ps) ≡ x.1 ∷ drop (k + 1) (by_turns ps)
-value_at ps k d x odd e h =
+pub pair_value_at : (ps : List (Val × Val)) (k : ℕ) (d x : Val × Val) → ¬ (k % 2 ≡ 0) → x ≡ get_or ps (k / 2) d → k < length (by_turns ps) → drop k (by_turns ps) ≡ x.1 ∷ drop (k + 1) (by_turns ps)
+pair_value_at ps k d x odd e h =
     let lt : k / 2 < length ps = half_below k (length ps) (omega (arith, h, count_turns ps)) in
     let after : suc (suc (twice (k / 2))) ≡ k + 1 = omega (arith, odd-is k odd) in
     ap (λ i. drop i (by_turns ps)) (odd-is k odd) ∙ (second_turn ps (k / 2) d x e lt ∙ ap (λ i. x.1 ∷ drop i (by_turns ps)) after)

@@ -30,8 +30,8 @@ handles_then {T} {G} a b c e f = f ∙ ap (λ (x : Parts T G). record x { guest 
 pub same_handles : {T G : Type 0} → (a b : Parts T G) → SameBut a b → SameButHandles a b
 same_handles {T} {G} a b e = e ∙ ap (λ (l : LedgerState). record a { guest = b.guest; memory = b.memory; ledger = l }) (sym (ap (λ (x : Parts T G). x.ledger) e))
 
-pub same_ledger : {T G : Type 0} → (a b : Parts T G) → SameBut a b → b.ledger ≡ a.ledger
-same_ledger {T} {G} a b e = ap (λ (x : Parts T G). x.ledger) e
+pub value_same_ledger : {T G : Type 0} → (a b : Parts T G) → SameBut a b → b.ledger ≡ a.ledger
+value_same_ledger {T} {G} a b e = ap (λ (x : Parts T G). x.ledger) e
 
 pub handles_instance : {T G : Type 0} → (a b : Parts T G) → SameButHandles a b → b.component.types ≡ a.component.types
 handles_instance {T} {G} a b e = ap (λ (x : Parts T G). x.component.types) e
@@ -162,7 +162,7 @@ module _ (types : Instance) where
 -- and said of the core before a step that left its ledger
 pub passes_from : {T G X : Type 0} → (a b : Parts T G) (n : LedgerState) (ps : List PassedResource) (hs : List ℕ) (r : Result X Fault) → SameBut a b → LowersHandles b.component.types b.ledger n ps hs r
     → LowersHandles a.component.types a.ledger n ps hs r
-passes_from a b n ps hs r same h = subst₂ (λ (i : Instance) (l : LedgerState). LowersHandles i l n ps hs r) (handles_instance a b (same_handles a b same)) (same_ledger a b same) h
+passes_from a b n ps hs r same h = subst₂ (λ (i : Instance) (l : LedgerState). LowersHandles i l n ps hs r) (handles_instance a b (same_handles a b same)) (value_same_ledger a b same) h
 
 -- ---- a value that passes nothing
 

@@ -14,14 +14,14 @@ use Rattle.canon_string.specs.Texts.{IsTextOf, PutsText}
 use Rattle.canon_value_parts.specs.Fails.{Blames, FailsAt}
 use Rattle.canon_value_parts.specs.Stores.{PlacesTo}
 use Rattle.canon_context.specs.declared.fault.Fault.TheVariants as fault
-use Rattle.canon_value_parts.proofs.Passing.{ledger_unless, passes_none, passes_stopped, same_handles, same_ledger}
+use Rattle.canon_value_parts.proofs.Passing.{ledger_unless, passes_none, passes_stopped, same_handles, value_same_ledger}
 use Rattle.canon_value_parts.proofs.PassesOf.{text_none}
 use Rattle.canon_value_parts.specs.Resources.{passes}
 use Rattle.canon_val.specs.Value.{HasTree}
 use Rattle.canon_model.specs.Memory.{cap}
 use Rattle.canon_val.specs.declared.val.Val.TheVariants as val
 use Rattle.canon_context.proofs.Moves.{GuestLaws}
-use Rattle.canon_value_parts.proofs.Contents.{places_text, same_text}
+use Rattle.canon_value_parts.proofs.Contents.{places_text, value_same_text}
 use Rattle.canon_value_parts.proofs.Sizes.{text_small}
 use Rattle.canon_value_parts.proofs.Steps.{blames_unless}
 
@@ -34,7 +34,7 @@ module _ {T G : Type 0} (L : GuestLaws G) (options : ℕ) (a b : Parts T G) (s :
         turn = λ t. t;
         back = λ t. t;
         is = λ t (cs, n, g, is). (cs, n, (s, refl, g), is);
-        is_back = λ t (cs, n, (r, es, g), is). (cs, n, subst (λ (x : String Global). Spells in_utf8 (string_bytes x) cs) (sym (same_text s r es)) g, is);
+        is_back = λ t (cs, n, (r, es, g), is). (cs, n, subst (λ (x : String Global). Spells in_utf8 (string_bytes x) cs) (sym (value_same_text s r es)) g, is);
         asks = λ t q. refl;
         rep = λ fresh t is q. q;
         home = λ pointer t xs ys is q. q;
@@ -46,7 +46,7 @@ module _ {T G : Type 0} (L : GuestLaws G) (options : ℕ) (a b : Parts T G) (s :
   text_placed place p n next counted h = record {
     handles = [];
     lowered = as_value (p ∷ n ∷ []) done h.lowered;
-    handed = passes_none a.component.types a.ledger b.ledger (passes (val.String s) string) (same_ledger a b h.same) (text_none s);
+    handed = passes_none a.component.types a.ledger b.ledger (passes (val.String s) string) (value_same_ledger a b h.same) (text_none s);
     narrow = h.narrow;
     counted = (omega (arith, counted, places_text s), text_small (encoding_by a options) s h.fits);
     same = same_handles a b h.same;
@@ -56,7 +56,7 @@ module _ {T G : Type 0} (L : GuestLaws G) (options : ℕ) (a b : Parts T G) (s :
   text_unplaced place e h = record {
     handles = [];
     lowered = as_value [] (fault_ending e) h.lowered;
-    handed = passes_stopped a.component.types a.ledger b.ledger (passes (val.String s) string) e (same_ledger a b h.same)
+    handed = passes_stopped a.component.types a.ledger b.ledger (passes (val.String s) string) e (value_same_ledger a b h.same)
         (ledger_unless e (λ r is. let (still, n, long, many) = h.blames (ap fault_ending is) in let other : e ≡ fault.Resource r = is in cc));
     narrow = tt;
     counted = blames_unless (encoding_by a options) (λ how k. FailsAt how string (val.String s) k) place e (λ is.

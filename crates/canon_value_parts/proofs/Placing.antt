@@ -20,12 +20,12 @@ use Rattle.canon_context.specs.declared.fault.Fault.{Fault}
 use Rattle.canon_context.specs.declared.fault.Fault.TheVariants as fault
 use Rattle.canon_val.specs.declared.val.Val.{Val}
 use Rattle.canon_value_parts.proofs.Listing.{IsListOf}
-use Rattle.canon_value_parts.proofs.Passing.{IsOwn, handles_then, own_elsewhere, own_ends, passes_as, passes_from, passes_stopped, same_handles, same_ledger, ungiven_elsewhere}
+use Rattle.canon_value_parts.proofs.Passing.{IsOwn, handles_then, own_elsewhere, own_ends, passes_as, passes_from, passes_stopped, same_handles, value_same_ledger, ungiven_elsewhere}
 use Rattle.canon_value_parts.specs.Resources.{LowersHandles, all_passes, passes}
 use Rattle.canon_context.proofs.Moves.{GuestLaws}
 use Rattle.canon_value_parts.proofs.Sizes.{small_by}
 use Rattle.canon_context.proofs.Cores.{not_done, same_encoding}
-use Rattle.canon_value_parts.proofs.StoreSteps.{Named, count_members}
+use Rattle.canon_value_parts.proofs.StoreSteps.{MemberNamed, value_count_members}
 use Rattle.canon_value_parts.proofs.Steps.{blames_later, blames_unless}
 use Rattle.canon_lowering.proofs.AimedPairs.{list_ungiven, rows_words}
 use Rattle.canon_model.specs.Layout.{size}
@@ -87,7 +87,7 @@ module _ (whole : Shape) (v : Val) (n : ℕ) (ms : Members) (vs : List Val) (l :
         by_parts (λ s. PlacesTo L.seen L.moves options a b s v place (Err e)) (record {
           handles = [];
           lowered = list_ungiven false (stage_of L.seen L.moves a) (stage_of L.seen L.moves b) (host_texts (encoding_by a options)) l.kind l.part n 0 [] 0 (HasTree shape v) (fault_ending e) (not_done e) h.small list_count h.does;
-          handed = passes_stopped a.component.types a.ledger b.ledger (passes v shape) e (same_ledger a b h.same) (ungiven_elsewhere (stage_of L.seen L.moves a) (stage_of L.seen L.moves b) (items_call false l.part n) e 0 h.does);
+          handed = passes_stopped a.component.types a.ledger b.ledger (passes v shape) e (value_same_ledger a b h.same) (ungiven_elsewhere (stage_of L.seen L.moves a) (stage_of L.seen L.moves b) (items_call false l.part n) e 0 h.does);
           narrow = tt;
           counted = asked_blames (encoding_by a options) (λ how k. FailsAt how shape v k) place (stage_of L.seen L.moves a) (stage_of L.seen L.moves b) (items_call false l.part n) e 0 h.does;
           same = same_handles a b h.same;
@@ -101,8 +101,8 @@ module _ (whole : Shape) (v : Val) (n : ℕ) (ms : Members) (vs : List Val) (l :
       module _ (r : Result ℕ Fault) (h : PartsStoreTo L.seen L.moves options b c place ms 0 p (no_names vs) vs (cap (place + 1)) r) where
         row_words : LowersValue false (stage_of L.seen L.moves a) (stage_of L.seen L.moves c) (host_texts (encoding_by a options)) shape (p ∷ n ∷ []) 0 (HasTree shape v) h.handles (ending_of r)
         row_words = rows_words false (stage_of L.seen L.moves a) (stage_of L.seen L.moves b) (stage_of L.seen L.moves c) (host_texts (encoding_by a options)) l.kind l.part n p l.all ms l.group l.ungroup (l.row (encoding_by a options))
-            (Named ms (no_names vs) vs) (HasTree shape v) (ending_of r) g.small g.does (λ _. omega (arith, is, few)) l.is l.back
-            (subst (λ (x : Encoding). StoresMembers false (stage_of L.seen L.moves b) (stage_of L.seen L.moves c) (host_texts x) ms 0 p (Named ms (no_names vs) vs) h.handles (ending_of r)) (same_encoding a b options g.same) h.storing)
+            (MemberNamed ms (no_names vs) vs) (HasTree shape v) (ending_of r) g.small g.does (λ _. omega (arith, is, few)) l.is l.back
+            (subst (λ (x : Encoding). StoresMembers false (stage_of L.seen L.moves b) (stage_of L.seen L.moves c) (host_texts x) ms 0 p (MemberNamed ms (no_names vs) vs) h.handles (ending_of r)) (same_encoding a b options g.same) h.storing)
 
         row_handed : LowersHandles a.component.types a.ledger c.ledger (passes v shape) h.handles r
         row_handed = passes_as a.component.types a.ledger c.ledger (all_passes ms vs) (passes v shape) h.handles r (ap (passes v) (sym l.shape) ∙ given) (passes_from a b c.ledger (all_passes ms vs) h.handles r g.same h.handed)
@@ -110,7 +110,7 @@ module _ (whole : Shape) (v : Val) (n : ℕ) (ms : Members) (vs : List Val) (l :
         row_counted : PlacesCounted (encoding_by a options) (λ how k. FailsAt how shape v k) place (places v) r
         row_counted =
             counts (encoding_by a options) place r (omega (arith, is, few)) (omega (arith, ap₂ (λ (j : ℕ) (s : Shape). j * size false s) is (ap element_shape l.shape), fit))
-            (count_members (encoding_by a options) place ms (no_names vs) vs (cap (place + 1)) r l.named
+            (value_count_members (encoding_by a options) place ms (no_names vs) vs (cap (place + 1)) r l.named
             (subst (λ (x : Encoding). FieldsCount x place ms (no_names vs) vs (cap (place + 1)) r) (same_encoding a b options g.same) h.counted))
 
       pub list_placed : (next : ℕ) → PartsStoreTo L.seen L.moves options b c place ms 0 p (no_names vs) vs (cap (place + 1)) (Ok next)

@@ -68,6 +68,6 @@ name_next ms k name s done now split e h =
 pub name_end : (rest : Members) (done all : List Name) → rest ≡ no_members → done ++ member_names rest ≡ all → done ≡ all
 name_end rest done all none h = sym (append-nil done) ∙ (ap (λ (r : Members). done ++ member_names r) (sym none) ∙ h)
 
-pub nothing_left : {X : Type 0} (xs : List X) → length xs ≡ 0 → xs ≡ []
-nothing_left [] h = refl
-nothing_left (x ∷ xs) h = absurd (omega arith)
+pub value_nothing_left : {X : Type 0} (xs : List X) → length xs ≡ 0 → xs ≡ []
+value_nothing_left [] h = refl
+value_nothing_left (x ∷ xs) h = absurd (omega arith)

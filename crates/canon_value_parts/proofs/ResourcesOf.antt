@@ -7,7 +7,7 @@ use Rattle.canon_model.specs.Tree.{Tree}
 use Rattle.canon_resources.specs.Held.{Any}
 use Rattle.canon_value_parts.specs.Elements.{by_turns}
 use Rattle.canon_value_parts.specs.Resources.{all_resources, joined, resources}
-use Rattle.canon_val.specs.Value.{HasScalar, IsCase, IsFlags, IsPairs, IsProduct, IsText, result_payload, unboxed, values_in}
+use Rattle.canon_val.specs.Value.{HasScalar, IsCase, IsFlags, IsPairs, IsProduct, IsTextValue, result_payload, unboxed, values_in}
 use Rattle.canon_val.specs.declared.val.Val.{Val, the_lemmas}
 use Rattle.canon_val.specs.declared.val.Val.TheShapes.{former-Val-Map-0-at-2, former-Val-Record-0-at-2}
 use Rattle.canon_val.specs.declared.val.Val.TheVariants as val
@@ -31,7 +31,7 @@ scalar_has_none shape.char v t (n, e, is) = let none : resources (val.Char n) �
 string_has_none : (s : String Global) → resources (val.String s) ≡ []
 string_has_none s = search (rules, the_lemmas)
 
-pub text_has_none : (cs : List ℕ) (v : Val) → IsText cs v → resources v ≡ []
+pub text_has_none : (cs : List ℕ) (v : Val) → IsTextValue cs v → resources v ≡ []
 text_has_none cs v (s, e, spells) = ap resources e ∙ string_has_none s
 
 pub set_has_none : (names : Vec (String Global) Global) → resources (val.Flags names) ≡ []
@@ -56,11 +56,11 @@ resources_list xs = search (rules, the_lemmas)
 pub resources_fixed : (xs : Vec Val Global) → resources (val.FixedLengthList xs) ≡ all_resources xs.items
 resources_fixed xs = search (rules, the_lemmas)
 
-field_resources : (fs : List (String Global × Val)) → joined (map (λ f. f.1) (map (former-Val-Record-0-at-2.map Val (List Any) resources) fs)) ≡ all_resources (values_in fs)
+pub field_resources : (fs : List (String Global × Val)) → joined (map (λ f. f.1) (map (former-Val-Record-0-at-2.map Val (List Any) resources) fs)) ≡ all_resources (values_in fs)
 field_resources [] = refl
 field_resources (f ∷ fs) = ap (λ (xs : List Any). resources f.1 ++ xs) (field_resources fs)
 
-resources_record : (fs : Vec (String Global × Val) Global) → resources (val.Record fs) ≡ all_resources (values_in fs.items)
+pub resources_record : (fs : Vec (String Global × Val) Global) → resources (val.Record fs) ≡ all_resources (values_in fs.items)
 resources_record fs = search (rules, the_lemmas, field_resources fs.items)
 
 pub product_resources : (k : ProductKind) (names : List Name) (vs : List Val) (v : Val) → IsProduct k names vs v → resources v ≡ all_resources vs

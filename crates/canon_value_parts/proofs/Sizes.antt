@@ -9,11 +9,11 @@ use Rattle.canon_model.specs.Text.{Encoding}
 use Rattle.canon_value_parts.specs.Elements.{by_turns}
 use Rattle.canon_string.specs.Limits.{IsTooLong}
 use Rattle.canon_value_parts.specs.Fails.{AreSmall, CaseFails, Failure, Fails, FailsAt, IsSmall, MemberFails, NoneTooLarge, PairFails, SomeFails, overflow, too_long}
-use Rattle.canon_val.specs.Value.{IsCase, IsFixed, IsPairs, IsProduct, pair_places, places}
+use Rattle.canon_val.specs.Value.{IsCase, IsFixedListValue, IsPairs, IsProduct, pair_places, places}
 use Rattle.canon_val.specs.declared.val.Val.{Val}
 use Rattle.canon_val.specs.declared.val.Val.TheVariants as val
 use Rattle.canon_value_parts.proofs.Cases.{one_case}
-use Rattle.canon_value_parts.proofs.Contents.{fixed_values, items_same, same_text}
+use Rattle.canon_value_parts.proofs.Contents.{fixed_values, items_same, value_same_text}
 use Rattle.canon_value_parts.proofs.MapsAndFlags.{one_pairs}
 use Rattle.canon_value_parts.proofs.PairRows.{pairs_failed}
 use Rattle.canon_value_parts.proofs.Values.{product_values}
@@ -35,7 +35,7 @@ flags_small enc names v = record { texts = λ n k f. f.1; lists = λ n k f. f.1 
 
 pub text_small : (enc : Encoding) (s : String Global) → ((n : ℕ) → ¬ IsTooLong enc (string_bytes s) n) → IsSmall enc string (val.String s)
 text_small enc s fits = record {
-  texts = λ n k (first, (r, is, long)). fits n (subst (λ (x : String Global). IsTooLong enc (string_bytes x) n) (sym (same_text s r is)) long);
+  texts = λ n k (first, (r, is, long)). fits n (subst (λ (x : String Global). IsTooLong enc (string_bytes x) n) (sym (value_same_text s r is)) long);
   lists = λ n k f. f.1;
 }
 
@@ -66,12 +66,12 @@ items_failed how s [] k f = absurd f
 items_failed how s (v ∷ vs) k (inl f) = inl f
 items_failed how s (v ∷ vs) k (inr (j, e, f)) = inr (j, e, items_failed how s vs j f)
 
-fixed_inner : (n : ℕ) (s : Shape) (vs : List Val) (v : Val) → length vs ≡ n → IsFixed vs v → (how : Failure) (j : ℕ) → ¬ Fails how (fixed n s) v → FailsAt how (fixed n s) v j → (i : ℕ) × MemberFails how (copies n s) vs i
+fixed_inner : (n : ℕ) (s : Shape) (vs : List Val) (v : Val) → length vs ≡ n → IsFixedListValue vs v → (how : Failure) (j : ℕ) → ¬ Fails how (fixed n s) v → FailsAt how (fixed n s) v j → (i : ℕ) × MemberFails how (copies n s) vs i
 fixed_inner n s vs v count p how j own (inl f) = absurd (own f.1)
 fixed_inner n s vs v count p how j own (inr (ws, i, q, enough, e, f)) =
     (i, subst (λ (m : ℕ). MemberFails how (copies m s) vs i) count (items_failed how s vs i (subst (λ (xs : List Val). SomeFails places (λ w x. FailsAt how s w x) xs i) (fixed_values ws vs v q p) f)))
 
-pub fixed_small : (enc : Encoding) (n : ℕ) (s : Shape) (vs : List Val) (v : Val) → length vs ≡ n → IsFixed vs v → AreSmall enc (copies n s) vs → IsSmall enc (fixed n s) v
+pub fixed_small : (enc : Encoding) (n : ℕ) (s : Shape) (vs : List Val) (v : Val) → length vs ≡ n → IsFixedListValue vs v → AreSmall enc (copies n s) vs → IsSmall enc (fixed n s) v
 fixed_small enc n s vs v count p h = small_by enc (λ how j. MemberFails how (copies n s) vs j) (λ how j. FailsAt how (fixed n s) v j)
     (λ m j f. fixed_inner n s vs v count p (too_long enc m) j (λ g. g) f) (λ m j f. fixed_inner n s vs v count p (overflow m) j (λ g. g) f) h
 

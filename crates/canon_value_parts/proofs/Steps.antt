@@ -4,7 +4,7 @@ use Rattle.std.specs.declared.alloc.Global.{Global}
 use Rattle.canon_ledger.specs.declared.fault.ResourceFault.{ResourceFault}
 use Rattle.canon_model.specs.Shape.{Name, ProductKind, of_fields, of_places, of_items, of_pairs, Members, Shape, borrow, fixed, flags, list, own, product, scalar, string, variant}
 use Rattle.canon_value_parts.specs.Fails.{Blames, Failure, Fails, field_name, mismatch, overflow, too_long, wrong_length, FailsAt, payload_expected, payload_not_expected, unknown_case, unknown_flag}
-use Rattle.canon_val.specs.Value.{IsProduct, all_places, places, total, values_in, IsFixed, no_names}
+use Rattle.canon_val.specs.Value.{IsProduct, all_places, places, total, values_in, IsFixedListValue, no_names}
 use Rattle.canon_model.specs.Memory.{cap}
 use Rattle.canon_context.specs.Lowers.{fault_ending}
 use Rattle.canon_context.specs.declared.fault.Fault.{Fault}
@@ -174,5 +174,5 @@ module _ (s : Shape) (v : Val) (place : ℕ) (few : place < 2 ^ 64) where
 pub product_seen : (k : ProductKind) (ms : Members) (s : Shape) (names : List Name) (vs : List Val) (v : Val) → s ≡ product k ms → IsProduct k names vs v → LiesAs s ms × HasMembers s names vs v
 product_seen k ms s names vs v e h = subst (λ (x : Shape). LiesAs x ms × HasMembers x names vs v) (sym e) (refl, h)
 
-pub fixed_seen : (n : ℕ) (part s : Shape) (vs : List Val) (v : Val) → s ≡ fixed n part → length vs ≡ n → IsFixed vs v → LiesAs s (copies (length vs) part) × HasMembers s (no_names vs) vs v
+pub fixed_seen : (n : ℕ) (part s : Shape) (vs : List Val) (v : Val) → s ≡ fixed n part → length vs ≡ n → IsFixedListValue vs v → LiesAs s (copies (length vs) part) × HasMembers s (no_names vs) vs v
 fixed_seen n part s vs v e count h = subst (λ (x : Shape). LiesAs x (copies (length vs) part) × HasMembers x (no_names vs) vs v) (sym e) (ap (λ k. copies k part) count, (refl, h))

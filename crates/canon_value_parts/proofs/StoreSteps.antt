@@ -65,14 +65,14 @@ pub tails : (n m : Name) (ns ms : List Name) → n ∷ ns ≡ m ∷ ms → ns �
 tails n m ns ms e = cc
 
 -- the names are the members', and the values are of their types
-abbrev pub Named : Members → List Name → List Val → Trees → Type 0
-Named ms names vs ts = (names ≡ member_names ms) × HaveTrees ms vs ts
+abbrev pub MemberNamed : Members → List Name → List Val → Trees → Type 0
+MemberNamed ms names vs ts = (names ≡ member_names ms) × HaveTrees ms vs ts
 
-pub named_join : (name named : Name) (s : Shape) (ms : Members) (names : List Name) (v : Val) (vs : List Val) → named ≡ name → (ts : Trees) → FirstAnd (HasTree s v) (Named ms names vs) ts
-    → Named (member name s ms) (named ∷ names) (v ∷ vs) ts
+pub named_join : (name named : Name) (s : Shape) (ms : Members) (names : List Name) (v : Val) (vs : List Val) → named ≡ name → (ts : Trees) → FirstAnd (HasTree s v) (MemberNamed ms names vs) ts
+    → MemberNamed (member name s ms) (named ∷ names) (v ∷ vs) ts
 named_join name named s ms names v vs en ts (t, rest, is, has, (same, have)) = (ap₂ (λ x xs. x ∷ xs) en same, (v, vs, t, rest, refl, is, has, have))
 
-pub named_split : (name named : Name) (s : Shape) (ms : Members) (names : List Name) (v : Val) (vs : List Val) → (ts : Trees) → Named (member name s ms) (named ∷ names) (v ∷ vs) ts → FirstAnd (HasTree s v) (Named ms names vs) ts
+pub named_split : (name named : Name) (s : Shape) (ms : Members) (names : List Name) (v : Val) (vs : List Val) → (ts : Trees) → MemberNamed (member name s ms) (named ∷ names) (v ∷ vs) ts → FirstAnd (HasTree s v) (MemberNamed ms names vs) ts
 named_split name named s ms names v vs ts (same, (w, others, t, rest, ev, et, has, have)) =
     let first : w ≡ v = cc in
     let tail : others ≡ vs = cc in
@@ -96,8 +96,8 @@ product_counts enc place k ms names vs v (Err e) small p count (inr b) =
     blames_later enc (λ how j. MemberFails how ms vs j) (λ how j. FailsAt how (product k ms) v j) 1 place (cap (place + 1)) e refl (λ how j f. inr (names, vs, j, p, count, refl, f)) b
 
 -- of values whose names are right
-pub count_members : (enc : Encoding) (place : ℕ) (ms : Members) (names : List Name) (vs : List Val) (from : ℕ) (r : Result ℕ Fault) → names ≡ member_names ms → FieldsCount enc place ms names vs from r
+pub value_count_members : (enc : Encoding) (place : ℕ) (ms : Members) (names : List Name) (vs : List Val) (from : ℕ) (r : Result ℕ Fault) → names ≡ member_names ms → FieldsCount enc place ms names vs from r
     → PlacesCounted enc (λ how k. MemberFails how ms vs k) from (all_places vs) r
-count_members enc place ms names vs from (Ok to) same (_, e, small) = (e, small)
-count_members enc place ms names vs from (Err e) same (inl (is, other)) = absurd (other same)
-count_members enc place ms names vs from (Err e) same (inr b) = b
+value_count_members enc place ms names vs from (Ok to) same (_, e, small) = (e, small)
+value_count_members enc place ms names vs from (Err e) same (inl (is, other)) = absurd (other same)
+value_count_members enc place ms names vs from (Err e) same (inr b) = b

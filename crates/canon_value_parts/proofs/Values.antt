@@ -5,8 +5,8 @@ use Rattle.canon_lowering.specs.Copies.{case_members, case_tree}
 use Rattle.canon_model.specs.Tree.{Tree, Trees, bits, handle, no_trees, tree, code_point, items, number, parts, text, truth}
 use Rattle.canon_value_parts.specs.Fails.{CaseFails, Failure, IsTypeFailure, PairFails, SomeFails, Fails, FailsAt, IsOther, IsOtherScalar}
 use Rattle.canon_value_parts.specs.Fails.{field_name, mismatch, overflow, payload_expected, payload_not_expected, too_long, unknown_case, unknown_flag, wrong_length}
-use Rattle.canon_val.specs.Value.{CaseHas, EachHas, HasScalar, HasTree, HaveTrees, HaveTreesAs, IsCase, IsFixed, IsFlags, IsItems, IsPairShape}
-use Rattle.canon_val.specs.Value.{IsPairs, IsProduct, IsText, Occurs, PairHas, member_names, names_in, no_names, pair_places, places, values_in}
+use Rattle.canon_val.specs.Value.{CaseHas, EachHas, HasScalar, HasTree, HaveTrees, HaveTreesAs, IsCase, IsFixedListValue, IsFlags, IsItems, IsPairShape}
+use Rattle.canon_val.specs.Value.{IsPairs, IsProduct, IsTextValue, Occurs, PairHas, member_names, names_in, no_names, pair_places, places, values_in}
 use Rattle.canon_val.specs.declared.val.Val.{Val, out-Val, the_lemmas}
 use Rattle.std.proofs.lemmas.Str.{IsUtf8-string_bytes}
 use Rattle.std.specs.declared.alloc.Global.{Global}
@@ -83,11 +83,11 @@ same_fixed xs ys e =
 pub list_values : (vs ws : List Val) (v : Val) → IsItems vs v → IsItems ws v → vs ≡ ws
 list_values vs ws v (xs, e, ev) (ys, e2, ev2) = ev ∙ (ap (λ (zs : Vec Val Global). zs.items) (same_items xs ys (sym e ∙ e2)) ∙ sym ev2)
 
-pub fixed_values : (vs ws : List Val) (v : Val) → IsFixed vs v → IsFixed ws v → vs ≡ ws
+pub fixed_values : (vs ws : List Val) (v : Val) → IsFixedListValue vs v → IsFixedListValue ws v → vs ≡ ws
 fixed_values vs ws v (xs, e, ev) (ys, e2, ev2) = ev ∙ (ap (λ (zs : Vec Val Global). zs.items) (same_fixed xs ys (sym e ∙ e2)) ∙ sym ev2)
 
 -- a value is one text
-pub text_scalars : (cs ds : List ℕ) (v : Val) → IsText cs v → IsText ds v → cs ≡ ds
+pub text_scalars : (cs ds : List ℕ) (v : Val) → IsTextValue cs v → IsTextValue ds v → cs ≡ ds
 text_scalars cs ds v (s, e, h) (r, f, g) =
     let same : val.String s ≡ val.String r = sym e ∙ f in
     let d : r ≡ s = cc in
@@ -131,7 +131,7 @@ scalar_fails payload_not_expected k v t f h = f
 scalar_fails (too_long enc n) k v t f h = f
 scalar_fails (overflow n) k v t f h = f
 
-text_fails : (how : Failure) (cs : List ℕ) (v : Val) → IsTypeFailure how → Fails how string v → IsText cs v → ⊥
+text_fails : (how : Failure) (cs : List ℕ) (v : Val) → IsTypeFailure how → Fails how string v → IsTextValue cs v → ⊥
 text_fails mismatch cs v is f h = f h.0 h.1
 text_fails wrong_length cs v is f h = f
 text_fails field_name cs v is f h = f
@@ -153,7 +153,7 @@ list_fails payload_not_expected s v vs is f p = f
 list_fails (too_long enc n) s v vs is f p = f
 list_fails (overflow n) s v vs is f p = is
 
-fixed_fails : (how : Failure) (n : ℕ) (s : Shape) (v : Val) (vs : List Val) → Fails how (fixed n s) v → IsFixed vs v → length vs ≡ n → ⊥
+fixed_fails : (how : Failure) (n : ℕ) (s : Shape) (v : Val) (vs : List Val) → Fails how (fixed n s) v → IsFixedListValue vs v → length vs ≡ n → ⊥
 fixed_fails mismatch n s v vs f p e = f p.0 p.1
 fixed_fails wrong_length n s v vs (ws, q, ne) p e = ne (ap length (fixed_values ws vs v q p) ∙ e)
 fixed_fails field_name n s v vs f p e = f

@@ -16,7 +16,7 @@ use Rattle.canon_value_parts.specs.View.{HaveKnownTypes, viewed_names, viewed_sh
 use Rattle.canon_plan.specs.Plan.{LiesAs}
 use Rattle.canon_value_parts.specs.declared.members.Members.{Members as View}
 use Rattle.canon_value_parts.specs.declared.members.Members.TheVariants as members
-use Rattle.canon_value_parts.proofs.Lookups.{count_values, count_names, count_no_names}
+use Rattle.canon_value_parts.proofs.Lookups.{count_values, value_count_names, count_no_names}
 use Rattle.canon_value_parts.proofs.PairRows.{count_turns}
 use Rattle.canon_plan.proofs.Pairs.{pair_slots}
 use Rattle.canon_plan.proofs.Lookups.{copies_count}
@@ -24,7 +24,7 @@ use Rattle.canon_value_parts.proofs.Walks.{copies_no_handle, copies_deepest}
 
 -- as many names as values
 pub names_count : (ms : View) → length (viewed_names ms) ≡ length (viewed_values ms)
-names_count (members.Fields i values) = count_names values.now ∙ sym (count_values values.now)
+names_count (members.Fields i values) = value_count_names values.now ∙ sym (count_values values.now)
 names_count (members.Places i values) = count_no_names values.now
 names_count (members.Items type values) = count_no_names values.now
 names_count members.Empty = refl

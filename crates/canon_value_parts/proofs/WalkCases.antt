@@ -34,7 +34,7 @@ use Rattle.canon_value_parts.proofs.Cases.{case_back, case_fails, case_has, case
 use Rattle.canon_context.proofs.Moves.{GuestLaws}
 use Rattle.canon_value_parts.proofs.Steps.{blames_later}
 use Rattle.canon_context.proofs.Cores.{written_whole}
-use Rattle.canon_value_parts.proofs.StoreSteps.{Named, count_members}
+use Rattle.canon_value_parts.proofs.StoreSteps.{MemberNamed, value_count_members}
 use Rattle.canon_lowering.specs.Stages.{holding}
 
 -- ---- a value's tree from its payload's trees, and back
@@ -46,10 +46,10 @@ tag_few : (n : ℕ) → tag_size n ≤ 8
 tag_few n = grind arith
 
 module _ (wide : Bool) (enc : Encoding) (k : VariantKind) (cs : Cases) (d : ℕ) (names : List Name) (vs : List Val) (v : Val) (lt : d < case_count cs) (of : IsCase k cs d vs v) (named : names ≡ member_names (case_members cs d)) where
-  pub case_told : (ts : Trees) → Named (case_members cs d) names vs ts → HasTree (variant k cs) v (case_tree d ts) × CaseIs wide (host_texts enc) (case_members cs d) d (case_tree d ts)
-  case_told ts (_, have) = let has = case_has false cs d vs ts lt have in ((d, vs, ts, of, refl, has), case_is false wide enc cs d d vs ts has)
+  pub value_case_told : (ts : Trees) → MemberNamed (case_members cs d) names vs ts → HasTree (variant k cs) v (case_tree d ts) × CaseIs wide (host_texts enc) (case_members cs d) d (case_tree d ts)
+  value_case_told ts (_, have) = let has = case_has false cs d vs ts lt have in ((d, vs, ts, of, refl, has), case_is false wide enc cs d d vs ts has)
 
-  pub case_untold : (t : Tree) → HasTree (variant k cs) v t → (case_number t ≡ d) × Named (case_members cs d) names vs (payload_trees t) × CaseIs wide (host_texts enc) (case_members cs d) d t
+  pub case_untold : (t : Tree) → HasTree (variant k cs) v t → (case_number t ≡ d) × MemberNamed (case_members cs d) names vs (payload_trees t) × CaseIs wide (host_texts enc) (case_members cs d) d t
   case_untold t (j, ws, ts, q, et, has) =
       let (ej, ew) = one_case k cs d j vs ws v of q in
       let et2 : t ≡ case_tree d ts = et ∙ ap (λ x. case_tree x ts) ej in
@@ -99,23 +99,23 @@ module _ {T G : Type 0} (L : GuestLaws G) (options : ℕ) where
       → PartsStoreTo L.seen L.moves options (record a { memory = m }) c place (case_members cs d) 0 (at + payload_offset false cs) names vs (cap (place + 1)) r → StoresTo L.seen L.moves options a c (variant k cs) at v place r
   case_stores a c m k cs at d names vs v place r small room given lt few of named w tag h = record {
     handles = h.handles;
-    storing = variant_stored false (host_texts (encoding_by a options)) k cs at d lt (Named (case_members cs d) names vs) (stage_of L.seen L.moves a) (holding (stage_of L.seen L.moves a) m) (stage_of L.seen L.moves c)
+    storing = variant_stored false (host_texts (encoding_by a options)) k cs at d lt (MemberNamed (case_members cs d) names vs) (stage_of L.seen L.moves a) (holding (stage_of L.seen L.moves a) m) (stage_of L.seen L.moves c)
         (tag_written false (host_texts (encoding_by a options)) (stage_of L.seen L.moves a) a.memory m cs at d small (omega (arith, room, tag-le-size false k cs)) w (tag ∙ mod-eq_of_lt (tag_fits (case_count cs) d lt few)))
         (HasTree (variant k cs) v) (ending_of r) (omega (arith, room, w.same_length, h.storing.lowering.goes.no_shorter))
-        (case_told false (encoding_by a options) k cs d names vs v lt of named) (case_untold false (encoding_by a options) k cs d names vs v lt of named) h.storing;
+        (value_case_told false (encoding_by a options) k cs d names vs v lt of named) (case_untold false (encoding_by a options) k cs d names vs v lt of named) h.storing;
     handed = passes_as a.component.types a.ledger c.ledger (all_passes (case_members cs d) vs) (passes v (variant k cs)) h.handles r given h.handed;
-    counted = case_counted (encoding_by a options) k cs d vs v place r of (count_members (encoding_by a options) place (case_members cs d) names vs (cap (place + 1)) r named h.counted);
+    counted = case_counted (encoding_by a options) k cs d vs v place r of (value_count_members (encoding_by a options) place (case_members cs d) names vs (cap (place + 1)) r named h.counted);
     same = h.same;
     quiet = λ none. h.quiet (case_quiet cs d none);
   }
 
-  pub case_stored : (t : TypeTable) (a c : Parts T G) (m ys : List ℕ) (s : Shape) (at n inner : ℕ) (x : Case) (v : Val) (place from : ℕ) (r : Result ℕ Fault) → length a.memory ≤ 2 ^ 32 → at + size false s ≤ length a.memory
+  pub value_case_stored : (t : TypeTable) (a c : Parts T G) (m ys : List ℕ) (s : Shape) (at n inner : ℕ) (x : Case) (v : Val) (place from : ℕ) (r : Result ℕ Fault) → length a.memory ≤ 2 ^ 32 → at + size false s ≤ length a.memory
       → IsCaseSeen t s v x
       → passes v s ≡ all_passes (viewed_shapes t x.payload) (viewed_values x.payload)
       → n ≡ tag_bytes x.info.size → inner ≡ at + x.info.payload_offset32 → ys ≡ a.memory → Writes (block at n) ys m → num (narrow m) at n ≡ x.tag % 256 ^ n → from ≡ cap (place + 1)
       → PartsStoreTo L.seen L.moves options (record a { memory = written_over a.memory m }) c place (viewed_shapes t x.payload) 0 inner (viewed_names x.payload) (viewed_values x.payload) from r
       → StoresTo L.seen L.moves options a c s at v place r
-  case_stored t a c m ys s at n inner x v place from r small room seen given en ei ey w put ef h =
+  value_case_stored t a c m ys s at n inner x v place from r small room seen given en ei ey w put ef h =
       let bytes : n ≡ tag_size (case_count seen.cases) = en ∙ seen.info.size in
       let here : inner ≡ at + payload_offset false seen.cases = ei ∙ ap (λ (o : ℕ). at + o) (seen.info.offset false) in
       let whole : written_over a.memory m ≡ m = written_whole a.memory m (w.same_length ∙ ap length ey) in

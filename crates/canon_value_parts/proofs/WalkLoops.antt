@@ -39,7 +39,7 @@ module _ {T G : Type 0} (seen : G → Seen) (moves : GuestIn G → List Event �
     pub rest : (z : Parts T G) (r : Result ℕ Fault) → PartsStoreTo seen moves options now z place (members_from i ms) o at (drop i names) (drop i vs) next r → PartsStoreTo seen moves options start z place ms 0 at names vs from r
 
 -- the member of number i stands inside memory, and its storing may be called
-pub record Stands {T G : Type 0} (start now : Parts T G) (at o : ℕ) (type : InterfaceType) : Type 0 where
+pub record WalkStands {T G : Type 0} (start now : Parts T G) (at o : ℕ) (type : InterfaceType) : Type 0 where
   pub known : Knows (component_types now) type
   pub room : at + begins false o (shape_of (component_types start) type) + size false (shape_of (component_types now) type) ≤ length now.memory
   pub fits : ends false o (shape_of (component_types start) type) < 2 ^ 64
@@ -51,7 +51,7 @@ module _ {T G : Type 0} (L : GuestLaws G) (options place : ℕ) (ms : Members) (
     abbrev s : Shape
     s = shape_of (component_types start) m.ty
 
-    pub stands : Stands start now at o m.ty
+    pub stands : WalkStands start now at o m.ty
     stands =
         let same : component_types now ≡ component_types start = handles_types start now h.same in
         let end : members_end false o (members_from i ms) ≡ members_end false o (member is.name s (members_from (i + 1) ms)) = ap (members_end false o) is.shapes in

@@ -29,7 +29,7 @@ use Rattle.canon_value_parts.specs.Fails.{Blames, Failure, FailsAt, MemberFails,
 use Rattle.canon_context.specs.Lowers.{ending_of, fault_ending}
 use Rattle.canon_context.specs.Quiet.{has_block, have_block}
 use Rattle.canon_value_parts.specs.Stores.{PlacesCounted, FieldsCount, PartsStoreTo, PlacesTo, StoresTo}
-use Rattle.canon_val.specs.Value.{EachHas, HasTree, HaveTrees, IsFixed, IsProduct, all_places, member_names, no_names, places, HasTreeAs, HaveTreesAs}
+use Rattle.canon_val.specs.Value.{EachHas, HasTree, HaveTrees, IsFixedListValue, IsProduct, all_places, member_names, no_names, places, HasTreeAs, HaveTreesAs}
 use Rattle.canon_value_parts.specs.Viewed.{HasMembers}
 use Rattle.canon_plan.specs.Plan.{LiesAs}
 use Rattle.canon_value_parts.specs.Words.{IsWordOf}
@@ -50,7 +50,7 @@ use Rattle.canon_model.specs.Leaves.{leaves}
 use Rattle.canon_types.specs.Instance.{Instance}
 use Rattle.canon_value_parts.proofs.Passing.{IsOwn, handles_encoding, handles_instance, handles_then, own_elsewhere, own_ends, passes_as, passes_none, passes_stop, passes_stopped, passes_then}
 use Rattle.canon_value_parts.specs.Resources.{LowersHandles, all_passes, passes}
-use Rattle.canon_value_parts.proofs.StoreSteps.{Named, count_members, fields_count, heads, least_low, named_join, named_split, product_counts}
+use Rattle.canon_value_parts.proofs.StoreSteps.{MemberNamed, value_count_members, fields_count, heads, least_low, named_join, named_split, product_counts}
 use Rattle.canon_value_parts.proofs.Values.{product_names, product_values}
 use Rattle.canon_lowering.specs.Stages.{Stage, holding}
 
@@ -96,7 +96,7 @@ copies_names zero s (v ∷ vs) e = absurd (omega (arith, e))
 copies_names (suc n) s [] e = absurd (omega (arith, e))
 copies_names (suc n) s (v ∷ vs) e = ap (λ ns. [] ∷ ns) (copies_names n s vs (omega (arith, e)))
 
-pub fixed_counted : (enc : Encoding) (n : ℕ) (s : Shape) (names : List Name) (vs : List Val) (v : Val) (place : ℕ) (r : Result ℕ Fault) → length vs ≡ n → IsFixed vs v
+pub fixed_counted : (enc : Encoding) (n : ℕ) (s : Shape) (names : List Name) (vs : List Val) (v : Val) (place : ℕ) (r : Result ℕ Fault) → length vs ≡ n → IsFixedListValue vs v
     → PlacesCounted enc (λ how k. MemberFails how (copies n s) vs k) (cap (place + 1)) (all_places vs) r
     → PlacesCounted enc (λ how k. FailsAt how (fixed n s) v k) place (places v) r
 fixed_counted enc n s names vs v place (Ok to) count (xs, ev, same) (e, small) = (omega (arith, e, ap places ev ∙ places_fixed xs, ap all_places same), fixed_small enc n s vs v count (xs, ev, same) small)
@@ -105,28 +105,28 @@ fixed_counted enc n s names vs v place (Err e) count (xs, ev, same) b =
 
 -- ---- a value's tree from its members' trees, and back
 
-pub product_is : (k : ProductKind) (ms : Members) (names : List Name) (vs : List Val) (v : Val) → IsProduct k names vs v → (ts : Trees) → Named ms names vs ts → HasTree (product k ms) v (parts ts)
+pub product_is : (k : ProductKind) (ms : Members) (names : List Name) (vs : List Val) (v : Val) → IsProduct k names vs v → (ts : Trees) → MemberNamed ms names vs ts → HasTree (product k ms) v (parts ts)
 product_is k ms names vs v p ts (same, have) = (vs, ts, subst (λ (xs : List Name). IsProduct k xs vs v) same p, refl, have)
 
-pub product_back : (k : ProductKind) (ms : Members) (names : List Name) (vs : List Val) (v : Val) → IsProduct k names vs v → (t : Tree) → HasTree (product k ms) v t → Named ms names vs (trees_of t)
+pub product_back : (k : ProductKind) (ms : Members) (names : List Name) (vs : List Val) (v : Val) → IsProduct k names vs v → (t : Tree) → HasTree (product k ms) v t → MemberNamed ms names vs (trees_of t)
 product_back k ms names vs v p t (ws, ts, q, et, have) = (
   product_names k names (member_names ms) vs ws v p q,
   subst (λ (u : Tree). HaveTrees ms vs (trees_of u)) (sym et) (subst (λ (xs : List Val). HaveTrees ms xs ts) (product_values k (member_names ms) names ws vs v q p) have),
 )
 
-pub fixed_is : (n : ℕ) (s : Shape) (names : List Name) (vs : List Val) (v : Val) → length vs ≡ n → IsFixed vs v → (ts : Trees) → Named (copies n s) names vs ts → HasTree (fixed n s) v (parts ts) × (tree_count ts ≡ n)
+pub fixed_is : (n : ℕ) (s : Shape) (names : List Name) (vs : List Val) (v : Val) → length vs ≡ n → IsFixedListValue vs v → (ts : Trees) → MemberNamed (copies n s) names vs ts → HasTree (fixed n s) v (parts ts) × (tree_count ts ≡ n)
 fixed_is n s names vs v enough p ts (_, have) = let (l, each) = copies_have false n s vs ts have in ((vs, ts, p, enough, refl, each), each_count (λ w u. HasTree s w u) vs ts each ∙ enough)
 
-pub fixed_back : (n : ℕ) (s : Shape) (names : List Name) (vs : List Val) (v : Val) → names ≡ no_names vs → length vs ≡ n → IsFixed vs v → (t : Tree) → HasTree (fixed n s) v t → Named (copies n s) names vs (trees_of t)
+pub fixed_back : (n : ℕ) (s : Shape) (names : List Name) (vs : List Val) (v : Val) → names ≡ no_names vs → length vs ≡ n → IsFixedListValue vs v → (t : Tree) → HasTree (fixed n s) v t → MemberNamed (copies n s) names vs (trees_of t)
 fixed_back n s names vs v en enough p t (ws, ts, q, l, et, each) = (
   en ∙ copies_names n s vs enough,
   subst (λ (u : Tree). HaveTrees (copies n s) vs (trees_of u)) (sym et) (have_copies n s vs ts enough (subst (λ (ys : List Val). EachHas (λ w u. HasTree s w u) ys ts) (fixed_values ws vs v q p) each)),
 )
 
-pub row_is : (n : ℕ) (s : Shape) (xs : Vec Val Global) → length xs.items ≡ n → (ts : Trees) → Named (copies n s) (no_names xs.items) xs.items ts → HasTree (list of_items s) (val.List xs) (items ts) × (tree_count ts ≡ n)
+pub row_is : (n : ℕ) (s : Shape) (xs : Vec Val Global) → length xs.items ≡ n → (ts : Trees) → MemberNamed (copies n s) (no_names xs.items) xs.items ts → HasTree (list of_items s) (val.List xs) (items ts) × (tree_count ts ≡ n)
 row_is n s xs is ts (_, have) = let (l, each) = copies_have false n s xs.items ts have in ((xs.items, ts, (xs, refl, refl), refl, each), each_count (λ w u. HasTree s w u) xs.items ts each ∙ is)
 
-pub row_back : (n : ℕ) (s : Shape) (xs : Vec Val Global) → length xs.items ≡ n → (t : Tree) → HasTree (list of_items s) (val.List xs) t → Named (copies n s) (no_names xs.items) xs.items (trees_of t)
+pub row_back : (n : ℕ) (s : Shape) (xs : Vec Val Global) → length xs.items ≡ n → (t : Tree) → HasTree (list of_items s) (val.List xs) t → MemberNamed (copies n s) (no_names xs.items) xs.items (trees_of t)
 row_back n s xs is t has = (copies_names n s xs.items is, have_copies n s xs.items (trees_of t) is (list_trees s xs t has))
 
 -- a value that was lowered to words and not to its end
@@ -191,15 +191,15 @@ module _ {T G : Type 0} (L : GuestLaws G) (options : ℕ) where
 
   module _ (a b : Parts T G) (m : List ℕ) (at : ℕ) (v : Val) (place : ℕ) (x : Placed) (room : at + 8 ≤ length b.memory) (small : length b.memory ≤ 2 ^ 32) (lp : x.pointer < 2 ^ 32)
       (ln : x.length < 2 ^ 32) (w : IsPair b.memory m at x.pointer x.length) where
-    abbrev told : Parts T G → Shape → Type 0
-    told c s = StoresTo L.seen L.moves options a c s at v place (Ok x.next)
+    abbrev value_told : Parts T G → Shape → Type 0
+    value_told c s = StoresTo L.seen L.moves options a c s at v place (Ok x.next)
 
     written : Attempt false (holding (stage_of L.seen L.moves b) b.memory) (holding (stage_of L.seen L.moves b) m) (pair_place false at ∷ []) (pair_aim false at x.pointer x.length) [] done
     written = pair_written false (stage_of L.seen L.moves b) b.memory m at x.pointer x.length small room w.writes w.pointer w.count
 
     pub block_told : (s : Shape) → has_block s ≡ true → (h : PlacesTo L.seen L.moves options a b s v place (Ok x)) → StoresValue false (stage_of L.seen L.moves a) (holding (stage_of L.seen L.moves b) m) (host_texts (encoding_by a options)) s at (HasTree s v) h.handles done
-        → told (record b { memory = written_over b.memory m }) s
-    block_told s block h storing = subst (λ (bytes : List ℕ). told (record b { memory = bytes }) s) (sym (written_whole b.memory m w.writes.same_length)) (record {
+        → value_told (record b { memory = written_over b.memory m }) s
+    block_told s block h storing = subst (λ (bytes : List ℕ). value_told (record b { memory = bytes }) s) (sym (written_whole b.memory m w.writes.same_length)) (record {
       handles = h.handles;
       storing = storing;
       handed = h.handed;
@@ -208,11 +208,11 @@ module _ {T G : Type 0} (L : GuestLaws G) (options : ℕ) where
       quiet = λ none. absurd (blocks_none (has_block s) block none);
     })
 
-    pub text_told : PlacesTo L.seen L.moves options a b string v place (Ok x) → told (record b { memory = written_over b.memory m }) string
-    text_told h = block_told string refl h (string_stored false (host_texts (encoding_by a options)) at x.pointer x.length (HasTree string v) (λ _. lp) (λ _. ln) (stage_of L.seen L.moves a) (stage_of L.seen L.moves b) b.memory m written h.lowered)
+    pub value_text_told : PlacesTo L.seen L.moves options a b string v place (Ok x) → value_told (record b { memory = written_over b.memory m }) string
+    value_text_told h = block_told string refl h (string_stored false (host_texts (encoding_by a options)) at x.pointer x.length (HasTree string v) (λ _. lp) (λ _. ln) (stage_of L.seen L.moves a) (stage_of L.seen L.moves b) b.memory m written h.lowered)
 
-    pub list_told : (s part : Shape) (k : ListKind) → s ≡ list k part → PlacesTo L.seen L.moves options a b s v place (Ok x) → told (record b { memory = written_over b.memory m }) s
-    list_told s part k is h = subst (λ (y : Shape). told (record b { memory = written_over b.memory m }) y) (sym is) (
+    pub value_list_told : (s part : Shape) (k : ListKind) → s ≡ list k part → PlacesTo L.seen L.moves options a b s v place (Ok x) → value_told (record b { memory = written_over b.memory m }) s
+    value_list_told s part k is h = subst (λ (y : Shape). value_told (record b { memory = written_over b.memory m }) y) (sym is) (
         let placed = subst (λ (y : Shape). PlacesTo L.seen L.moves options a b y v place (Ok x)) is h in
         block_told (list k part) refl placed
         (list_stored false (host_texts (encoding_by a options)) at x.pointer x.length (HasTree (list k part) v) (λ _. lp) (λ _. ln) (stage_of L.seen L.moves a) (stage_of L.seen L.moves b) b.memory m written k part placed.lowered))
@@ -223,7 +223,7 @@ module _ {T G : Type 0} (L : GuestLaws G) (options : ℕ) where
   unfolding requests leaves
   parts_none a place at o from small few = record {
     handles = [];
-    storing = attempt_none false (stage_of L.seen L.moves a) _ (members_at false (host_texts (encoding_by a options)) no_members o at (Named no_members [] [])) no_trees small (refl, (refl, refl)) (λ ts h. refl) refl (λ pointer rest. refl);
+    storing = attempt_none false (stage_of L.seen L.moves a) _ (members_at false (host_texts (encoding_by a options)) no_members o at (MemberNamed no_members [] [])) no_trees small (refl, (refl, refl)) (λ ts h. refl) refl (λ pointer rest. refl);
     handed = passes_none a.component.types a.ledger a.ledger [] refl refl;
     counted = (refl, omega (arith, few), none_small (encoding_by a options));
     same = refl;
@@ -232,10 +232,10 @@ module _ {T G : Type 0} (L : GuestLaws G) (options : ℕ) where
 
   -- the trees of members are a first one and others
   first_and : {hs : List ℕ} (wide : Bool) (a b : Parts T G) (enc : Encoding) (name named : Name) (s : Shape) (ms : Members) (o at : ℕ) (names : List Name) (v : Val) (vs : List Val) (e : Ending) → named ≡ name
-      → StoresMembers wide (stage_of L.seen L.moves a) (stage_of L.seen L.moves b) (host_texts enc) (member name s ms) o at (FirstAnd (HasTree s v) (Named ms names vs)) hs e
-      → StoresMembers wide (stage_of L.seen L.moves a) (stage_of L.seen L.moves b) (host_texts enc) (member name s ms) o at (Named (member name s ms) (named ∷ names) (v ∷ vs)) hs e
-  first_and wide a b enc name named s ms o at names v vs e en h = attempt_as wide (stage_of L.seen L.moves a) (stage_of L.seen L.moves b) _ _ (members_at wide (host_texts enc) (member name s ms) o at (FirstAnd (HasTree s v) (Named ms names vs)))
-      (members_at wide (host_texts enc) (member name s ms) o at (Named (member name s ms) (named ∷ names) (v ∷ vs))) e (λ i q. q)
+      → StoresMembers wide (stage_of L.seen L.moves a) (stage_of L.seen L.moves b) (host_texts enc) (member name s ms) o at (FirstAnd (HasTree s v) (MemberNamed ms names vs)) hs e
+      → StoresMembers wide (stage_of L.seen L.moves a) (stage_of L.seen L.moves b) (host_texts enc) (member name s ms) o at (MemberNamed (member name s ms) (named ∷ names) (v ∷ vs)) hs e
+  first_and wide a b enc name named s ms o at names v vs e en h = attempt_as wide (stage_of L.seen L.moves a) (stage_of L.seen L.moves b) _ _ (members_at wide (host_texts enc) (member name s ms) o at (FirstAnd (HasTree s v) (MemberNamed ms names vs)))
+      (members_at wide (host_texts enc) (member name s ms) o at (MemberNamed (member name s ms) (named ∷ names) (v ∷ vs))) e (λ i q. q)
       (record { turn = λ ts. ts; back = λ ts. ts; is = named_join name named s ms names v vs en; is_back = named_split name named s ms names v vs; asks = λ ts h. refl; rep = λ fresh ts is h. h; home = λ pointer ts xs ys is h. h; handles = λ ts h. refl }) h
 
   pub parts_cons : (a b c : Parts T G) (place : ℕ) (name named : Name) (s : Shape) (ms : Members) (o at : ℕ) (names : List Name) (v : Val) (vs : List Val) (from mid : ℕ) (r : Result ℕ Fault) → named ≡ name
@@ -243,12 +243,12 @@ module _ {T G : Type 0} (L : GuestLaws G) (options : ℕ) where
       → PartsStoreTo L.seen L.moves options a c place (member name s ms) o at (named ∷ names) (v ∷ vs) from r
   parts_cons a b c place name named s ms o at names v vs from mid r en h k =
       let enc : Encoding = encoding_by a options in
-      let rest : StoresMembers false (stage_of L.seen L.moves b) (stage_of L.seen L.moves c) (host_texts enc) ms (ends false o s) at (Named ms names vs) k.handles (ending_of r) =
-      subst (λ (x : Encoding). StoresMembers false (stage_of L.seen L.moves b) (stage_of L.seen L.moves c) (host_texts x) ms (ends false o s) at (Named ms names vs) k.handles (ending_of r)) (handles_encoding a b options h.same) k.storing in
+      let rest : StoresMembers false (stage_of L.seen L.moves b) (stage_of L.seen L.moves c) (host_texts enc) ms (ends false o s) at (MemberNamed ms names vs) k.handles (ending_of r) =
+      subst (λ (x : Encoding). StoresMembers false (stage_of L.seen L.moves b) (stage_of L.seen L.moves c) (host_texts x) ms (ends false o s) at (MemberNamed ms names vs) k.handles (ending_of r)) (handles_encoding a b options h.same) k.storing in
       record {
         handles = h.handles ++ k.handles;
         storing = first_and false a c enc name named s ms o at names v vs (ending_of r) en
-            (members_cons false (host_texts enc) name s ms o at (HasTree s v) (Named ms names vs) (stage_of L.seen L.moves a) (stage_of L.seen L.moves b) (stage_of L.seen L.moves c) (ending_of r) h.storing rest);
+            (members_cons false (host_texts enc) name s ms o at (HasTree s v) (MemberNamed ms names vs) (stage_of L.seen L.moves a) (stage_of L.seen L.moves b) (stage_of L.seen L.moves c) (ending_of r) h.storing rest);
         handed = passes_then a.component.types a.ledger b.ledger c.ledger (passes v s) (all_passes ms vs) h.handles k.handles r h.handed
             (subst (λ (i : Instance). LowersHandles i b.ledger c.ledger (all_passes ms vs) k.handles r) (handles_instance a b h.same) k.handed);
         counted = fields_count enc place name named s ms names v vs from mid r en h.counted.0 h.counted.1
@@ -263,7 +263,7 @@ module _ {T G : Type 0} (L : GuestLaws G) (options : ℕ) where
   parts_stop a b place name named s ms o at names v vs from e en h = record {
     handles = h.handles;
     storing = first_and false a b (encoding_by a options) name named s ms o at names v vs (fault_ending e) en
-        (members_stop false (host_texts (encoding_by a options)) name s ms o at (HasTree s v) (Named ms names vs) (stage_of L.seen L.moves a) (stage_of L.seen L.moves b) (fault_ending e) (not_done e) h.storing);
+        (members_stop false (host_texts (encoding_by a options)) name s ms o at (HasTree s v) (MemberNamed ms names vs) (stage_of L.seen L.moves a) (stage_of L.seen L.moves b) (fault_ending e) (not_done e) h.storing);
     handed = passes_stop a.component.types a.ledger b.ledger (passes v s) (all_passes ms vs) e h.handed;
     counted = inr (blames_first (encoding_by a options) (λ how k. FailsAt how s v k) (λ how k. MemberFails how (member name s ms) (v ∷ vs) k) from e (λ how j f. inl f) h.counted);
     same = h.same;
@@ -289,9 +289,9 @@ module _ {T G : Type 0} (L : GuestLaws G) (options : ℕ) where
       → StoresTo L.seen L.moves options a c s at v place r
   members_store a c place (product k ns) ms at names vs v r room few e p count given h = record {
     handles = h.handles;
-    storing = product_stored false (stage_of L.seen L.moves a) (stage_of L.seen L.moves c) (host_texts (encoding_by a options)) k ns at (Named ns names vs) (HasTree (product k ns) v) (ending_of r) (omega (arith, room, h.storing.lowering.goes.no_shorter))
+    storing = product_stored false (stage_of L.seen L.moves a) (stage_of L.seen L.moves c) (host_texts (encoding_by a options)) k ns at (MemberNamed ns names vs) (HasTree (product k ns) v) (ending_of r) (omega (arith, room, h.storing.lowering.goes.no_shorter))
         (product_is k ns names vs v p) (product_back k ns names vs v p)
-        (subst (λ (xs : Members). StoresMembers false (stage_of L.seen L.moves a) (stage_of L.seen L.moves c) (host_texts (encoding_by a options)) xs 0 at (Named xs names vs) h.handles (ending_of r)) e h.storing);
+        (subst (λ (xs : Members). StoresMembers false (stage_of L.seen L.moves a) (stage_of L.seen L.moves c) (host_texts (encoding_by a options)) xs 0 at (MemberNamed xs names vs) h.handles (ending_of r)) e h.storing);
     handed = passes_as a.component.types a.ledger c.ledger (all_passes ms vs) (passes v (product k ns)) h.handles r given h.handed;
     counted = product_counts (encoding_by a options) place k ns names vs v r few p (count ∙ ap member_count e) (subst (λ (xs : Members). FieldsCount (encoding_by a options) place xs names vs (cap (place + 1)) r) e h.counted);
     same = h.same;
@@ -302,12 +302,12 @@ module _ {T G : Type 0} (L : GuestLaws G) (options : ℕ) where
       let named : names ≡ member_names (copies n s) = en ∙ copies_names n s vs enough in
       record {
         handles = h.handles;
-        storing = fixed_stored false (stage_of L.seen L.moves a) (stage_of L.seen L.moves c) (host_texts (encoding_by a options)) n s at (Named (copies n s) names vs) (HasTree (fixed n s) v) (omega (arith, room, h.storing.lowering.goes.no_shorter))
+        storing = fixed_stored false (stage_of L.seen L.moves a) (stage_of L.seen L.moves c) (host_texts (encoding_by a options)) n s at (MemberNamed (copies n s) names vs) (HasTree (fixed n s) v) (omega (arith, room, h.storing.lowering.goes.no_shorter))
             (fixed_is n s names vs v enough (xs, ev, same)) (fixed_back n s names vs v en enough (xs, ev, same)) (ending_of r)
-            (subst (λ (ys : Members). StoresMembers false (stage_of L.seen L.moves a) (stage_of L.seen L.moves c) (host_texts (encoding_by a options)) ys 0 at (Named ys names vs) h.handles (ending_of r)) e h.storing);
+            (subst (λ (ys : Members). StoresMembers false (stage_of L.seen L.moves a) (stage_of L.seen L.moves c) (host_texts (encoding_by a options)) ys 0 at (MemberNamed ys names vs) h.handles (ending_of r)) e h.storing);
         handed = passes_as a.component.types a.ledger c.ledger (all_passes ms vs) (passes v (fixed n s)) h.handles r given h.handed;
         counted = fixed_counted (encoding_by a options) n s names vs v place r enough (xs, ev, same)
-            (count_members (encoding_by a options) place (copies n s) names vs (cap (place + 1)) r named (subst (λ (ys : Members). FieldsCount (encoding_by a options) place ys names vs (cap (place + 1)) r) e h.counted));
+            (value_count_members (encoding_by a options) place (copies n s) names vs (cap (place + 1)) r named (subst (λ (ys : Members). FieldsCount (encoding_by a options) place ys names vs (cap (place + 1)) r) e h.counted));
         same = h.same;
         quiet = λ none. h.quiet (ap have_block e ∙ copies_quiet n s none);
       }

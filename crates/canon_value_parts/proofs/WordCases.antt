@@ -36,8 +36,8 @@ use Rattle.canon_val.specs.declared.val.Val.{Val}
 use Rattle.canon_value_parts.proofs.Cases.{case_quiet}
 use Rattle.canon_context.proofs.Moves.{GuestLaws}
 use Rattle.canon_context.proofs.Cores.{not_done}
-use Rattle.canon_value_parts.proofs.StoreSteps.{Named, count_members}
-use Rattle.canon_value_parts.proofs.WalkCases.{case_counted, case_told, case_untold}
+use Rattle.canon_value_parts.proofs.StoreSteps.{MemberNamed, value_count_members}
+use Rattle.canon_value_parts.proofs.WalkCases.{case_counted, value_case_told, case_untold}
 use Rattle.canon_value_parts.proofs.WordSteps.{have_fit}
 use Rattle.canon_lowering.specs.Stages.{Stage}
 
@@ -71,7 +71,7 @@ variant_flat k cs = refl
 case_words_counted : (enc : Encoding) (place : ℕ) (k : VariantKind) (cs : Cases) (d : ℕ) (names : List Name) (vs : List Val) (v : Val) (r : Result ℕ Fault) → IsCase k cs d vs v
     → names ≡ member_names (case_members cs d) → FieldsCount enc place (case_members cs d) names vs (cap (place + 1)) r
     → PlacesCounted enc (λ how j. FailsAt how (variant k cs) v j) place (places v) r
-case_words_counted enc place k cs d names vs v r of named h = case_counted enc k cs d vs v place r of (count_members enc place (case_members cs d) names vs (cap (place + 1)) r named h)
+case_words_counted enc place k cs d names vs v r of named h = case_counted enc k cs d vs v place r of (value_count_members enc place (case_members cs d) names vs (cap (place + 1)) r named h)
 
 module _ {T G : Type 0} (L : GuestLaws G) (options : ℕ) where
   -- `dst1` has the case's number in its first word, `dst2` the payload behind it, and `dst3` zeros up to the end
@@ -90,12 +90,12 @@ module _ {T G : Type 0} (L : GuestLaws G) (options : ℕ) where
       let same : SameWords dst2 (from.word + 1) dst3 (from.word + 1) (members_flat ms) =
       λ p q l u is. let at : p ≡ q = omega (arith, is) in ap (slice_index dst2) at ∙ sym (clears.written.stays.before q (omega (arith, u, at, h.passed))) in
       let zeros : AreZero dst3 (from.word + 1 + members_flat ms) (from.word + 1 + cases_flat cs) = λ j l u. clears.zeros j (omega (arith, l, h.passed)) (omega (arith, u, words)) in
-      let moved : LowersMembers false (stage_of L.seen L.moves a) (stage_of L.seen L.moves c) (host_texts enc) ms dst3 (from.word + 1) (Named ms names vs) h.handles done =
-      members_moved false (stage_of L.seen L.moves a) (stage_of L.seen L.moves c) enc ms dst2 dst3 (from.word + 1) (from.word + 1) (Named ms names vs) done (λ ts (_, have). have_fit ms vs ts have) same h.lowered in
+      let moved : LowersMembers false (stage_of L.seen L.moves a) (stage_of L.seen L.moves c) (host_texts enc) ms dst3 (from.word + 1) (MemberNamed ms names vs) h.handles done =
+      members_moved false (stage_of L.seen L.moves a) (stage_of L.seen L.moves c) enc ms dst2 dst3 (from.word + 1) (from.word + 1) (MemberNamed ms names vs) done (λ ts (_, have). have_fit ms vs ts have) same h.lowered in
       record {
         handles = h.handles;
-        lowered = variant_words false (stage_of L.seen L.moves a) (stage_of L.seen L.moves c) (host_texts enc) k cs dst3 from.word d (Named ms names vs) (HasTree (variant k cs) v) done lt tag3 few zeros
-            (case_told false enc k cs d names vs v lt of named) (case_untold false enc k cs d names vs v lt of named) moved;
+        lowered = variant_words false (stage_of L.seen L.moves a) (stage_of L.seen L.moves c) (host_texts enc) k cs dst3 from.word d (MemberNamed ms names vs) (HasTree (variant k cs) v) done lt tag3 few zeros
+            (value_case_told false enc k cs d names vs v lt of named) (case_untold false enc k cs d names vs v lt of named) moved;
         handed = passes_as a.component.types a.ledger c.ledger (all_passes ms vs) (passes v (variant k cs)) h.handles (Ok past) given h.handed;
         stays = record {
           same_length = clears.written.stays.same_length ∙ (h.stays.same_length ∙ (ap length e1 ∙ length-set dst from.word d));
@@ -116,11 +116,11 @@ module _ {T G : Type 0} (L : GuestLaws G) (options : ℕ) where
       let stopped : Result Spot Fault = Err e in
       let enc : Encoding = encoding_by a options in
       let zeros : AreZero (d ∷ []) (1 + members_flat ms) (1 + cases_flat cs) = λ j l u. omega (arith, get_or_past (d ∷ []) j 0 (omega (arith, l))) in
-      let inner : LowersMembers false (stage_of L.seen L.moves a) (stage_of L.seen L.moves c) (host_texts enc) ms (d ∷ []) 1 (Named ms names vs) h.handles (fault_ending e) =
-      attempt_other false (stage_of L.seen L.moves a) (stage_of L.seen L.moves c) [] _ (members_words false (host_texts enc) ms (d ∷ []) 1 (Named ms names vs)) (fault_ending e) (not_done e) (λ ts have. (have, refl)) h.lowered in
+      let inner : LowersMembers false (stage_of L.seen L.moves a) (stage_of L.seen L.moves c) (host_texts enc) ms (d ∷ []) 1 (MemberNamed ms names vs) h.handles (fault_ending e) =
+      attempt_other false (stage_of L.seen L.moves a) (stage_of L.seen L.moves c) [] _ (members_words false (host_texts enc) ms (d ∷ []) 1 (MemberNamed ms names vs)) (fault_ending e) (not_done e) (λ ts have. (have, refl)) h.lowered in
       let whole : LowersValue false (stage_of L.seen L.moves a) (stage_of L.seen L.moves c) (host_texts enc) (variant k cs) (d ∷ []) 0 (HasTree (variant k cs) v) h.handles (fault_ending e) =
-      variant_words false (stage_of L.seen L.moves a) (stage_of L.seen L.moves c) (host_texts enc) k cs (d ∷ []) 0 d (Named ms names vs) (HasTree (variant k cs) v) (fault_ending e) lt refl few zeros
-      (case_told false enc k cs d names vs v lt of named) (case_untold false enc k cs d names vs v lt of named) inner in
+      variant_words false (stage_of L.seen L.moves a) (stage_of L.seen L.moves c) (host_texts enc) k cs (d ∷ []) 0 d (MemberNamed ms names vs) (HasTree (variant k cs) v) (fault_ending e) lt refl few zeros
+      (value_case_told false enc k cs d names vs v lt of named) (case_untold false enc k cs d names vs v lt of named) inner in
       record {
         handles = h.handles;
         lowered = attempt_other false (stage_of L.seen L.moves a) (stage_of L.seen L.moves c) [] _ (value_words false (host_texts enc) (variant k cs) dst2 from.word (HasTree (variant k cs) v)) (fault_ending e) (not_done e) (λ t has. (has, refl)) whole;
@@ -165,8 +165,8 @@ module _ {T G : Type 0} (L : GuestLaws G) (options : ℕ) where
         (seen.names ∙ ap member_names seen.shapes) e1 given_there (by_case (Err e) h))
 
 -- the words of a case and of its payload are within the type's
-pub case_room : (t : TypeTable) (s : Shape) (v : Val) (c : Case) → IsCaseSeen t s v c → 1 + members_flat (viewed_shapes t c.payload) ≤ flat s
-case_room t s v c h = omega (arith, ap members_flat h.shapes, ap flat h.shape, variant_flat h.kind h.cases, payload_words h.cases c.tag)
+pub value_case_room : (t : TypeTable) (s : Shape) (v : Val) (c : Case) → IsCaseSeen t s v c → 1 + members_flat (viewed_shapes t c.payload) ≤ flat s
+value_case_room t s v c h = omega (arith, ap members_flat h.shapes, ap flat h.shape, variant_flat h.kind h.cases, payload_words h.cases c.tag)
 
 -- ---- words become 0 one after another
 

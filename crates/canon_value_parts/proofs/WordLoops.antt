@@ -32,7 +32,7 @@ module _ {T G : Type 0} (seen : G → Seen) (moves : GuestIn G → List Event �
         → PartsLowerTo seen moves options start z first zs from r place ms names vs
 
 -- the member of number i has room, and its lowering may be called
-pub record HasRoom {T G : Type 0} (now : Parts T G) (dst : List ℕ) (next : Spot) (type : InterfaceType) : Type 0 where
+pub record HasWordRoom {T G : Type 0} (now : Parts T G) (dst : List ℕ) (next : Spot) (type : InterfaceType) : Type 0 where
   pub known : Knows (component_types now) type
   pub room : next.word + flat (shape_of (component_types now) type) ≤ length dst
   pub small : length now.memory ≤ 2 ^ 32
@@ -47,7 +47,7 @@ module _ {T G : Type 0} (L : GuestLaws G) (options place : ℕ) (ms : Members) (
     unfolding flat
     words = ap members_flat is.shapes
 
-    pub has_room : HasRoom now dst next m.ty
+    pub has_room : HasWordRoom now dst next m.ty
     has_room =
         let same : component_types now ≡ component_types start = handles_types start now h.same in
         let count : flat (shape_of (component_types now) m.ty) ≡ flat s = ap (λ (x : TypeTable). flat (shape_of x m.ty)) same in

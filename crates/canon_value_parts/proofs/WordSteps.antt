@@ -49,7 +49,7 @@ use Rattle.canon_model.specs.Leaves.{leaves}
 use Rattle.canon_types.specs.Instance.{Instance}
 use Rattle.canon_value_parts.proofs.Passing.{IsOwn, handles_encoding, handles_instance, handles_then, own_elsewhere, own_ends, passes_as, passes_none, passes_stop, passes_stopped, passes_then}
 use Rattle.canon_value_parts.specs.Resources.{LowersHandles, all_passes, passes}
-use Rattle.canon_value_parts.proofs.StoreSteps.{Named, heads, named_join, named_split, fields_count, product_counts, count_members}
+use Rattle.canon_value_parts.proofs.StoreSteps.{MemberNamed, heads, named_join, named_split, fields_count, product_counts, value_count_members}
 
 -- ---- a value's lists of fixed length are as long as its type says
 
@@ -170,7 +170,7 @@ module _ {T G : Type 0} (L : GuestLaws G) (options : ℕ) where
   unfolding flat requests leaves
   parts_none a dst from place small few = record {
     handles = [];
-    lowered = attempt_none false (stage_of L.seen L.moves a) [] (members_words false (host_texts (encoding_by a options)) no_members dst from.word (Named no_members [] [])) no_trees small (refl, (refl, refl)) (λ ts h. refl) refl (λ pointer rest. refl);
+    lowered = attempt_none false (stage_of L.seen L.moves a) [] (members_words false (host_texts (encoding_by a options)) no_members dst from.word (MemberNamed no_members [] [])) no_trees small (refl, (refl, refl)) (λ ts h. refl) refl (λ pointer rest. refl);
     handed = passes_none a.component.types a.ledger a.ledger [] refl refl;
     stays = stays_none from.word dst;
     passed = omega arith;
@@ -181,10 +181,10 @@ module _ {T G : Type 0} (L : GuestLaws G) (options : ℕ) where
 
   -- the trees of members are a first one and others
   first_and : {hs : List ℕ} (a b : Parts T G) (enc : Encoding) (name named : Name) (s : Shape) (ms : Members) (ws : List ℕ) (i : ℕ) (names : List Name) (v : Val) (vs : List Val) (e : Ending) → named ≡ name
-      → LowersMembers false (stage_of L.seen L.moves a) (stage_of L.seen L.moves b) (host_texts enc) (member name s ms) ws i (FirstAnd (HasTree s v) (Named ms names vs)) hs e
-      → LowersMembers false (stage_of L.seen L.moves a) (stage_of L.seen L.moves b) (host_texts enc) (member name s ms) ws i (Named (member name s ms) (named ∷ names) (v ∷ vs)) hs e
-  first_and a b enc name named s ms ws i names v vs e en h = attempt_as false (stage_of L.seen L.moves a) (stage_of L.seen L.moves b) [] [] (members_words false (host_texts enc) (member name s ms) ws i (FirstAnd (HasTree s v) (Named ms names vs)))
-      (members_words false (host_texts enc) (member name s ms) ws i (Named (member name s ms) (named ∷ names) (v ∷ vs))) e (λ j q. q)
+      → LowersMembers false (stage_of L.seen L.moves a) (stage_of L.seen L.moves b) (host_texts enc) (member name s ms) ws i (FirstAnd (HasTree s v) (MemberNamed ms names vs)) hs e
+      → LowersMembers false (stage_of L.seen L.moves a) (stage_of L.seen L.moves b) (host_texts enc) (member name s ms) ws i (MemberNamed (member name s ms) (named ∷ names) (v ∷ vs)) hs e
+  first_and a b enc name named s ms ws i names v vs e en h = attempt_as false (stage_of L.seen L.moves a) (stage_of L.seen L.moves b) [] [] (members_words false (host_texts enc) (member name s ms) ws i (FirstAnd (HasTree s v) (MemberNamed ms names vs)))
+      (members_words false (host_texts enc) (member name s ms) ws i (MemberNamed (member name s ms) (named ∷ names) (v ∷ vs))) e (λ j q. q)
       (record { turn = λ ts. ts; back = λ ts. ts; is = named_join name named s ms names v vs en; is_back = named_split name named s ms names v vs; asks = λ ts h. refl; rep = λ fresh ts is h. h; home = λ pointer ts xs ys is h. h; handles = λ ts h. refl }) h
 
   pub parts_cons : (a b c : Parts T G) (dst dst2 dst3 : List ℕ) (place : ℕ) (name named : Name) (s : Shape) (ms : Members) (names : List Name) (v : Val) (vs : List Val) (from mid : Spot) (r : Result Spot Fault) → named ≡ name
@@ -193,13 +193,13 @@ module _ {T G : Type 0} (L : GuestLaws G) (options : ℕ) where
   unfolding flat
   parts_cons a b c dst dst2 dst3 place name named s ms names v vs from mid r en h k =
       let enc : Encoding = encoding_by a options in
-      let rest : LowersMembers false (stage_of L.seen L.moves b) (stage_of L.seen L.moves c) (host_texts enc) ms dst3 (from.word + flat s) (Named ms names vs) k.handles (ending_of r) =
-      subst (λ (i : ℕ). LowersMembers false (stage_of L.seen L.moves b) (stage_of L.seen L.moves c) (host_texts enc) ms dst3 i (Named ms names vs) k.handles (ending_of r)) h.passed
-      (subst (λ (x : Encoding). LowersMembers false (stage_of L.seen L.moves b) (stage_of L.seen L.moves c) (host_texts x) ms dst3 mid.word (Named ms names vs) k.handles (ending_of r)) (handles_encoding a b options h.same) k.lowered) in
+      let rest : LowersMembers false (stage_of L.seen L.moves b) (stage_of L.seen L.moves c) (host_texts enc) ms dst3 (from.word + flat s) (MemberNamed ms names vs) k.handles (ending_of r) =
+      subst (λ (i : ℕ). LowersMembers false (stage_of L.seen L.moves b) (stage_of L.seen L.moves c) (host_texts enc) ms dst3 i (MemberNamed ms names vs) k.handles (ending_of r)) h.passed
+      (subst (λ (x : Encoding). LowersMembers false (stage_of L.seen L.moves b) (stage_of L.seen L.moves c) (host_texts x) ms dst3 mid.word (MemberNamed ms names vs) k.handles (ending_of r)) (handles_encoding a b options h.same) k.lowered) in
       record {
         handles = h.handles ++ k.handles;
         lowered = first_and a c enc name named s ms dst3 from.word names v vs (ending_of r) en
-            (members_words_cons false (host_texts enc) name s ms from.word (HasTree s v) (Named ms names vs) dst3 (stage_of L.seen L.moves a) (stage_of L.seen L.moves b) (stage_of L.seen L.moves c) dst2 (ending_of r) (has_fits s v)
+            (members_words_cons false (host_texts enc) name s ms from.word (HasTree s v) (MemberNamed ms names vs) dst3 (stage_of L.seen L.moves a) (stage_of L.seen L.moves b) (stage_of L.seen L.moves c) dst2 (ending_of r) (has_fits s v)
             (first_stay from.word mid.word (flat s) dst2 dst3 h.passed k.stays) h.lowered rest);
         handed = passes_then a.component.types a.ledger b.ledger c.ledger (passes v s) (all_passes ms vs) h.handles k.handles r h.handed
             (subst (λ (i : Instance). LowersHandles i b.ledger c.ledger (all_passes ms vs) k.handles r) (handles_instance a b h.same) k.handed);
@@ -217,7 +217,7 @@ module _ {T G : Type 0} (L : GuestLaws G) (options : ℕ) where
   parts_stop a b dst dst2 place name named s ms names v vs from e en h = record {
     handles = h.handles;
     lowered = first_and a b (encoding_by a options) name named s ms dst2 from.word names v vs (fault_ending e) en
-        (members_words_stop false (host_texts (encoding_by a options)) name s ms from.word (HasTree s v) (Named ms names vs) dst2 (stage_of L.seen L.moves a) (stage_of L.seen L.moves b) dst2 (fault_ending e) (not_done e) h.lowered);
+        (members_words_stop false (host_texts (encoding_by a options)) name s ms from.word (HasTree s v) (MemberNamed ms names vs) dst2 (stage_of L.seen L.moves a) (stage_of L.seen L.moves b) dst2 (fault_ending e) (not_done e) h.lowered);
     handed = passes_stop a.component.types a.ledger b.ledger (passes v s) (all_passes ms vs) e h.handed;
     stays = h.stays;
     passed = tt;
@@ -249,8 +249,8 @@ module _ {T G : Type 0} (L : GuestLaws G) (options : ℕ) where
   members_lower a c dst dst2 from (product k ns) ms names vs v r few e p count given h = record {
     handles = h.handles;
     lowered =
-        product_words false (stage_of L.seen L.moves a) (stage_of L.seen L.moves c) (host_texts (encoding_by a options)) k ns dst2 from.word (Named ns names vs) (HasTree (product k ns) v) (ending_of r) (product_is k ns names vs v p) (product_back k ns names vs v p)
-        (subst (λ (xs : Members). LowersMembers false (stage_of L.seen L.moves a) (stage_of L.seen L.moves c) (host_texts (encoding_by a options)) xs dst2 from.word (Named xs names vs) h.handles (ending_of r)) e h.lowered);
+        product_words false (stage_of L.seen L.moves a) (stage_of L.seen L.moves c) (host_texts (encoding_by a options)) k ns dst2 from.word (MemberNamed ns names vs) (HasTree (product k ns) v) (ending_of r) (product_is k ns names vs v p) (product_back k ns names vs v p)
+        (subst (λ (xs : Members). LowersMembers false (stage_of L.seen L.moves a) (stage_of L.seen L.moves c) (host_texts (encoding_by a options)) xs dst2 from.word (MemberNamed xs names vs) h.handles (ending_of r)) e h.lowered);
     handed = passes_as a.component.types a.ledger c.ledger (all_passes ms vs) (passes v (product k ns)) h.handles r given h.handed;
     stays = h.stays;
     passed = subst (λ (n : ℕ). WordsPassed from n r) (ap members_flat e) h.passed;
@@ -264,14 +264,14 @@ module _ {T G : Type 0} (L : GuestLaws G) (options : ℕ) where
       let named : names ≡ member_names (copies n s) = en ∙ copies_names n s vs enough in
       record {
         handles = h.handles;
-        lowered = fixed_words false (stage_of L.seen L.moves a) (stage_of L.seen L.moves c) (host_texts (encoding_by a options)) n s dst2 from.word (Named (copies n s) names vs) (HasTree (fixed n s) v) (ending_of r)
+        lowered = fixed_words false (stage_of L.seen L.moves a) (stage_of L.seen L.moves c) (host_texts (encoding_by a options)) n s dst2 from.word (MemberNamed (copies n s) names vs) (HasTree (fixed n s) v) (ending_of r)
             (fixed_is n s names vs v enough p) (fixed_back n s names vs v en enough p)
-            (subst (λ (ys : Members). LowersMembers false (stage_of L.seen L.moves a) (stage_of L.seen L.moves c) (host_texts (encoding_by a options)) ys dst2 from.word (Named ys names vs) h.handles (ending_of r)) e h.lowered);
+            (subst (λ (ys : Members). LowersMembers false (stage_of L.seen L.moves a) (stage_of L.seen L.moves c) (host_texts (encoding_by a options)) ys dst2 from.word (MemberNamed ys names vs) h.handles (ending_of r)) e h.lowered);
         handed = passes_as a.component.types a.ledger c.ledger (all_passes ms vs) (passes v (fixed n s)) h.handles r given h.handed;
         stays = h.stays;
         passed = subst (λ (k : ℕ). WordsPassed from k r) (ap members_flat e ∙ copies_flat n s) h.passed;
         counted = fixed_counted (encoding_by a options) n s names vs v from.place (place_after r) enough p
-            (count_members (encoding_by a options) from.place (copies n s) names vs (cap (from.place + 1)) (place_after r) named
+            (value_count_members (encoding_by a options) from.place (copies n s) names vs (cap (from.place + 1)) (place_after r) named
             (subst (λ (ys : Members). FieldsCount (encoding_by a options) from.place ys names vs (cap (from.place + 1)) (place_after r)) e h.counted));
         same = h.same;
         quiet = λ none. h.quiet (ap have_block e ∙ copies_quiet n s none);
@@ -290,5 +290,5 @@ module _ {T G : Type 0} (L : GuestLaws G) (options : ℕ) (a c : Parts T G) (dst
     (h : PartsLowerTo L.seen L.moves options a c dst dst2 from r 0 ms (no_names vs) vs) where
   pub near_lowered : members_flat ms ≤ max_params → length dst ≡ members_flat ms → LowersArgs false (stage_of L.seen L.moves a) (stage_of L.seen L.moves c) (host_texts (encoding_by a options)) ms (HaveTrees ms vs) dst2 h.handles (ending_of r)
   near_lowered near count =
-      args_near false (host_texts (encoding_by a options)) ms (Named ms (no_names vs) vs) (HaveTrees ms vs) (λ ts have. have.1) (λ ts have. (named, have)) (stage_of L.seen L.moves a) (stage_of L.seen L.moves c) dst2 (ending_of r) near (h.stays.same_length ∙ count)
-      (subst (λ (i : ℕ). LowersMembers false (stage_of L.seen L.moves a) (stage_of L.seen L.moves c) (host_texts (encoding_by a options)) ms dst2 i (Named ms (no_names vs) vs) h.handles (ending_of r)) first h.lowered)
+      args_near false (host_texts (encoding_by a options)) ms (MemberNamed ms (no_names vs) vs) (HaveTrees ms vs) (λ ts have. have.1) (λ ts have. (named, have)) (stage_of L.seen L.moves a) (stage_of L.seen L.moves c) dst2 (ending_of r) near (h.stays.same_length ∙ count)
+      (subst (λ (i : ℕ). LowersMembers false (stage_of L.seen L.moves a) (stage_of L.seen L.moves c) (host_texts (encoding_by a options)) ms dst2 i (MemberNamed ms (no_names vs) vs) h.handles (ending_of r)) first h.lowered)

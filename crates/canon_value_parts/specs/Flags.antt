@@ -69,9 +69,9 @@ abbrev pub HasPlace : Marks → ℕ → Type 0
 HasPlace (marks.Bytes memory at) q = at + q < length memory.now
 HasPlace (marks.Words words from) q = from + q < length words.now
 
-abbrev pub HasRoom : Marks → ℕ → Type 0
-HasRoom (marks.Bytes memory at) n = at + flags_size n ≤ length memory.now
-HasRoom (marks.Words words from) n = from + flag_words n ≤ length words.now
+abbrev pub MarksHaveRoom : Marks → ℕ → Type 0
+MarksHaveRoom (marks.Bytes memory at) n = at + flags_size n ≤ length memory.now
+MarksHaveRoom (marks.Words words from) n = from + flag_words n ≤ length words.now
 
 -- the number of n flags
 abbrev pub marked_number : Marks → ℕ → ℕ

@@ -18,7 +18,7 @@ use Rattle.canon_context.specs.Lifter.{Origin}
 use Rattle.canon_context.specs.Told.{Exactly, LiftBlames, ToldAt}
 use Rattle.canon_ledger.specs.Ledger.{LedgerState}
 use Rattle.canon_lowering.specs.Storing.{narrow}
-use Rattle.canon_value_parts.specs.Plan.{parts_of, whole}
+use Rattle.canon_value_parts.specs.Plan.{parts_of, whole_tree}
 use Rattle.canon_value_parts.specs.Resources.{LiftsHandles, all_resources, resources}
 use Rattle.canon_val.specs.Value.{HasScalar, IsLiftedFrom, AreLiftedFrom}
 use Rattle.canon_context.specs.declared.fault.Fault.{Fault}
@@ -91,13 +91,13 @@ module _ (enc : Encoding) (m : Memory) (ws : List ℕ) (from to before after : �
   MembersLiftTo ms (Err e) = LiftBlames (ToldAt (MemberFlatFault enc m ws ms from)) (before < members_flat_reach enc m ws ms from) e
 
   -- the same, where the bytes of their names are charged too
-  abbrev pub AreTaken : Members → List Val → Type 0
-  AreTaken ms vs = (ts : Trees) × MembersFlat (Inside m) false enc m ws ms from ts × AreLiftedFrom ms vs ts × (before ≡ after + (names_length ms + members_cost ms ts)) × (to ≡ from + members_flat ms)
+  abbrev pub AreValuesTaken : Members → List Val → Type 0
+  AreValuesTaken ms vs = (ts : Trees) × MembersFlat (Inside m) false enc m ws ms from ts × AreLiftedFrom ms vs ts × (before ≡ after + (names_length ms + members_cost ms ts)) × (to ≡ from + members_flat ms)
 
   abbrev pub PartsLiftTo : Members → Result (Vec Val Global) Fault → Type 0
-  PartsLiftTo ms (Ok values) = AreTaken ms values.items
+  PartsLiftTo ms (Ok values) = AreValuesTaken ms values.items
   PartsLiftTo ms (Err e) = LiftBlames (ToldAt (MemberFlatFault enc m ws ms from)) (before < names_length ms + members_flat_reach enc m ws ms from) e
 
   -- members of a value of the shape, whatever is made of them: their trees make up what the words represent, and its cost was taken
   abbrev pub ArePartsLifted : Shape → List Val → Type 0
-  ArePartsLifted s vs = (ts : Trees) × RepFlatAt false enc m ws from s (whole s ts) × AreLiftedFrom (parts_of s (length vs)) vs ts × (before ≡ after + cost s (whole s ts)) × (to ≡ from + flat s)
+  ArePartsLifted s vs = (ts : Trees) × RepFlatAt false enc m ws from s (whole_tree s ts) × AreLiftedFrom (parts_of s (length vs)) vs ts × (before ≡ after + cost s (whole_tree s ts)) × (to ≡ from + flat s)

@@ -9,7 +9,7 @@ use Rattle.canon_plan.specs.Element.{IsKnown, list_shape}
 use Rattle.canon_value_parts.specs.Elements.{element_in, list_value}
 use Rattle.canon_value_parts.specs.Fails.{Fails, mismatch, payload_expected, payload_not_expected, unknown_case, wrong_length}
 use Rattle.canon_value_parts.specs.Flags.{IsFlagsType}
-use Rattle.canon_val.specs.Value.{IsCase, IsFixed, IsProduct, member_names, no_names}
+use Rattle.canon_val.specs.Value.{IsCase, IsFixedListValue, IsProduct, member_names, no_names}
 use Rattle.canon_value_parts.specs.View.{HaveKnownTypes, viewed_names, viewed_shapes, viewed_values}
 use Rattle.canon_value_parts.specs.Words.{IsWordOf}
 use Rattle.canon_value_parts.specs.declared.case_view.Case.{Case}
@@ -24,7 +24,7 @@ use Rattle.canon_plan.specs.Plan.{LiesAs, type_of_handle}
 -- the value is of the shape's kind, and these are its members
 abbrev pub HasMembers : Shape → List Name → List Val → Val → Type 0
 HasMembers (product k ms) names vs v = IsProduct k names vs v
-HasMembers (fixed n s) names vs v = (names ≡ no_names vs) × IsFixed vs v
+HasMembers (fixed n s) names vs v = (names ≡ no_names vs) × IsFixedListValue vs v
 HasMembers _ names vs v = ⊥
 
 -- the shape is a variant of these cases, and the value one of them, with its payload

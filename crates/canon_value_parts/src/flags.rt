@@ -18,7 +18,7 @@ ghost use Rattle.canon_value_parts.specs.Resources.{LiftsHandles, resources};
 ghost use Rattle.canon_model.specs.Shape.{Name};
 ghost use Rattle.canon_types.specs.Table.{Knows, shape_of};
 ghost use Rattle.canon_context.specs.Core.{component_types};
-ghost use Rattle.canon_value_parts.specs.Flags.{AreFlags, AreSetInWords, AreUnpaid, HasPlace, HasRoom, IsFlagsType, SetsBit, SomeUnknown, digit_of, flag_names, marked_number, width_of};
+ghost use Rattle.canon_value_parts.specs.Flags.{AreFlags, AreSetInWords, AreUnpaid, HasPlace, MarksHaveRoom, IsFlagsType, SetsBit, SomeUnknown, digit_of, flag_names, marked_number, width_of};
 ghost use Rattle.canon_value_parts.specs.Stores.{StoresTo};
 ghost use Rattle.canon_val.specs.Value.{Occurs};
 ghost use Rattle.canon_value_parts.specs.Words.{LowersTo, WordsWritten};
@@ -273,7 +273,7 @@ pub fn flags_of(
     marks: &Marks<'_>,
 ) -> Result<Val, Fault>
     requires known { Knows types.now (InterfaceType.Flags i) }
-    requires room { HasRoom marks.now (length (flag_names types.now i)) }
+    requires room { MarksHaveRoom marks.now (length (flag_names types.now i)) }
     ensures ok { IfOk result (AreFlags (shape_of types.now (InterfaceType.Flags i)) (marked_number marks.now (length (flag_names types.now i))) fuel.old fuel.new) }
     ensures err { IfErr result (AreUnpaid (shape_of types.now (InterfaceType.Flags i)) (marked_number marks.now (length (flag_names types.now i))) fuel.old) }
     ensures none { IfOk result (λ v. resources v ≡ []) }

@@ -23,7 +23,7 @@ ghost use Rattle.canon_context.specs.declared.fault.Fault.TheVariants as fault;
 ghost use Rattle.canon_plan.specs.Plan.{AreKnown, IsCaseKind, IsVariant, shapes_of};
 ghost use Rattle.canon_value_parts.specs.Plan.{ArePartsLoaded, IsListLoaded};
 
-use canon_bytes::{load_tag, load_u32};
+use canon_bytes::{ends_inside, load_tag, load_u32};
 use canon_context::{At, Fault, Source, charge, charge_each};
 use canon_ledger::Ledger;
 use canon_plan::{
@@ -257,7 +257,6 @@ pub fn load_items(
 ) -> Result<Vec<Val>, Fault>
     requires one_origin { IsOneOrigin source.now }
     requires known { IsKnown source.now.types.now element.now }
-    requires narrow { pointer < 2 ^ 32 }
     requires narrow_length { length < 2 ^ 32 }
     ensures ok { IfOk result (λ vs. IsListLoaded (encoding_of source.now.encoding) (narrow source.now.memory.now) (list_shape source.now.types.now element.now) pointer length fuel.old fuel.new vs.items) }
     ensures err { IfErr result (LiftBlames (Exactly (ItemsFault (encoding_of source.now.encoding) (narrow source.now.memory.now) (list_shape source.now.types.now element.now) (place_of at) pointer length))
@@ -271,7 +270,7 @@ pub fn load_items(
         (element_shape (list_shape source.now.types.now element.now)) pointer length) result }
 {
     let abi = element_abi(source.types, element);
-    if pointer + length * u64::from(abi.size32) > source.memory.len() as u64 {
+    if !ends_inside(source.memory, pointer, length, abi.size32) {
         return Err(Fault::PointerOutOfBounds(at));
     }
     charge_each(fuel, length, element_cost(element))?;

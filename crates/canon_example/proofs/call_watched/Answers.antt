@@ -1,7 +1,7 @@
 use Rattle.std.specs.Prelude.{slice_get}
 use Rattle.canon_func.specs.Call.{dynamic, dynamic_results}
 use Rattle.canon_func.specs.Stores.{callee_of}
-use Rattle.canon_example.proofs.Ticking.{clock_ticked, no_refusal}
+use Rattle.canon_example.proofs.Ticking.{clock_ticked, example_no_refusal}
 use Rattle.canon_example.proofs.Watched.{starts_right}
 use Rattle.canon_example.proofs.call_watched.Goals as goal
 
@@ -15,5 +15,5 @@ pub returns-clause-ticked : goal.returns-clause-ticked
 returns-clause-ticked g c ok clocks notes =
     let store = c.args.store.now in
     let callee = callee_of store c.args.func.now in
-    let called = c.call.ensures.call (no_refusal _ ok) in
+    let called = c.call.ensures.call (example_no_refusal _ ok) in
     clock_ticked _ clocks _ store.core.component (slice_get store.core.component.exports.items c.args.func.now.export) notes _ (dynamic callee c.args.params.now) (dynamic_results callee) _ _ _ _ _ _ _ _ _ _ called.events ok called.added called.so

@@ -1,4 +1,5 @@
-use Rattle.std.proofs.Common.{ap, arith, false, length, subst, sym, ℕ, ◌%◌, ◌∙◌, ◌≡◌}
+use Rattle.std.proofs.Common.{ap, arith, false, length, subst, sym, ℕ, ◌%◌, ◌*◌, ◌+◌, ◌<◌, ◌∙◌, ◌≡◌}
+use Rattle.std.proofs.lemmas.Bool.{leb-false}
 use Rattle.std.proofs.lemmas.List.{get_or_default}
 use Rattle.std.specs.Prelude.{slice_index}
 use Rattle.canon_context.specs.Core.{component_types}
@@ -34,14 +35,15 @@ returns-then-at-from-ne0-clause-lifts g c =
     area_misaligned g.V.Lift.reading (setting_in core c.args.cx.now.options) c.args.src.now (product of_places ms) core.ledger c.args.cx.now.fuel c.from-at.result there
     (subst (λ (n : ℕ). c.from-at.result % n ≡ 0 → ⊥) by_align c.if-at-from-ne0.true)
 
-pub returns-then-at-from-clause-lifts : goal.returns-then-at-from-clause-lifts
+pub returns-then-not-ends_inside-clause-lifts : goal.returns-then-not-ends_inside-clause-lifts
 unfolding align
-returns-then-at-from-clause-lifts g c =
+returns-then-not-ends_inside-clause-lifts g c =
     let core = c.args.cx.now.core.now in
     let ms = tuple_members (component_types core) c.args.ty in
-    let is = shape g (goal.at.returns-then-at-from-clause-lifts g c).After-tuple in
+    let is = shape g (goal.at.returns-then-not-ends_inside-clause-lifts g c).After-tuple in
     let found : c.index-src-0.result ≡ slice_index c.args.src.now 0 = c.index-src-0.is ∙ get_or_default c.args.src.now 0 _ 0 (omega (arith, c.requires.word)) in
     let there : c.from-at.result ≡ low (slice_index c.args.src.now 0) = c.from-at.ensures ∙ (c.get_u32.ensures ∙ ap low found) in
-    let by_size : c.from-2.result ≡ size false (product of_places ms) = c.from-2.ensures ∙ tuple_size _ _ _ c.tuple.ensures.abi is in
+    let by_size : c.tuple.result.now.abi.size32 ≡ size false (product of_places ms) = tuple_size _ _ _ c.tuple.ensures.abi is in
+    let outside : length c.memory.result.now < c.from-at.result + 1 * c.tuple.result.now.abi.size32 = leb-false _ _ (sym c.ends_inside.ensures ∙ c.if-not-ends_inside.true) in
     area_outside g.V.Lift.reading (setting_in core c.args.cx.now.options) c.args.src.now (product of_places ms) core.ledger c.args.cx.now.fuel c.from-at.result there
-    (subst (λ (n : ℕ). c.from-at.result % n ≡ 0) (c.from.ensures ∙ tuple_align _ _ _ c.tuple.ensures.abi is) c.if-at-from-ne0.false) (λ inside. omega (arith, inside, by_size, c.if-at-from.true, ap length c.memory.ensures))
+    (subst (λ (n : ℕ). c.from-at.result % n ≡ 0) (c.from.ensures ∙ tuple_align _ _ _ c.tuple.ensures.abi is) c.if-at-from-ne0.false) (λ inside. omega (arith, inside, by_size, outside, ap length c.memory.ensures))

@@ -4,7 +4,7 @@ use Rattle.canon_context.specs.Core.{component_types}
 use Rattle.canon_host.proofs.Importing.{faults, found_import, refuses}
 use Rattle.canon_host.specs.Forms.{MayGiveValues}
 use Rattle.canon_host.specs.HostSide.{gives_unlogged}
-use Rattle.canon_example.proofs.Unlogged.{unlogged}
+use Rattle.canon_host.proofs.Unlogged.{unlogged}
 use Rattle.canon_example.proofs.imported.serve_by.Goals as goal
 
 pub returns-in-Ok-clause-serves : goal.returns-in-Ok-clause-serves

@@ -8,7 +8,7 @@ use Rattle.canon_host.specs.HostSide.{host_side}
 use Rattle.canon_func.specs.Asks.{allowed}
 use Rattle.canon_func.specs.Call.{LivesUntil, OnAnswered}
 use Rattle.canon_func.specs.Runs.{Leg}
-use Rattle.canon_func.specs.Steps.{Serves, Serving, Stepping}
+use Rattle.canon_func.specs.Steps.{ServesAsk, Serving, Stepping}
 use Rattle.canon_func.specs.Stores.{export_callee}
 use Rattle.canon_func.proofs.Asking.{but_host, has_exhausted, has_returned, has_stopped, not_started, side_same, then_host}
 use Rattle.canon_func.proofs.Composed.{retyped}
@@ -79,9 +79,9 @@ returns-in-Err-serve-clause-did g c =
     subst (λ ws. Stepping gives callee limits before_lives words (moment_of seen before) (moment_of seen mid) host served c.loop.counter (step.Import index ws)) (sym c.as_slice.ensures)
     (subst (λ st. Stepping gives callee limits before_lives words (moment_of seen before) (moment_of seen mid) host served c.loop.counter st) c.in-Import.is c.loop.invariant.stepping) in
     let N : List Event → Type 0 = λ es. OnAnswered {T = Step} (Err e) (moves (guest_of mid) es (guest_of after)) in
-    let one : Serving (moment_of seen mid) (moment_of seen after) N (Serves gives callee before.fuel index asked (moment_of seen mid) (moment_of seen after) served left (Err e)) =
-    subst (λ p. Serving (moment_of seen mid) (moment_of seen after) N (Serves (imports.gives p) callee before.fuel index asked (moment_of seen mid) (moment_of seen after) served left (Err e))) c.loop.invariant.plan
-    (subst (λ q. Serving (moment_of seen mid) (moment_of seen after) N (Serves (imports.gives (imports.plan j)) (export_callee q.component c.args.export.now) q.fuel index asked (moment_of seen mid) (moment_of seen after) served left (Err e)))
+    let one : Serving (moment_of seen mid) (moment_of seen after) N (ServesAsk gives callee before.fuel index asked (moment_of seen mid) (moment_of seen after) served left (Err e)) =
+    subst (λ p. Serving (moment_of seen mid) (moment_of seen after) N (ServesAsk (imports.gives p) callee before.fuel index asked (moment_of seen mid) (moment_of seen after) served left (Err e))) c.loop.invariant.plan
+    (subst (λ q. Serving (moment_of seen mid) (moment_of seen after) N (ServesAsk (imports.gives (imports.plan j)) (export_callee q.component c.args.export.now) q.fuel index asked (moment_of seen mid) (moment_of seen after) served left (Err e)))
     c.loop.invariant.same c.in-Err-serve.ensures.did) in
     has_stopped gives callee limits (LivesUntil {U = List ℕ} g.G.Guest.seen g.G.Guest.moves (guest_of before) (guest_of after) (Err e)) words (moment_of seen before) host (moment_of seen mid) (moment_of seen after) served left
     before_lives N
@@ -115,9 +115,9 @@ loop-preserved g c =
     subst (λ ws. Stepping gives callee limits before_lives words (moment_of seen before) (moment_of seen mid) host served c.loop.counter (step.Import index ws)) (sym c.as_slice.ensures)
     (subst (λ st. Stepping gives callee limits before_lives words (moment_of seen before) (moment_of seen mid) host served c.loop.counter st) c.in-Import.is c.loop.invariant.stepping) in
     let did = c.in-Ok-serve.ensures.did in
-    let one : Serves gives callee before.fuel index asked (moment_of seen mid) (moment_of seen after) served left (Ok next) did.answers did.events =
-    subst (λ p. Serves (imports.gives p) callee before.fuel index asked (moment_of seen mid) (moment_of seen after) served left (Ok next) did.answers did.events) c.loop.invariant.plan
-    (subst (λ q. Serves (imports.gives (imports.plan j)) (export_callee q.component c.args.export.now) q.fuel index asked (moment_of seen mid) (moment_of seen after) served left (Ok next) did.answers did.events)
+    let one : ServesAsk gives callee before.fuel index asked (moment_of seen mid) (moment_of seen after) served left (Ok next) did.answers did.events =
+    subst (λ p. ServesAsk (imports.gives p) callee before.fuel index asked (moment_of seen mid) (moment_of seen after) served left (Ok next) did.answers did.events) c.loop.invariant.plan
+    (subst (λ q. ServesAsk (imports.gives (imports.plan j)) (export_callee q.component c.args.export.now) q.fuel index asked (moment_of seen mid) (moment_of seen after) served left (Ok next) did.answers did.events)
     c.loop.invariant.same did.so) in
     record {
       same = then_host before mid after c.loop.invariant.same c.in-Ok-serve.ensures.same;

@@ -6,7 +6,7 @@ use Rattle.canon_memory.specs.declared.guest.Step.{Step}
 use Rattle.canon_host.specs.HostSide.{host_side}
 use Rattle.canon_func.specs.Asks.{builtin_of, import_words}
 use Rattle.canon_func.specs.Call.{OnAnswered}
-use Rattle.canon_func.specs.Steps.{Serves}
+use Rattle.canon_func.specs.Steps.{ServesAsk}
 use Rattle.canon_func.specs.Stores.{export_callee}
 use Rattle.canon_func.specs.declared.asks.Builtin.TheVariants as builtin
 use Rattle.canon_func.specs.declared.error.Error.TheVariants as error
@@ -23,7 +23,7 @@ returns-in_default-clause-did g c =
     let found : c.import_at.result ≡ slice_get core.component.imports.items c.args.index = c.import_at.ensures.found ∙ ap (λ (k : Component). slice_get k.imports.items c.args.index) c.component.ensures.component in
     let none : slice_get core.component.imports.items c.args.index ≡ None = sym found ∙ c.in_default.is in
     nothing (seen core.guest) core.memory (λ es. OnAnswered {T = Step} (Err (error.UnknownImport c.args.index)) (g.G.Guest.moves (guest_of core) es (guest_of core)))
-    (λ answers es. Serves (imports.gives (imports.plan i)) (export_callee core.component c.args.export.now) core.fuel c.args.index c.args.words.now (moment_of seen core) (moment_of seen core) host host (Err (error.UnknownImport c.args.index)) answers es)
+    (λ answers es. ServesAsk (imports.gives (imports.plan i)) (export_callee core.component c.args.export.now) core.fuel c.args.index c.args.words.now (moment_of seen core) (moment_of seen core) host host (Err (error.UnknownImport c.args.index)) answers es)
     (g.met.G.Guest.stays (guest_of core)) (None, (refl, none, refl, none_asked core.memory), refl, tt, tt)
 
 pub returns-then-words-words_of-clause-did : goal.returns-then-words-words_of-clause-did
@@ -38,7 +38,7 @@ returns-then-words-words_of-clause-did g c =
     let found : c.import_at.result ≡ slice_get core.component.imports.items c.args.index = c.import_at.ensures.found ∙ ap (λ (k : Component). slice_get k.imports.items c.args.index) c.component.ensures.component in
     let wanted : c.words_of.result ≡ import_words callee called = c.words_of.ensures c.args.export.now ∙ ap (λ k. import_words (export_callee k c.args.export.now) called) c.component-2.ensures.component in
     nothing (seen core.guest) core.memory (λ es. OnAnswered {T = Step} (Err error.WrongWords) (g.G.Guest.moves (guest_of core) es (guest_of core)))
-    (λ answers es. Serves (imports.gives (imports.plan i)) callee core.fuel c.args.index c.args.words.now (moment_of seen core) (moment_of seen core) host host (Err error.WrongWords) answers es)
+    (λ answers es. ServesAsk (imports.gives (imports.plan i)) callee core.fuel c.args.index c.args.words.now (moment_of seen core) (moment_of seen core) host host (Err error.WrongWords) answers es)
     (g.met.G.Guest.stays (guest_of core)) (None, (called, sym found ∙ c.in-Some.is, (λ same. c.if-words-words_of.true (same ∙ sym wanted)), refl, none_asked core.memory), refl, tt, tt)
 
 pub serve_builtin-requires-clause-asked : goal.serve_builtin-requires-clause-asked

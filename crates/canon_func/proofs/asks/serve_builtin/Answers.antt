@@ -10,7 +10,7 @@ use Rattle.canon_host.specs.HostSide.{host_side}
 use Rattle.canon_func.specs.Asks.{ask_step, builtin_step}
 use Rattle.canon_func.specs.Call.{OnAnswered}
 use Rattle.canon_func.specs.HostAsks.{asked_error}
-use Rattle.canon_func.specs.Steps.{Proceeds, Resumed, Serves, Serving}
+use Rattle.canon_func.specs.Steps.{Proceeds, Resumed, ServesAsk, Serving}
 use Rattle.canon_func.specs.Stores.{export_callee}
 use Rattle.canon_func.proofs.Asking.{builtin_resumed, first_word, nothing, refused_step, side_ledger_same, side_same}
 use Rattle.canon_func.proofs.Composed.{answers}
@@ -40,7 +40,7 @@ returns-in-Ok-clause-did g c =
     let did : Proceeds (moment_of seen core) (moment_of seen after) M (Resumed (answer ∷ []) (moment_of seen core) (moment_of seen after) result) =
     subst (λ k. Proceeds (moment_of seen k) (moment_of seen after) (λ es. OnAnswered result (moves (guest_of k) es (guest_of after))) (Resumed (answer ∷ []) (moment_of seen k) (moment_of seen after) result)) c.in-Ok.ensures.same
     (subst (λ n. Proceeds (moment_of seen mid) (moment_of seen after) (λ es. OnAnswered result (moves (guest_of mid) es (guest_of after))) (Resumed (n ∷ []) (moment_of seen mid) (moment_of seen after) result)) c.u64.ensures c.resume.ensures.did) in
-    subst (λ k. Serving (moment_of seen core) (moment_of seen after) M (Serves (imports.gives (imports.plan i)) callee core.fuel c.args.index words (moment_of seen core) (moment_of seen after) host k result)) (sym (side_same mid after (imports.log i) (imports.refusals i) c.resume.ensures.same))
+    subst (λ k. Serving (moment_of seen core) (moment_of seen after) M (ServesAsk (imports.gives (imports.plan i)) callee core.fuel c.args.index words (moment_of seen core) (moment_of seen after) host k result)) (sym (side_same mid after (imports.log i) (imports.refusals i) c.resume.ensures.same))
     (builtin_resumed (imports.gives (imports.plan i)) callee core.fuel c.args.index words (moment_of seen core) (moment_of seen after) host stepped called c.requires.asked answer result M (done_is (ask_step callee.types called words core.ledger) (Ok answer) mid.ledger step.0 step.1)
     (side_ledger_same core mid (imports.log i) (imports.refusals i) c.in-Ok.ensures.same) did)
 
@@ -64,11 +64,11 @@ returns-in-Err-clause-did g c =
     let word : c.get_u32.result ≡ low (slice_index words 0) = c.get_u32.ensures ∙ ap low (first_word words c.index-words-0.result c.requires.asked.one c.index-words-0.is) in
     let step : Did (ask_step callee.types called words core.ledger) (Err r) core.ledger mid.ledger =
     subst (λ w. Did (do_step (builtin_step core.component.types called w) core.ledger) (Err r) core.ledger mid.ledger) word c.in-Err.ensures.step in
-    subst (λ d. Serving (moment_of seen core) (moment_of seen mid) (λ es. OnAnswered {T = Step} (Err d) (moves (guest_of core) es (guest_of mid))) (Serves gives callee core.fuel index words (moment_of seen core) (moment_of seen mid) host (host_side mid (imports.log i) (imports.refusals i)) (Err d)))
+    subst (λ d. Serving (moment_of seen core) (moment_of seen mid) (λ es. OnAnswered {T = Step} (Err d) (moves (guest_of core) es (guest_of mid))) (ServesAsk gives callee core.fuel index words (moment_of seen core) (moment_of seen mid) host (host_side mid (imports.log i) (imports.refusals i)) (Err d)))
     (sym c.asked_error.ensures)
-    (subst (λ k. Serving (moment_of seen core) (moment_of seen k) (λ es. OnAnswered {T = Step} (Err e) (moves (guest_of core) es (guest_of k))) (Serves gives callee core.fuel index words (moment_of seen core) (moment_of seen k) host (host_side k (imports.log i) (imports.refusals i)) (Err e)))
+    (subst (λ k. Serving (moment_of seen core) (moment_of seen k) (λ es. OnAnswered {T = Step} (Err e) (moves (guest_of core) es (guest_of k))) (ServesAsk gives callee core.fuel index words (moment_of seen core) (moment_of seen k) host (host_side k (imports.log i) (imports.refusals i)) (Err e)))
     (sym c.in-Err.ensures.same)
     (nothing (seen core.guest) core.memory (λ es. OnAnswered {T = Step} (Err e) (moves (guest_of core) es (guest_of core)))
-    (Serves gives callee core.fuel index words (moment_of seen core) (moment_of seen core) host left (Err e))
+    (ServesAsk gives callee core.fuel index words (moment_of seen core) (moment_of seen core) host left (Err e))
     (answers {T = Step} (Err e) (moves (guest_of core) [] (guest_of core)) (g.met.G.Guest.stays (guest_of core)))
     (refused_step gives callee core.fuel index words (moment_of seen core) host left called c.requires.asked refl r step)))

@@ -4,7 +4,7 @@ use Rattle.canon_host.specs.HostSide.{host_side}
 use Rattle.canon_func.specs.Asks.{allowed}
 use Rattle.canon_func.specs.Steps.{map_ok}
 use Rattle.canon_func.specs.Stores.{export_callee}
-use Rattle.canon_func.proofs.Starting.{Within, entered, unentered}
+use Rattle.canon_func.proofs.Starting.{Within, call_entered, unentered}
 use Rattle.canon_func.proofs.call.call_core.Goals as goal
 
 pub returns-in-Ok-clause-call : goal.returns-in-Ok-clause-call
@@ -23,7 +23,7 @@ returns-in-Ok-clause-call g c =
     let left = host_side after (imports.log j) (imports.refusals j) in
     let callee = export_callee before.component c.args.export.now in
     let limits = allowed before.fuel c.args.turns in
-    entered (g.P.Params.args params callee) (g.R.Results.returns callee c.args.export.now.options before.id) gives callee limits seen moves g.G.Guest.leaves (imports.log i) (imports.refusals i) result (map_ok g.R.Results.out result) before mid after left c.in-Ok.ensures.same c.in-Ok.ensures.ok.1
+    call_entered (g.P.Params.args params callee) (g.R.Results.returns callee c.args.export.now.options before.id) gives callee limits seen moves g.G.Guest.leaves (imports.log i) (imports.refusals i) result (map_ok g.R.Results.out result) before mid after left c.in-Ok.ensures.same c.in-Ok.ensures.ok.1
     (subst (λ k. let d = export_callee k.component c.args.export.now in
     Within (g.P.Params.args params d) (g.R.Results.returns d c.args.export.now.options k.id) gives d (allowed k.fuel c.args.turns) seen moves g.G.Guest.leaves (imports.log i) (imports.refusals i) result (map_ok g.R.Results.out result) mid after left)
     c.in-Ok.ensures.same c.call_in_scope.ensures.call)

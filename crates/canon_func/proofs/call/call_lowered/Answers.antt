@@ -8,7 +8,7 @@ use Rattle.canon_func.specs.Call.{LivesUntil, OnAnswered}
 use Rattle.canon_func.specs.Steps.{Lifted, Posted, Proceeds, map_ok}
 use Rattle.canon_func.specs.Stores.{export_callee}
 use Rattle.canon_func.proofs.Composed.{run_refused}
-use Rattle.canon_func.proofs.Finishing.{completed, failed, may_leave, unlifted}
+use Rattle.canon_func.proofs.Finishing.{completed, failed, may_leave, call_unlifted}
 use Rattle.canon_func.proofs.Lived.{lives_retyped}
 use Rattle.canon_func.proofs.call.call_lowered.Goals as goal
 
@@ -38,7 +38,7 @@ returns-in-Err-lift-clause-did g c =
     let lifted = c.lift.new.core in
     let callee = export_callee before.component c.args.export.now in
     let result : Result g.row.R.Denot Fault = Err c.in-Err-lift.fault in
-    unlifted (g.R.Results.returns callee c.args.export.now.options before.id) (imports.gives (imports.plan i)) callee (allowed before.fuel c.args.turns) g.G.Guest.seen g.G.Guest.moves g.G.Guest.leaves c.args.words.now before ran
+    call_unlifted (g.R.Results.returns callee c.args.export.now.options before.id) (imports.gives (imports.plan i)) callee (allowed before.fuel c.args.turns) g.G.Guest.seen g.G.Guest.moves g.G.Guest.leaves c.args.words.now before ran
     (host_side before (imports.log i) (imports.refusals i))
     (imports.log j) (imports.refusals j) c.in-Ok.returned (g.met.R.Results.law callee c.args.export.now.options before.id) g.met.G.Guest.goes_on c.in-Ok.ensures.did lifted c.in-Err-lift.ensures.same g.row.R.Denot c.in-Err-lift.fault g.met.G.Guest.stays
     (subst (λ k. Lifted (g.R.Results.returns (export_callee k.component c.args.export.now) c.args.export.now.options k.id) k.fuel c.in-Ok.returned ran.memory ran.ledger lifted.ledger (map_ok g.R.Results.out result)) c.run.ensures.same

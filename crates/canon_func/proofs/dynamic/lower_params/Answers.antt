@@ -6,7 +6,7 @@ use Rattle.canon_context.proofs.Moves.{GuestLaws, moved_by}
 use Rattle.canon_lowering.proofs.Lowerings.{unless}
 use Rattle.canon_func.specs.Call.{OnAnswered, words_within}
 use Rattle.canon_func.specs.declared.error.Error.TheVariants as error
-use Rattle.canon_func.proofs.Lowered.{ended_moves, lowered_done, lowered_refused, params_are, written}
+use Rattle.canon_func.proofs.Lowered.{ended_moves, lowered_done, lowered_refused, params_are, call_written}
 use Rattle.canon_func.proofs.dynamic.lower_params.Goals as goal
 
 pub returns-in-Ok-clause-lowered : goal.returns-in-Ok-clause-lowered
@@ -16,7 +16,7 @@ returns-in-Ok-clause-lowered g c =
     let after = c.lower_into.new.core in
     let f = c.func.result.now in
     let same : c.types-types.result.now ≡ component_types before = c.types-types.ensures ∙ ap (λ k. k.types.types) c.component.ensures.component in
-    let all = written c.in_ok-words.words.items c.lower_into.new.words c.in_ok-words.words.len (omega (arith, c.deref_mut.ensures.len, c.lower_into.auto.words)) in
+    let all = call_written c.in_ok-words.words.items c.lower_into.new.words c.in_ok-words.words.len (omega (arith, c.deref_mut.ensures.len, c.lower_into.auto.words)) in
     let counted : words_within max_params (tuple_members c.types-types.result.now f.params) ≡ words_within max_params (tuple_members (component_types before) f.params) =
     ap (λ (t : TypeTable). words_within max_params (tuple_members t f.params)) same in
     let low = c.in-Ok.ensures.lowers in

@@ -1,6 +1,6 @@
 use Rattle.std.proofs.Common.{◌≡◌, ◌∙◌, Err, None, Option, sym}
 use Rattle.serde_json.specs.View.{view}
-use Rattle.canon_json.specs.Json.{Gives}
+use Rattle.canon_json.specs.Json.{ReadsAs}
 use Rattle.canon_json.specs.declared.error.ScriptError.{ScriptError}
 use Rattle.canon_json.specs.declared.error.ScriptError.TheVariants as refused
 use Rattle.canon_script.specs.Script.{Play, play_of}
@@ -8,7 +8,7 @@ use Rattle.canon_script.specs.declared.script.Script.{Script}
 use Rattle.canon_gen.proofs.Common.{common_is_some, common_read}
 use Rattle.canon_gen.proofs.made.common.Goals as goal
 
-no_script : (e : ScriptError) (o : Option Play) → e ≡ refused.BadScript → Gives {X = Script} play_of (Err e) o → o ≡ None
+no_script : (e : ScriptError) (o : Option Play) → e ≡ refused.BadScript → ReadsAs {X = Script} play_of (Err e) o → o ≡ None
 no_script refused.BadScript o is h = h
 no_script refused.OutOfMemory o is h = absurd (cc)
 

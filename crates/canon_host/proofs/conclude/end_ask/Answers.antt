@@ -1,5 +1,5 @@
 use Rattle.canon_ledger.specs.Ledger.{leave}
-use Rattle.canon_host.proofs.Leaving.{ended_leaves}
+use Rattle.canon_ledger.proofs.LeavingLemmas.{ended_leaves}
 use Rattle.canon_host.proofs.Serving.{with_ledger}
 use Rattle.canon_host.proofs.conclude.end_ask.Goals as goal
 

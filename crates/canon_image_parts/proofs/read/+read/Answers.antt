@@ -17,7 +17,7 @@ use Rattle.canon_value_parts.proofs.Walks.{copies_no_handle, copies_deepest}
 use Rattle.canon_image_parts.proofs.CaseReading.{case_cut, case_falls, case_none, payload_no_handle, payload_count, tag_here}
 use Rattle.canon_image_parts.proofs.Fetching.{left_short}
 use Rattle.canon_image_parts.proofs.PairsReading.{PairsAreRead, key_stop, map_read, map_stops, pair_read, pairs_begin, pairs_done, value_stop}
-use Rattle.canon_image_parts.proofs.Reading.{AreRead, PartsRead, all_read, begin_read, case_read, case_stopped, items_read, items_stop, member_read, whole_count, whole_read, whole_stops}
+use Rattle.canon_image_parts.proofs.Reading.{AreRead, PartsRead, all_read, begin_read, image_case_read, image_case_stopped, items_read, items_stop, member_read, whole_count, whole_read, whole_stops}
 use Rattle.canon_image_parts.proofs.PairsWriting.{map_parts}
 use Rattle.canon_image_parts.proofs.Writing.{member_no_handle}
 use Rattle.canon_image_parts.specs.Read.{StopsFrom}
@@ -214,7 +214,7 @@ read_case-returns-in-Ok-rebuild_case t c =
     let here = tag_here a.bytes.now a.at.now n w d width room (λ i. omega (arith, c.type_inv.bytes i)) (c.load_tag-tag.ensures ∙ ap (λ (j : ℕ). num (narrow a.bytes.now) a.at.now j) c.requires.info.size) in
     let parts = subst (λ (ms : Members). PartsRead a.bytes.now (a.at.now + n) c.read_parts.new.at ms c.in-Ok.values.items) c.in-Some.ensures.shapes c.in-Ok.ensures.reads in
     record {
-      reads = case_read a.bytes.now a.at.now (a.at.now + n) c.read_parts.new.at d s kind c.in-Ok.values.items c.in-Ok-rebuild_case.value is c.in-Some.ensures.there here.0 here.1 parts c.in-Ok-rebuild_case.ensures.ok;
+      reads = image_case_read a.bytes.now a.at.now (a.at.now + n) c.read_parts.new.at d s kind c.in-Ok.values.items c.in-Ok-rebuild_case.value is c.in-Some.ensures.there here.0 here.1 parts c.in-Ok-rebuild_case.ensures.ok;
     }
 
 pub read_case-returns-in-Err : goal.read_case-returns-in-Err
@@ -229,7 +229,7 @@ read_case-returns-in-Err t c =
     let d = c.load_tag-tag.result in
     let here = tag_here a.bytes.now a.at.now n w d width room (λ i. omega (arith, c.type_inv.bytes i)) (c.load_tag-tag.ensures ∙ ap (λ (j : ℕ). num (narrow a.bytes.now) a.at.now j) c.requires.info.size) in
     let stops = subst (λ (ms : Members). StopsFrom (MembersStop ms (drop (a.at.now + n) a.bytes.now)) (a.at.now + n) c.in-Err.error) c.in-Some.ensures.shapes c.in-Err.ensures.reads in
-    record { reads = case_stopped a.bytes.now a.at.now (a.at.now + n) c.read_parts.new.at d s kind c.in-Err.error is here.0 here.1 stops }
+    record { reads = image_case_stopped a.bytes.now a.at.now (a.at.now + n) c.read_parts.new.at d s kind c.in-Err.error is here.0 here.1 stops }
 
 -- ---- a value
 

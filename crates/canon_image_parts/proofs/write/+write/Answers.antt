@@ -12,8 +12,8 @@ use Rattle.canon_value_parts.proofs.WalkCases.{case_wants}
 use Rattle.canon_value_parts.proofs.WalkLoops.{member_shallow}
 use Rattle.canon_value_parts.proofs.Walks.{copies_no_handle, copies_deepest}
 use Rattle.canon_value_parts.proofs.Steps.{blocks_none}
-use Rattle.canon_image_parts.proofs.PairsWriting.{key_stops, map_parts, map_told, pair_goes_on, pair_here, pairs_end, value_stops}
-use Rattle.canon_image_parts.proofs.Writing.{case_told, end, go_on, items_told, member_no_handle, members_written, misnamed, parts_told, refused, seen_no_handle, stop}
+use Rattle.canon_image_parts.proofs.PairsWriting.{key_stops, map_parts, map_told, pair_goes_on, pair_here, image_pairs_end, value_stops}
+use Rattle.canon_image_parts.proofs.Writing.{image_case_told, image_end, image_go_on, items_told, member_no_handle, members_written, image_misnamed, image_parts_told, refused, seen_no_handle, image_stop}
 use Rattle.canon_image_parts.proofs.write.+write.Goals as goal
 
 -- ---- a case
@@ -29,7 +29,7 @@ pub write_case-returns-in-Ok : goal.write_case-returns-in-Ok
 write_case-returns-in-Ok t c =
     let a = c.args in
     record {
-      writes = case_told a.types.now a.bytes.now.items c.put_number.new.bytes.items c.write_parts.new.bytes.items a.place c.byte_size-size.result c.from.result c.saturating_add.result (shape_of a.types.now a.ty.now) a.case.now a.value.now
+      writes = image_case_told a.types.now a.bytes.now.items c.put_number.new.bytes.items c.write_parts.new.bytes.items a.place c.byte_size-size.result c.from.result c.saturating_add.result (shape_of a.types.now a.ty.now) a.case.now a.value.now
           c.write_parts.result c.requires.seen c.byte_size-size.ensures c.from.ensures c.in-Ok.ensures.ok c.saturating_add.ensures c.write_parts.ensures.writes;
     }
 
@@ -114,7 +114,7 @@ write_pairs-returns t c =
     let m = c.map-map.result.now in
     let all : c.loop-key.key-index ≡ length a.pairs.now.items = omega (arith, c.loop-key-test.false, c.loop-key.auto.key-index-end, ap length c.deref-key-items.ensures.value) in
     record {
-      writes = pairs_end a.bytes.now.items _ (shape_of a.types.now m.key) (shape_of a.types.now m.value) (ap element_shape (map_shape a.types.now a.i m c.map-map.ensures.entry)) a.pairs.now.items a.first c.loop-key.bytes.items c.loop-key.next
+      writes = image_pairs_end a.bytes.now.items _ (shape_of a.types.now m.key) (shape_of a.types.now m.value) (ap element_shape (map_shape a.types.now a.i m c.map-map.ensures.entry)) a.pairs.now.items a.first c.loop-key.bytes.items c.loop-key.next
           c.loop-key.key-index c.loop-key.invariant.written all;
     }
 
@@ -125,7 +125,7 @@ write_parts-returns-then-not-member t c =
     let a = c.args in
     let ms = a.members.now in
     record {
-      writes = misnamed a.bytes.now.items a.place (viewed_shapes a.types.now ms) (viewed_names ms) (viewed_values ms) a.first c.loop-k.bytes.items c.loop-k.next c.loop-k.k c.loop-k.invariant.written a.types.now c.member_of-member.result c.member_of-member.ensures
+      writes = image_misnamed a.bytes.now.items a.place (viewed_shapes a.types.now ms) (viewed_names ms) (viewed_values ms) a.first c.loop-k.bytes.items c.loop-k.next c.loop-k.k c.loop-k.invariant.written a.types.now c.member_of-member.result c.member_of-member.ensures
           (λ h. blocks_none _ h c.if-not-member.true);
     }
 
@@ -142,7 +142,7 @@ write_parts-returns-in-Err t c =
     let a = c.args in
     let ms = a.members.now in
     record {
-      writes = stop a.bytes.now.items a.place (viewed_shapes a.types.now ms) (viewed_names ms) (viewed_values ms) a.first c.loop-k.bytes.items c.loop-k.next c.loop-k.k c.loop-k.invariant.written a.types.now c.member_of-member.result c.member_of-member.ensures
+      writes = image_stop a.bytes.now.items a.place (viewed_shapes a.types.now ms) (viewed_names ms) (viewed_values ms) a.first c.loop-k.bytes.items c.loop-k.next c.loop-k.k c.loop-k.invariant.written a.types.now c.member_of-member.result c.member_of-member.ensures
           c.write_value.new.bytes.items c.in-Err.fault c.in-Err.ensures.writes;
     }
 
@@ -151,7 +151,7 @@ write_parts-loop-k-preserved t c =
     let a = c.args in
     let ms = a.members.now in
     record {
-      written = go_on a.bytes.now.items a.place (viewed_shapes a.types.now ms) (viewed_names ms) (viewed_values ms) a.first c.loop-k.bytes.items c.loop-k.next c.loop-k.k c.loop-k.invariant.written a.types.now c.member_of-member.result c.member_of-member.ensures
+      written = image_go_on a.bytes.now.items a.place (viewed_shapes a.types.now ms) (viewed_names ms) (viewed_values ms) a.first c.loop-k.bytes.items c.loop-k.next c.loop-k.k c.loop-k.invariant.written a.types.now c.member_of-member.result c.member_of-member.ensures
           c.write_value.new.bytes.items c.in-Ok.after c.if-not-member.false (omega (arith, c.in-Ok.ensures.writes.counted)) c.in-Ok.ensures.writes;
     }
 
@@ -161,7 +161,7 @@ write_parts-returns t c =
     let ms = a.members.now in
     let all : c.loop-k.k ≡ length (viewed_values ms) = omega (arith, c.loop-k-test.false, c.loop-k.auto.k-end, c.count_of-k-end.ensures) in
     record {
-      writes = end a.bytes.now.items a.place (viewed_shapes a.types.now ms) (viewed_names ms) (viewed_values ms) a.first c.loop-k.bytes.items c.loop-k.next c.loop-k.k c.loop-k.invariant.written (all ∙ c.requires.count)
+      writes = image_end a.bytes.now.items a.place (viewed_shapes a.types.now ms) (viewed_names ms) (viewed_values ms) a.first c.loop-k.bytes.items c.loop-k.next c.loop-k.k c.loop-k.invariant.written (all ∙ c.requires.count)
           (all ∙ sym (names_count ms)) all;
     }
 
@@ -182,7 +182,7 @@ write_value-returns-in-Ok-Members t c =
     let ms = c.in-Ok-Members.members in
     record {
       writes = members_written a.bytes.now.items c.write_parts.new.bytes.items a.place s (viewed_shapes a.types.now ms) (viewed_names ms) (viewed_values ms) a.value.now c.write_parts.result (omega arith) lies has count
-          (parts_told a.bytes.now.items c.write_parts.new.bytes.items a.place c.saturating_add.result (viewed_shapes a.types.now ms) (viewed_names ms) (viewed_values ms) c.write_parts.result c.saturating_add.ensures
+          (image_parts_told a.bytes.now.items c.write_parts.new.bytes.items a.place c.saturating_add.result (viewed_shapes a.types.now ms) (viewed_names ms) (viewed_values ms) c.write_parts.result c.saturating_add.ensures
           c.write_parts.ensures.writes);
     }
 

@@ -1,5 +1,5 @@
 use Rattle.std.proofs.Common.{List, OnOk, ap, subst, take, ℕ, ◌++◌, ◌∙◌, ◌≡◌}
-use Rattle.canon_image_parts.proofs.Bytes.{low_bytes}
+use Rattle.canon_model.proofs.NumberBytes.{low_bytes}
 use Rattle.canon_image_parts.proofs.write.put_number.Goals as goal
 
 pub returns-clause-ok : goal.returns-clause-ok

@@ -1,5 +1,5 @@
 use Rattle.canon_types.specs.Table.{all_shapes}
-use Rattle.canon_layout.proofs.Offsets.{field_known, member_fits, next_field, rest_ends, rest_printed}
+use Rattle.canon_layout.proofs.Offsets.{layout_field_known, member_fits, next_field, rest_ends, rest_printed}
 use Rattle.canon_layout.proofs.lines.print_fields.Goals as goal
 
 pub next_field32_size-start-requires : goal.next_field32_size-start-requires
@@ -18,4 +18,4 @@ loop-field-preserved c =
     }
 
 pub canonical_abi-requires : goal.canonical_abi-requires
-canonical_abi-requires c = field_known c.args.table.now c.args.fields.now c.loop-field.field-index c.field-item.result c.requires.known c.loop-field-test.true c.field-item.is
+canonical_abi-requires c = layout_field_known c.args.table.now c.args.fields.now c.loop-field.field-index c.field-item.result c.requires.known c.loop-field-test.true c.field-item.is

@@ -1,15 +1,15 @@
 use Rattle.canon_types.specs.Table.{all_shapes}
-use Rattle.canon_layout.proofs.Offsets.{member_fits, next_type, rest_ends, rest_printed}
+use Rattle.canon_layout.proofs.Offsets.{member_fits, layout_next_type, rest_ends, rest_printed}
 use Rattle.canon_layout.proofs.lines.print_members.Goals as goal
 
 pub next_field32_size-start-requires : goal.next_field32_size-start-requires
 next_field32_size-start-requires c =
-    let split = next_type (all_shapes c.args.table.now) c.args.types.now c.loop-ty.ty-index c.ty-item.result c.loop-ty-test.true c.ty-item.is in
+    let split = layout_next_type (all_shapes c.args.table.now) c.args.types.now c.loop-ty.ty-index c.ty-item.result c.loop-ty-test.true c.ty-item.is in
     record { fits = member_fits _ _ _ _ c.canonical_abi.result.now c.loop-ty.end split c.canonical_abi.ensures _ c.loop-ty.invariant.ends c.requires.fits }
 
 pub loop-ty-preserved : goal.loop-ty-preserved
 loop-ty-preserved c =
-    let split = next_type (all_shapes c.args.table.now) c.args.types.now c.loop-ty.ty-index c.ty-item.result c.loop-ty-test.true c.ty-item.is in
+    let split = layout_next_type (all_shapes c.args.table.now) c.args.types.now c.loop-ty.ty-index c.ty-item.result c.loop-ty-test.true c.ty-item.is in
     let abi = c.canonical_abi.result.now in
     let placed = c.next_field32_size-start.ensures in
     record {

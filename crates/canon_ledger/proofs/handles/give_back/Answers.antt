@@ -2,7 +2,7 @@ use Rattle.std.proofs.Common.{◌+◌, [], drop, ap, sym, subst, refl, ◌∙◌
 use Rattle.canon_ledger.specs.Handles.{Lender, give_back}
 use Rattle.canon_ledger.specs.Books.{handles_of}
 use Rattle.canon_ledger.specs.Owed.{IsOwed}
-use Rattle.canon_ledger.proofs.OwedLemmas.{first_left, table_within, held_counted, lent_there, owed_after, rest_after, nothing_left}
+use Rattle.canon_ledger.proofs.OwedLemmas.{first_left, table_within, held_counted, lent_there, owed_after, rest_after, ledger_nothing_left}
 use Rattle.canon_ledger.proofs.handles.give_back.Goals as goal
 
 pub loop-place-init : goal.loop-place-init
@@ -50,5 +50,5 @@ loop-place-preserved c = record {
 
 pub returns : goal.returns
 returns c = λ scopes. ap (λ l. give_back l (handles_of c.loop-place.tables.items c.loop-place.counter scopes))
-    (sym (nothing_left c.args.context.now.scope.lenders c.loop-place.place
+    (sym (ledger_nothing_left c.args.context.now.scope.lenders c.loop-place.place
     (let l = c.lender_count-place-end.ensures in let f = c.loop-place-test.false in omega arith))) ∙ c.loop-place.invariant.rest scopes

@@ -7,7 +7,7 @@ use Rattle.canon_types.specs.Table.{Knows, shape_of}
 use Rattle.canon_reading.specs.Reading.{Lifts, setting_in}
 use Rattle.canon_reading.specs.Readings.{item_spot}
 use Rattle.canon_reading.specs.Spots.{flat_in}
-use Rattle.canon_lift.proofs.Rows.{IsSoFar, all_lifted, item_lifts, item_lost, item_refused, none_lifted, one_more, row_room}
+use Rattle.canon_lift.proofs.Rows.{IsSoFar, all_lifted, item_lifts, item_lost, item_refused, none_lifted, one_more, lift_row_room}
 use Rattle.canon_lift.proofs.Stays.{only_ledger}
 use Rattle.canon_lift.proofs.fixed_list.lift_row.Given.{Over}
 use Rattle.canon_lift.proofs.fixed_list.lift_row.Goals.{After-flat_words-step, After-lift_words}
@@ -118,4 +118,4 @@ lift_words-requires-clause-words g c =
     let step = c.flat_words-step.result in
     let is = step_is g (goal.at.lift_words-requires-clause-words g c).After-flat_words-step in
     subst (λ (z : Parts g.row.U.Denot g.row.G.Denot). c.args.at + c.loop-k.k * step + flat (shape_of (component_types z) c.args.ty) ≤ length c.args.src.now) (sym c.loop-k.invariant.same_core)
-    (row_room c.args.at c.loop-k.k c.args.count step (flat s) (length c.args.src.now) (omega arith) is c.requires.words)
+    (lift_row_room c.args.at c.loop-k.k c.args.count step (flat s) (length c.args.src.now) (omega arith) is c.requires.words)

@@ -2,7 +2,7 @@ use Rattle.std.proofs.Common.{◌≡◌, ◌≤◌, ◌+◌, ◌%◌, arith, fal
 use Rattle.canon_context.specs.Core.{Parts, component_types}
 use Rattle.canon_model.specs.Layout.{align, size}
 use Rattle.canon_types.specs.Table.{shape_of}
-use Rattle.canon_lift_parts.proofs.PairLifting.{key_aligned, key_inside, key_refused, value_aligned, value_inside, value_refused}
+use Rattle.canon_lift_parts.proofs.PairLifting.{key_aligned, key_inside, key_refused, value_aligned, value_inside, lift_value_refused}
 use Rattle.canon_lift.proofs.maps.lift_pair.Goals as goal
 
 pub linear_lift_from_memory-requires-clause-aligned : goal.linear_lift_from_memory-requires-clause-aligned
@@ -51,6 +51,6 @@ returns-in-Err-linear_lift_from_memory-clause-lifts g c =
     let mid = c.linear_lift_from_memory.new.cx in
     let after = c.linear_lift_from_memory-in-Ok.new.cx in
     let (read, spent) = c.in-Ok.ensures.lifts in
-    value_refused g.K.Lift.reading g.V.Lift.reading cx.core.now cx.options pair.key pair.value c.args.at mid.core.now c.in-Ok.ensures.same_core mid.options c.in-Ok.ensures.same_options pair.offset
+    lift_value_refused g.K.Lift.reading g.V.Lift.reading cx.core.now cx.options pair.key pair.value c.args.at mid.core.now c.in-Ok.ensures.same_core mid.options c.in-Ok.ensures.same_options pair.offset
     c.requires.offset cx.core.now.ledger after.core.now.ledger
     cx.fuel mid.fuel after.fuel c.in-Ok.key g.met.K.Lift.taken read spent c.in-Err-linear_lift_from_memory.fault c.in-Err-linear_lift_from_memory.ensures.lifts

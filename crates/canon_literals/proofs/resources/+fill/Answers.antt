@@ -1,10 +1,10 @@
 use Rattle.canon_literals.specs.Literals.{listed_resource}
-use Rattle.canon_literals.proofs.Filled.{err_filled, fixed_filled, flags_filled, list_filled, map_filled, ok_filled, record_filled, tuple_filled}
+use Rattle.canon_literals.proofs.Filled.{err_filled, fixed_filled, flags_filled, literal_list_filled, map_filled, ok_filled, record_filled, tuple_filled}
 use Rattle.canon_literals.proofs.resources.+fill.Goals as goal
 
 pub fill-returns-in_ok-fill_row-in-List : goal.fill-returns-in_ok-fill_row-in-List
 fill-returns-in_ok-fill_row-in-List t c =
-    list_filled (listed_resource c.args.list.now) c.args.value.now c.in_ok-fill_row-in-List.field-0 c.in-List.members c.deref.result.now c.in-List.is c.deref.ensures.value c.in_ok-fill_row-in-List.ensures
+    literal_list_filled (listed_resource c.args.list.now) c.args.value.now c.in_ok-fill_row-in-List.field-0 c.in-List.members c.deref.result.now c.in-List.is c.deref.ensures.value c.in_ok-fill_row-in-List.ensures
 
 pub fill-returns-in_ok-fill_pairs-in-Map : goal.fill-returns-in_ok-fill_pairs-in-Map
 fill-returns-in_ok-fill_pairs-in-Map t c =

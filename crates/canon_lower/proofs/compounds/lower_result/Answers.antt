@@ -1,6 +1,6 @@
 use Rattle.std.proofs.Common.{arith, subst, sym}
 use Rattle.canon_context.specs.Core.{component_types}
-use Rattle.canon_lower_parts.proofs.WordTypes.{case_room, result_err, result_knows, result_ok, result_shape}
+use Rattle.canon_lower_parts.proofs.WordTypes.{lower_case_room, result_err, result_knows, result_ok, result_shape}
 use Rattle.canon_lower_parts.specs.Gives.{result_gives}
 use Rattle.canon_lower_parts.specs.Words.{TypedLowers}
 use Rattle.canon_types.specs.Table.{all_shapes, payload_in, shape_of}
@@ -14,7 +14,7 @@ lower_payload-requires-clause-room g c =
     let err = payload_in (all_shapes t) c.result-result.result.now.err in
     let s = shape_of t c.args.ty in
     let shape = result_shape t c.types.result.now c.in-Result.i c.result-result.result.now.ok c.result-result.result.now.err c.args.ty c.types.ensures c.in-Result.is c.result-result.ensures.entry in
-    omega (arith, c.requires.words, case_room s 0 ok (result_ok s ok err shape))
+    omega (arith, c.requires.words, lower_case_room s 0 ok (result_ok s ok err shape))
 
 pub lower_payload-requires-clause-known : goal.lower_payload-requires-clause-known
 lower_payload-requires-clause-known g c =
@@ -31,7 +31,7 @@ lower_payload-requires-in-Err-clause-room g c =
     let err = payload_in (all_shapes t) c.result-result.result.now.err in
     let s = shape_of t c.args.ty in
     let shape = result_shape t c.types.result.now c.in-Result.i c.result-result.result.now.ok c.result-result.result.now.err c.args.ty c.types.ensures c.in-Result.is c.result-result.ensures.entry in
-    omega (arith, c.requires.words, case_room s 1 err (result_err s ok err shape))
+    omega (arith, c.requires.words, lower_case_room s 1 err (result_err s ok err shape))
 
 pub returns-in-Ok-clause-lowers : goal.returns-in-Ok-clause-lowers
 returns-in-Ok-clause-lowers g c =

@@ -2,7 +2,7 @@ use Rattle.std.proofs.Common.{◌+◌, ◌∙◌, arith, drop, get_or, length, r
 use Rattle.std.proofs.lemmas.List.{drop-set-lt}
 use Rattle.canon_context.proofs.Moves.{GuestLaws}
 use Rattle.canon_lower_parts.proofs.Items.{here_at, next_same}
-use Rattle.canon_lower_parts.proofs.WordRows.{row_begin, row_end, row_more, row_room, row_stop}
+use Rattle.canon_lower_parts.proofs.WordRows.{row_begin, row_end, lower_row_more, row_room, row_stop}
 use Rattle.canon_types.specs.Instance.{Instance}
 use Rattle.canon_types.specs.Table.{Knows}
 use Rattle.canon_value_parts.proofs.Passing.{handles_instance, handles_types}
@@ -52,7 +52,7 @@ loop-k-preserved g c =
     let x = get_or c.loop-k.items c.loop-k.k c.index-items-k.result in
     let here = here_at c.loop-k.items a.items.now c.loop-k.k c.index-items-k.result x c.loop-k.invariant.items refl (omega (arith, c.loop-k-test.true, c.loop-k.auto.items)) in
     record {
-      row = row_more L a.cx.now.options core a.ty.now W f a.items.now c.loop-k.cx.core.now c.loop-k.cx.options c.loop-k.dst c.loop-k.at
+      row = lower_row_more L a.cx.now.options core a.ty.now W f a.items.now c.loop-k.cx.core.now c.loop-k.cx.options c.loop-k.dst c.loop-k.at
           (drop c.loop-k.k a.items.now) (drop (c.loop-k.k + 1) a.items.now) x here c.loop-k.invariant.row c.lower_at.new.cx.core.now
           c.lower_at.new.cx.options c.lower_at.new.dst c.lower_at.new.at
           (λ t has. walked_shaped g.T.ComponentType.fits g.T.ComponentType.walks g.T.ComponentType.means g.met.T.ComponentType.typed

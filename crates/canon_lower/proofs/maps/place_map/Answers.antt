@@ -5,7 +5,7 @@ use Rattle.canon_model.specs.Shape.{map_of}
 use Rattle.canon_types.specs.Instance.{Instance}
 use Rattle.canon_types.specs.Table.{shape_of}
 use Rattle.canon_typed.specs.Meaning.{PairMeans}
-use Rattle.canon_lower_parts.proofs.MapSteps.{pairs_filled, pairs_fit, pairs_room, pairs_stopped, pairs_ungiven}
+use Rattle.canon_lower_parts.proofs.MapSteps.{pairs_filled, lower_pairs_fit, pairs_room, pairs_stopped, pairs_ungiven}
 use Rattle.canon_lower_parts.specs.Gives.{pair_gives}
 use Rattle.canon_lower_parts.specs.Pairs.{IsPairType, pair_in}
 use Rattle.canon_lower.proofs.maps.place_map.Goals as goal
@@ -36,7 +36,7 @@ store_pairs-requires-clause-pair g c =
     let gives = pair_gives g.K.LowerShared.gives g.V.LowerShared.gives in
     let xs = a.map.now.entries in
     let s = pair_in (component_types core) pair in
-    pairs_fit L a.cx.now.options W gives g.K.ComponentType.fits g.V.ComponentType.fits core c.ask_items.new.cx.core.now a.ty.now pair xs
+    lower_pairs_fit L a.cx.now.options W gives g.K.ComponentType.fits g.V.ComponentType.fits core c.ask_items.new.cx.core.now a.ty.now pair xs
     c.len-length.result found.0 c.len-length.ensures.len core c.in-Ok.pointer c.ask_items.new.cx.options c.in-Ok.ensures.same_options
     (c.in-Ok.ensures.asked s found.1.layout) found.1
 

@@ -2,7 +2,7 @@ use Rattle.std.proofs.Common.{All, ap, map, string_bytes, subst, sym, ◌∙◌}
 use Rattle.std.specs.List.{AllZip}
 use Rattle.std.proofs.lemmas.Bool.{false≢true}
 use Rattle.canon_types.specs.Table.{Knows}
-use Rattle.canon_named.specs.Named.{Answers, AnyZip, test_failed, test_passed}
+use Rattle.canon_named.specs.Named.{AnswersTest, AnyZip, test_failed, test_passed}
 use Rattle.canon_named.proofs.Definitions.{all_fields_known, fields_found, fields_told}
 use Rattle.canon_named.proofs.Zips.{on_err_then, on_ok_then}
 use Rattle.canon_named.proofs.named.typecheck_record.Goals as goal
@@ -21,11 +21,11 @@ pub returns-clause-ok : goal.returns-clause-ok
 returns-clause-ok g c =
     let fields = c.as_slice-fields.ensures.value in
     let found = fields_found _ _ _ _ c.types.ensures _ c.in-Record.is c.record.ensures.entry _ (sym (ap (map (λ f. string_bytes f.name)) fields) ∙ c.are_field_names.ensures.0 c.if-not-are_field_names.false) in
-    on_ok_then c.pass_fields.result (λ all. (_, found, subst (AllZip (Answers _ c.args.types.now test_passed) c.args.parts.now) (ap (map (λ f. f.ty)) fields) all)) c.pass_fields.ensures.ok
+    on_ok_then c.pass_fields.result (λ all. (_, found, subst (AllZip (AnswersTest _ c.args.types.now test_passed) c.args.parts.now) (ap (map (λ f. f.ty)) fields) all)) c.pass_fields.ensures.ok
 
 pub returns-clause-err : goal.returns-clause-err
 returns-clause-err g c =
     on_err_then c.pass_fields.result
-    (λ any types h. subst (AnyZip (Answers _ c.args.types.now test_failed) c.args.parts.now)
+    (λ any types h. subst (AnyZip (AnswersTest _ c.args.types.now test_failed) c.args.parts.now)
     (ap (map (λ f. f.ty)) c.as_slice-fields.ensures.value ∙ (fields_told _ _ _ _ c.types.ensures _ c.in-Record.is c.record.ensures.entry _ types h).1) any)
     c.pass_fields.ensures.err

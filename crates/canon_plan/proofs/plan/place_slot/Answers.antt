@@ -1,8 +1,9 @@
 use Rattle.std.proofs.Common.{[], ap, ◌<◌, arith, length, refl}
 use Rattle.canon_types.specs.Table.{types_of}
-use Rattle.canon_plan.proofs.Lookups.{tuple_is_known, count_members, tuple_member}
+use Rattle.canon_plan.proofs.Lookups.{tuple_is_known, tuple_member}
 use Rattle.canon_plan.proofs.plan.place_slot.Goals.{After-tuple}
 use Rattle.canon_plan.proofs.plan.place_slot.Goals as goal
+use Rattle.canon_types.proofs.Measures.{count_members}
 
 in_types : (c : After-tuple) → c.args.k < length c.tuple.result.now.types.items
 in_types c = omega (arith, c.requires.inside, count_members c.args.types.now (types_of c.args.types.now c.args.i), ap length c.tuple.ensures.types)

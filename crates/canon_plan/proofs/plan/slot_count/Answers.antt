@@ -2,9 +2,10 @@ use Rattle.std.proofs.Common.{ap, arith, length, refl, sym}
 use Rattle.canon_model.specs.Shape.{member_count}
 use Rattle.canon_types.specs.Table.{shape_of, types_of}
 use Rattle.canon_types.specs.declared.types.InterfaceType.TheVariants as ty
-use Rattle.canon_plan.proofs.Lookups.{count_fields, count_members, record_members, copies_count}
+use Rattle.canon_plan.proofs.Lookups.{count_fields, record_members, copies_count}
 use Rattle.canon_plan.proofs.Pairs.{pair_slots}
 use Rattle.canon_plan.proofs.plan.slot_count.Goals as goal
+use Rattle.canon_types.proofs.Measures.{count_members}
 
 pub returns-in-Fields : goal.returns-in-Fields
 returns-in-Fields c =

@@ -8,7 +8,7 @@ use Rattle.canon_imports.specs.declared.imports.Line.{Line}
 use Rattle.canon_imports.specs.declared.imports.ScriptedImports.{ScriptedImports}
 use Rattle.canon_player.specs.Session.{entry_view, plan_of}
 use Rattle.canon_player.specs.Stores.{ScriptStore}
-use Rattle.canon_player.proofs.Played.{loaded_is, record_is, taken_is}
+use Rattle.canon_player.proofs.Played.{loaded_is, player_record_is, taken_is}
 use Rattle.canon_player.proofs.player.make_call.Goals as goal
 
 pub returns-clause-called : goal.returns-clause-called
@@ -18,7 +18,7 @@ returns-clause-called c =
     let before : ScriptStore = record { core = record c.core_mut.result.now { guest = record c.guest_mut.result.now { guest = c.load.new.self } }; imports = s.imports; turns = s.turns; trapped = s.trapped } in
     let left : ScriptStore = c.call-called.new.store in
     let final : ScriptStore = record { core = record c.core_mut-2.result.now { guest = c.take_journal-events.new.self }; imports = left.imports; turns = left.turns; trapped = left.trapped } in
-    record_is call c.args.list.now _ s before left final c.unwrap-f.result c.deref-2.result.now c.call-called.new.results c.in_ok-results.results c.call-called.result (length c.lines-asked.result.now) c.requires.fresh
+    player_record_is call c.args.list.now _ s before left final c.unwrap-f.result c.deref-2.result.now c.call-called.new.results c.in_ok-results.results c.call-called.result (length c.lines-asked.result.now) c.requires.fresh
     (loaded_is (plan_of call) s c.core_mut.result.now c.guest_mut.result.now c.guest_mut-scripted.result.now c.load.new.self c.core_mut.ensures.value c.guest_mut.ensures.value c.guest_mut-scripted.ensures.value c.load.ensures)
     (search rules)
     (taken_is left c.core_mut-2.result.now c.guest_mut-2.result.now c.take_journal-events.new.self c.core_mut-2.ensures.value c.guest_mut-2.ensures.value c.take_journal-events.ensures.left)

@@ -1,13 +1,13 @@
 use Rattle.canon_recording_parts.specs.Events.{start_event, words_and_memory}
 use Rattle.canon_recording_parts.specs.Format.{also, any_number}
-use Rattle.canon_recording_parts.proofs.Reading.{both_read, first_stops, named, named_stops, second_stops}
+use Rattle.canon_recording_parts.proofs.Reading.{both_read, recording_first_stops, recording_named, named_stops, second_stops}
 use Rattle.canon_recording_parts.proofs.read.read_start.Goals as goal
 
 pub returns-in-Ok-read_words_and_memory : goal.returns-in-Ok-read_words_and_memory
-returns-in-Ok-read_words_and_memory c = record { reads = named start_event (also (any_number 4) words_and_memory) c.args.bytes.now c.args.at.now c.read_words_and_memory.new.at (c.in-Ok.func, (c.in-Ok-read_words_and_memory.words, c.in-Ok-read_words_and_memory.memory)) (both_read (any_number 4) words_and_memory c.args.bytes.now c.args.at.now c.read_u32.new.at c.read_words_and_memory.new.at c.read_words_and_memory.new.at c.in-Ok.func (c.in-Ok-read_words_and_memory.words, c.in-Ok-read_words_and_memory.memory) c.in-Ok.ensures.reads c.in-Ok-read_words_and_memory.ensures.reads) }
+returns-in-Ok-read_words_and_memory c = record { reads = recording_named start_event (also (any_number 4) words_and_memory) c.args.bytes.now c.args.at.now c.read_words_and_memory.new.at (c.in-Ok.func, (c.in-Ok-read_words_and_memory.words, c.in-Ok-read_words_and_memory.memory)) (both_read (any_number 4) words_and_memory c.args.bytes.now c.args.at.now c.read_u32.new.at c.read_words_and_memory.new.at c.read_words_and_memory.new.at c.in-Ok.func (c.in-Ok-read_words_and_memory.words, c.in-Ok-read_words_and_memory.memory) c.in-Ok.ensures.reads c.in-Ok-read_words_and_memory.ensures.reads) }
 
 pub returns-in-Err-read_words_and_memory : goal.returns-in-Err-read_words_and_memory
 returns-in-Err-read_words_and_memory c = record { reads = named_stops start_event (also (any_number 4) words_and_memory) c.args.bytes.now c.args.at.now c.read_words_and_memory.new.at c.read_words_and_memory.new.at c.in-Err-read_words_and_memory.error (second_stops (any_number 4) words_and_memory c.args.bytes.now c.args.at.now c.read_u32.new.at c.read_words_and_memory.new.at c.read_words_and_memory.new.at c.in-Ok.func c.in-Err-read_words_and_memory.error c.in-Ok.ensures.reads c.in-Err-read_words_and_memory.ensures.reads) }
 
 pub returns-in-Err : goal.returns-in-Err
-returns-in-Err c = record { reads = named_stops start_event (also (any_number 4) words_and_memory) c.args.bytes.now c.args.at.now c.read_u32.new.at c.read_u32.new.at c.in-Err.error (first_stops (any_number 4) words_and_memory c.args.bytes.now c.args.at.now c.read_u32.new.at c.read_u32.new.at c.read_u32.new.at c.in-Err.error c.in-Err.ensures.reads) }
+returns-in-Err c = record { reads = named_stops start_event (also (any_number 4) words_and_memory) c.args.bytes.now c.args.at.now c.read_u32.new.at c.read_u32.new.at c.in-Err.error (recording_first_stops (any_number 4) words_and_memory c.args.bytes.now c.args.at.now c.read_u32.new.at c.read_u32.new.at c.read_u32.new.at c.in-Err.error c.in-Err.ensures.reads) }

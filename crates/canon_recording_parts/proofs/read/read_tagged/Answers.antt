@@ -3,7 +3,7 @@ use Rattle.canon_recording_parts.specs.Read.{ReadsFormat}
 use Rattle.std.proofs.Common.{Err, Ok}
 use Rattle.canon_memory.specs.declared.event.Event.TheVariants as event
 use Rattle.canon_recording_parts.specs.Events.{resume_event, return_event, tagged, words_and_memory}
-use Rattle.canon_recording_parts.proofs.Reading.{named, named_stops}
+use Rattle.canon_recording_parts.proofs.Reading.{recording_named, named_stops}
 use Rattle.canon_recording_parts.proofs.read.read_tagged.Goals as goal
 
 pub returns-in-0 : goal.returns-in-0
@@ -15,7 +15,7 @@ returns-in-1 c = record { reads = subst (λ n. ReadsFormat (tagged c.args.import
 pub returns-in-Ok : goal.returns-in-Ok
 returns-in-Ok c = record {
   reads = subst (λ n. ReadsFormat (tagged c.args.imports n) c.args.bytes.now c.args.at.now c.read_words_and_memory.new.at (Ok (event.Resume c.in-Ok.words c.in-Ok.memory))) (sym c.in-2.is)
-      (named resume_event words_and_memory c.args.bytes.now c.args.at.now c.read_words_and_memory.new.at (c.in-Ok.words, c.in-Ok.memory) c.in-Ok.ensures.reads);
+      (recording_named resume_event words_and_memory c.args.bytes.now c.args.at.now c.read_words_and_memory.new.at (c.in-Ok.words, c.in-Ok.memory) c.in-Ok.ensures.reads);
 }
 
 pub returns-in-Err : goal.returns-in-Err
@@ -29,7 +29,7 @@ returns-in-Ok-read_words_and_memory c =
     let x = c.in-Ok-read_words_and_memory in
     record {
       reads = subst (λ n. ReadsFormat (tagged c.args.imports n) c.args.bytes.now c.args.at.now c.read_words_and_memory-in-3.new.at (Ok (event.Return x.words x.memory))) (sym c.in-3.is)
-          (named return_event words_and_memory c.args.bytes.now c.args.at.now c.read_words_and_memory-in-3.new.at (x.words, x.memory) x.ensures.reads);
+          (recording_named return_event words_and_memory c.args.bytes.now c.args.at.now c.read_words_and_memory-in-3.new.at (x.words, x.memory) x.ensures.reads);
     }
 
 pub returns-in-Err-read_words_and_memory : goal.returns-in-Err-read_words_and_memory

@@ -1,12 +1,12 @@
 use Rattle.std.proofs.Common.{Option, Some, map, option_and_then, ap, arith, refl, string_bytes, subst, sym, ◌∙◌}
 use Rattle.serde_json.specs.Find.{as_array, as_str}
 use Rattle.serde_json.specs.View.{view}
-use Rattle.canon_json.specs.Json.{Gives, each_of}
+use Rattle.canon_json.specs.Json.{ReadsAs, each_of}
 use Rattle.canon_val.specs.declared.val.Val.TheVariants as val
 use Rattle.canon_literals.specs.Literals.{Literal, enum, fields_view, fixed, flags, list, literal_view, literals_of, literals_view, option, pair_view, pairs, literal_pairs, pairs_view, payload_view, text, tuple}
 use Rattle.canon_script.specs.Values.{optional_of, pair_of, pairs_in, value_by, value_of, values_of}
 use Rattle.canon_script.specs.declared.kinds.ValueKind.TheVariants as kind
-use Rattle.canon_script.proofs.Cases.{case_given, case_refused, first_in_two, key_refused, option_by, outcome_by, pair_given, payload_within, result_reads, value_refused, variant_by, variant_reads}
+use Rattle.canon_script.proofs.Cases.{case_given, case_refused, first_in_two, script_key_refused, option_by, outcome_by, pair_given, payload_within, result_reads, script_value_refused, variant_by, variant_reads}
 use Rattle.canon_script.proofs.Members.{array_end, array_refused, array_step, enum_by, field_step, fixed_by, flags_by, in_array, in_form, in_two, list_by, made_of, map_by, map_grown, no_value, record_end, record_refused, scalar_is, text_by, tuple_by, value_is}
 use Rattle.canon_literals.proofs.Views.{literal-Enum, literal-FixedLengthList, literal-Flags, literal-List, literal-Map, literal-Option, literal-Record, literal-String, literal-Tuple}
 use Rattle.canon_script.proofs.values.+values.Goals as goal
@@ -58,7 +58,7 @@ pairs_of-returns t c =
     array_end pairs_in (view c.args.v.now) c.in-Some.items.now.items c.deref-item-items.result.now c.loop-item.item-index (pairs_view c.loop-item.pairs.items) refl c.in-Some.ensures c.deref-item-items.ensures.value c.loop-item-test.false c.loop-item.invariant
 
 pub value_of-returns-in-Some : goal.value_of-returns-in-Some
-value_of-returns-in-Some t c = subst (λ (o : Option Literal). Gives literal_view c.value_by.result o) (sym (value_is (view c.args.v.now) (view c.in-Some.form.now) c.in-Some.kind c.in-Some.ensures)) c.value_by.ensures
+value_of-returns-in-Some t c = subst (λ (o : Option Literal). ReadsAs literal_view c.value_by.result o) (sym (value_is (view c.args.v.now) (view c.in-Some.form.now) c.in-Some.kind c.in-Some.ensures)) c.value_by.ensures
 
 pub value_of-returns-in-None : goal.value_of-returns-in-None
 value_of-returns-in-None t c = no_value (view c.args.v.now) c.in-None.ensures
@@ -69,7 +69,7 @@ value_of-value_by-requires t c = (omega (arith, in_form (view c.args.v.now) (vie
 pub value_by-returns-in_default : goal.value_by-returns-in_default
 value_by-returns-in_default t c =
     let other = c.in_default in
-    subst (λ (o : Option Literal). Gives literal_view c.scalar_of.result o)
+    subst (λ (o : Option Literal). ReadsAs literal_view c.scalar_of.result o)
     (scalar_is (view c.args.form.now) c.args.kind (record {
       no_text = other.not-String;
       no_list = other.not-List;
@@ -158,7 +158,7 @@ pub pair_of-value_of-requires-2 : goal.pair_of-value_of-requires-2
 pair_of-value_of-requires-2 t c = (omega (arith, in_two (view c.args.v.now) (view c.in-Some.key.now) (view c.in-Some.value.now) c.in-Some.ensures), tt)
 
 pub pair_of-returns-in-Err : goal.pair_of-returns-in-Err
-pair_of-returns-in-Err t c = key_refused c.in-Err.e (view c.args.v.now) (view c.in-Some.key.now) (view c.in-Some.value.now) c.in-Some.ensures c.in-Err.ensures
+pair_of-returns-in-Err t c = script_key_refused c.in-Err.e (view c.args.v.now) (view c.in-Some.key.now) (view c.in-Some.value.now) c.in-Some.ensures c.in-Err.ensures
 
 pub pair_of-returns-in-Ok-value_of : goal.pair_of-returns-in-Ok-value_of
 pair_of-returns-in-Ok-value_of t c =
@@ -166,7 +166,7 @@ pair_of-returns-in-Ok-value_of t c =
 
 pub pair_of-returns-in-Err-value_of : goal.pair_of-returns-in-Err-value_of
 pair_of-returns-in-Err-value_of t c =
-    value_refused c.in-Err-value_of.e (view c.args.v.now) (view c.in-Some.key.now) (view c.in-Some.value.now) _ c.in-Some.ensures c.in-Ok.ensures c.in-Err-value_of.ensures
+    script_value_refused c.in-Err-value_of.e (view c.args.v.now) (view c.in-Some.key.now) (view c.in-Some.value.now) _ c.in-Some.ensures c.in-Ok.ensures c.in-Err-value_of.ensures
 
 pub variant_of-payload_of-requires : goal.variant_of-payload_of-requires
 variant_of-payload_of-requires t c = (omega (arith, payload_within (view c.args.v.now) _ c.in-Some.name.now c.in-Some.ensures), tt)

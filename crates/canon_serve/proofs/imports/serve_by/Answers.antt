@@ -4,7 +4,7 @@ use Rattle.canon_context.specs.Core.{component_types}
 use Rattle.canon_host.proofs.Importing.{faults, found_import, refuses}
 use Rattle.canon_host.specs.Forms.{AnyValues}
 use Rattle.canon_serve.specs.Imports.{AnyAnswer}
-use Rattle.canon_serve.proofs.Unlogged.{unlogged}
+use Rattle.canon_host.proofs.Unlogged.{unlogged}
 use Rattle.canon_serve.proofs.imports.serve_by.Goals as goal
 
 pub returns-in-Ok-clause-serves : goal.returns-in-Ok-clause-serves

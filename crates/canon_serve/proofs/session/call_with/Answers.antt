@@ -5,7 +5,7 @@ use Rattle.canon_context.specs.Core.{component_types}
 use Rattle.canon_func.specs.Stores.{type_of}
 use Rattle.canon_val.specs.declared.val.Val.{Val}
 use Rattle.canon_serve.specs.Carries.{CallsExport, TellsCall, results_tuple_shape}
-use Rattle.canon_serve.proofs.Calling.{answers_call, map_if_ok, on_any_err, slots_written}
+use Rattle.canon_serve.proofs.Calling.{answers_call, map_if_ok, on_any_err, session_slots_written}
 use Rattle.canon_serve.proofs.session.call_with.Goals as goal
 
 pub returns-in-Ok-clause-called : goal.returns-in-Ok-clause-called
@@ -15,7 +15,7 @@ returns-in-Ok-clause-called g c =
     let s2 = c.enter.new.store in
     let count = ap length c.deref_mut.ensures.value ∙ c.in_ok-results.ensures in
     let slots = subst (λ n. IfSome (type_of c.args.store.now f) (λ t. n ≡ length (types_of (component_types c.args.store.now.core) t.results))) (sym count) c.requires.slots in
-    let all = slots_written c.in_ok-results.results.items c.enter.new.results c.in_ok-results.results.len (omega (arith, c.deref_mut.ensures.len, c.enter.auto.results)) in
+    let all = session_slots_written c.in_ok-results.results.items c.enter.new.results c.in_ok-results.results.len (omega (arith, c.deref_mut.ensures.len, c.enter.auto.results)) in
     map_if_ok _ _ (λ a told. answers_call log f c.args.store.now s2 a c.args.params.now _ (Ok c.in-Ok.field-0) c.enter.new.results slots c.in-Ok.ensures
     (subst (λ (rs : List Val). IfSome (type_of s2 f) (λ t. TellsCall (results_tuple_shape log s2 t) (Ok tt) rs a)) all told)) _ c.results_of.ensures
 

@@ -1,4 +1,5 @@
-use Rattle.std.proofs.Common.{ap, arith, false, inl, inr, length, refl, subst, ◌%◌, ◌∙◌, ◌≡◌, ℕ}
+use Rattle.std.proofs.Common.{ap, arith, false, inl, inr, length, refl, subst, sym, ◌%◌, ◌*◌, ◌+◌, ◌<◌, ◌∙◌, ◌≡◌, ◌≤◌, ℕ}
+use Rattle.std.proofs.lemmas.Bool.{leb-false, leb-true}
 use Rattle.std.proofs.lemmas.List.{get_or_default}
 use Rattle.std.specs.Prelude.{slice_index}
 use Rattle.canon_context.specs.Core.{component_types}
@@ -37,17 +38,19 @@ returns-then-at-from-ne0-clause-err g c =
     let h = read g (goal.at.returns-then-at-from-ne0-clause-err g c).After-from in
     inl (refl, subst (λ (p : ℕ). ¬ (p % members_align false (tuple_members (component_types c.args.core.now) c.args.ty) ≡ 0)) h.is (subst (λ (n : ℕ). ¬ (c.from-at.result % n ≡ 0)) h.by_align c.if-at-from-ne0.true))
 
-pub returns-then-at-from-clause-err : goal.returns-then-at-from-clause-err
-returns-then-at-from-clause-err g c =
-    let h = read g (goal.at.returns-then-at-from-clause-err g c).After-from in
+pub returns-then-not-ends_inside-clause-err : goal.returns-then-not-ends_inside-clause-err
+returns-then-not-ends_inside-clause-err g c =
+    let h = read g (goal.at.returns-then-not-ends_inside-clause-err g c).After-from in
     let bytes = c.args.core.now.memory in
     let aligned = subst (λ (p : ℕ). p % members_align false (tuple_members (component_types c.args.core.now) c.args.ty) ≡ 0) h.is (subst (λ (n : ℕ). c.from-at.result % n ≡ 0) h.by_align c.if-at-from-ne0.false) in
-    let count : length c.memory.result.now.bytes ≡ length bytes = ap length c.memory.ensures.memory in
-    inr (refl, aligned, omega (arith, c.if-at-from.true, h.is, h.by_size, c.from-2.ensures, c.len.ensures.count, count))
+    let count : length c.as_slice.result.now ≡ length bytes = ap length (c.as_slice.ensures ∙ c.memory.ensures.memory) in
+    let outside : length c.as_slice.result.now < c.from-at.result + 1 * c.tuple-tuple.result.now.abi.size32 = leb-false _ _ (sym c.ends_inside.ensures ∙ c.if-not-ends_inside.true) in
+    inr (refl, aligned, omega (arith, outside, h.is, h.by_size, count))
 
 pub returns-clause-ok : goal.returns-clause-ok
 returns-clause-ok g c =
     let h = read g (goal.at.returns-clause-ok g c).After-from in
     let bytes = c.args.core.now.memory in
-    let count : length c.memory.result.now.bytes ≡ length bytes = ap length c.memory.ensures.memory in
-    (h.is, subst (λ (n : ℕ). c.from-at.result % n ≡ 0) h.by_align c.if-at-from-ne0.false, omega (arith, c.if-at-from.false, h.by_size, c.from-2.ensures, c.len.ensures.count, count))
+    let count : length c.as_slice.result.now ≡ length bytes = ap length (c.as_slice.ensures ∙ c.memory.ensures.memory) in
+    let ends : c.from-at.result + 1 * c.tuple-tuple.result.now.abi.size32 ≤ length c.as_slice.result.now = leb-true _ _ (sym c.ends_inside.ensures ∙ c.if-not-ends_inside.false) in
+    (h.is, subst (λ (n : ℕ). c.from-at.result % n ≡ 0) h.by_align c.if-at-from-ne0.false, omega (arith, ends, h.by_size, count))

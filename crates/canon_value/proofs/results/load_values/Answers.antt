@@ -1,4 +1,5 @@
-use Rattle.std.proofs.Common.{List, Vec, ap, arith, false, inl, inr, length, refl, subst, ◌%◌, ◌+◌, ◌∙◌, ◌≡◌, ◌≤◌, ℕ}
+use Rattle.std.proofs.Common.{List, Vec, ap, arith, false, inl, inr, length, refl, subst, sym, ◌%◌, ◌*◌, ◌+◌, ◌<◌, ◌∙◌, ◌≡◌, ◌≤◌, ℕ}
+use Rattle.std.proofs.lemmas.Bool.{leb-false, leb-true}
 use Rattle.std.proofs.lemmas.List.{get_or_default}
 use Rattle.std.specs.Prelude.{slice_index}
 use Rattle.canon_model.specs.Layout.{members_align, size}
@@ -33,17 +34,18 @@ returns-then-at-from-ne0-clause-err c = λ most far.
     misaligned_blamed (encoding_of c.args.source.now.encoding) c.args.source.now.memory.now c.args.src.now most ms c.from-at.result c.args.fuel.now is far
     (subst (λ (n : ℕ). c.from-at.result % n ≡ 0 → ⊥) by_align c.if-at-from-ne0.true)
 
-pub returns-then-at-from-clause-err : goal.returns-then-at-from-clause-err
-returns-then-at-from-clause-err c = λ most far.
+pub returns-then-not-ends_inside-clause-err : goal.returns-then-not-ends_inside-clause-err
+returns-then-not-ends_inside-clause-err c = λ most far.
     let ms = tuple_members c.args.source.now.types.now c.args.ty in
-    let form = shape (goal.at.returns-then-at-from-clause-err c).After-tuple-tuple in
+    let form = shape (goal.at.returns-then-not-ends_inside-clause-err c).After-tuple-tuple in
     let found : c.index-src-0.result ≡ slice_index c.args.src.now 0 = c.index-src-0.is ∙ get_or_default c.args.src.now 0 _ 0 (omega (arith, c.requires.word)) in
     let is : c.from-at.result ≡ low (slice_index c.args.src.now 0) = c.from-at.ensures ∙ (c.get_u32.ensures ∙ ap low found) in
     let by_align : c.from.result ≡ members_align false ms = c.from.ensures ∙ tuple_align _ _ _ c.tuple-tuple.ensures.abi form in
-    let by_size : c.from-2.result ≡ size false (product of_places ms) = c.from-2.ensures ∙ tuple_size _ _ _ c.tuple-tuple.ensures.abi form in
+    let by_size : c.tuple-tuple.result.now.abi.size32 ≡ size false (product of_places ms) = tuple_size _ _ _ c.tuple-tuple.ensures.abi form in
+    let outside : length c.args.source.now.memory.now < c.from-at.result + 1 * c.tuple-tuple.result.now.abi.size32 = leb-false _ _ (sym c.ends_inside.ensures ∙ c.if-not-ends_inside.true) in
     let aligned : low (slice_index c.args.src.now 0) % members_align false ms ≡ 0 =
     subst (λ (p : ℕ). p % members_align false ms ≡ 0) is (subst (λ (n : ℕ). c.from-at.result % n ≡ 0) by_align c.if-at-from-ne0.false) in
-    inr (far, inl (inr (record { kind_is = refl; at_is = refl }, aligned, λ inside. omega (arith, inside, is, by_size, c.if-at-from.true))))
+    inr (far, inl (inr (record { kind_is = refl; at_is = refl }, aligned, λ inside. omega (arith, inside, is, by_size, outside))))
 
 pub load_members-requires-clause-aligned : goal.load_members-requires-clause-aligned
 load_members-requires-clause-aligned c =
@@ -51,22 +53,24 @@ load_members-requires-clause-aligned c =
 
 pub load_members-requires-clause-inside : goal.load_members-requires-clause-inside
 load_members-requires-clause-inside c =
-    let by_size = c.from-2.ensures ∙ tuple_size _ _ _ c.tuple-tuple.ensures.abi (shape (goal.at.load_members-requires-clause-inside c).After-tuple-tuple) in
-    omega (arith, by_size, c.if-at-from.false, members_end-le-size false of_places (tuple_members c.args.source.now.types.now c.args.ty))
+    let by_size = tuple_size _ _ _ c.tuple-tuple.ensures.abi (shape (goal.at.load_members-requires-clause-inside c).After-tuple-tuple) in
+    let ends : c.from-at.result + 1 * c.tuple-tuple.result.now.abi.size32 ≤ length c.args.source.now.memory.now = leb-true _ _ (sym c.ends_inside.ensures ∙ c.if-not-ends_inside.false) in
+    omega (arith, by_size, ends, members_end-le-size false of_places (tuple_members c.args.source.now.types.now c.args.ty))
 
 -- where the members were loaded from
-record IsThere (c : After-load_members) : Type 0 where
+record AreValuesThere (c : After-load_members) : Type 0 where
   is : c.from-at.result ≡ low (slice_index c.args.src.now 0)
   aligned : c.from-at.result % members_align false (tuple_members c.args.source.now.types.now c.args.ty) ≡ 0
   inside : c.from-at.result + size false (product of_places (tuple_members c.args.source.now.types.now c.args.ty)) ≤ length c.args.source.now.memory.now
 
-there : (c : After-load_members) → shape_of c.args.source.now.types.now (ty.Tuple c.args.ty) ≡ product of_places (tuple_members c.args.source.now.types.now c.args.ty) → IsThere c
+there : (c : After-load_members) → shape_of c.args.source.now.types.now (ty.Tuple c.args.ty) ≡ product of_places (tuple_members c.args.source.now.types.now c.args.ty) → AreValuesThere c
 there c form =
     let found : c.index-src-0.result ≡ slice_index c.args.src.now 0 = c.index-src-0.is ∙ get_or_default c.args.src.now 0 _ 0 (omega (arith, c.requires.word)) in
+    let ends : c.from-at.result + 1 * c.tuple-tuple.result.now.abi.size32 ≤ length c.args.source.now.memory.now = leb-true _ _ (sym c.ends_inside.ensures ∙ c.if-not-ends_inside.false) in
     record {
       is = c.from-at.ensures ∙ (c.get_u32.ensures ∙ ap low found);
       aligned = subst (λ (n : ℕ). c.from-at.result % n ≡ 0) (c.from.ensures ∙ tuple_align _ _ _ c.tuple-tuple.ensures.abi form) c.if-at-from-ne0.false;
-      inside = subst (λ (n : ℕ). c.from-at.result + n ≤ length c.args.source.now.memory.now) (c.from-2.ensures ∙ tuple_size _ _ _ c.tuple-tuple.ensures.abi form) c.if-at-from.false;
+      inside = omega (arith, tuple_size _ _ _ c.tuple-tuple.ensures.abi form, ends);
     }
 
 pub returns-clause-ok : goal.returns-clause-ok
@@ -86,8 +90,8 @@ returns-clause-err c = λ most far.
 pub returns-then-at-from-ne0-clause-handles : goal.returns-then-at-from-ne0-clause-handles
 returns-then-at-from-ne0-clause-handles c = λ most far. stops_before c.args.source.now.instance.now c.args.ledger.now _ _ (fault.PointerMisaligned (place.Word 0)) refl refl
 
-pub returns-then-at-from-clause-handles : goal.returns-then-at-from-clause-handles
-returns-then-at-from-clause-handles c = λ most far. stops_before c.args.source.now.instance.now c.args.ledger.now _ _ (fault.PointerOutOfBounds (place.Word 0)) refl refl
+pub returns-then-not-ends_inside-clause-handles : goal.returns-then-not-ends_inside-clause-handles
+returns-then-not-ends_inside-clause-handles c = λ most far. stops_before c.args.source.now.instance.now c.args.ledger.now _ _ (fault.PointerOutOfBounds (place.Word 0)) refl refl
 
 pub returns-clause-handles : goal.returns-clause-handles
 returns-clause-handles c = λ most far.

@@ -4,7 +4,7 @@ use Rattle.canon_types.specs.Keeps.{names_of}
 use Rattle.canon_types.specs.Table.{shape_of}
 use Rattle.canon_types.specs.declared.types.InterfaceType.TheVariants as ty
 use Rattle.canon_value_parts.specs.Fails.{mismatch}
-use Rattle.canon_value_parts.proofs.CaseViews.{enum_first, enum_info, enum_seen, enum_unknown, name_few}
+use Rattle.canon_value_parts.proofs.CaseViews.{enum_first, value_enum_info, enum_seen, enum_unknown, name_few}
 use Rattle.canon_value_parts.proofs.Steps.{own_failure}
 use Rattle.canon_value_parts.proofs.case_view.enum_view.Goals.{After-enum_-names}
 use Rattle.canon_value_parts.proofs.case_view.enum_view.Goals as goal
@@ -32,7 +32,7 @@ overflow_cast-result c =
     omega (
       arith,
       name_few _ names.info _ c.in-Some.tag
-          (enum_info c.args.types.now _ c.args.value.now names.info names.names.keys c.in-Enum.name c.as_str.result.now here c.enum_-names.ensures.info c.in-Enum.is c.as_str.ensures.value) first,
+          (value_enum_info c.args.types.now _ c.args.value.now names.info names.names.keys c.in-Enum.name c.as_str.result.now here c.enum_-names.ensures.info c.in-Enum.is c.as_str.ensures.value) first,
     )
 
 pub returns : goal.returns

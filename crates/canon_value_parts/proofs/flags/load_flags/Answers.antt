@@ -7,7 +7,7 @@ use Rattle.canon_value_parts.proofs.FlagLifting.{flags_blamed, flags_loaded}
 use Rattle.canon_value_parts.proofs.FlagNames.{flags_are}
 use Rattle.canon_value_parts.proofs.FlagSteps.{size_flags}
 use Rattle.canon_value_parts.proofs.flags.load_flags.Goals.{After-flags-flags}
-use Rattle.canon_context.proofs.Told.{on_err}
+use Rattle.canon_context.proofs.Told.{core_on_err}
 use Rattle.canon_context.specs.Told.{IsNoRefusal}
 use Rattle.canon_value_parts.proofs.LeavesAt.{flags_leaves}
 use Rattle.canon_value_parts.proofs.Lifted.{lifts_nothing, no_refusal}
@@ -38,4 +38,4 @@ pub returns-clause-handles : goal.returns-clause-handles
 returns-clause-handles c =
     let s = c.args.source.now in
     λ l. lifts_nothing s.instance.now resources l l _ c.flags_of.result (flags_leaves s.memory.now _ c.args.at (flag_names s.types.now c.args.i) (flags_are s.types.now c.args.i c.flags-flags.result.now c.flags-flags.ensures.entry)) refl
-    c.flags_of.ensures.none (on_err c.flags_of.result IsNoRefusal (λ e. stop_of e ≡ None) no_refusal c.flags_of.ensures.unrefused)
+    c.flags_of.ensures.none (core_on_err c.flags_of.result IsNoRefusal (λ e. stop_of e ≡ None) no_refusal c.flags_of.ensures.unrefused)

@@ -2,7 +2,7 @@ use Rattle.std.proofs.Common.{List, arith, rules, string_bytes, subst, sym, take
 use Rattle.canon_model.specs.Shape.{Name}
 use Rattle.canon_types.specs.Keeps.{names_of}
 use Rattle.canon_value_parts.specs.Flags.{flag_names}
-use Rattle.canon_value_parts.proofs.FlagWriting.{ArePut, last_name, next_name, next_unknown, put_begin, put_end, put_more}
+use Rattle.canon_value_parts.proofs.FlagWriting.{ArePut, last_name, next_name, next_unknown, put_begin, value_put_end, put_more}
 use Rattle.canon_value_parts.proofs.flags.put_flags.Goals as goal
 
 pub loop-name-init : goal.loop-name-init
@@ -29,6 +29,6 @@ returns-clause-put c =
     let ys = c.deref-name-items.result.now in
     let names = flag_names c.args.types.now c.args.i in
     let all = last_name c.args.set.now.items ys c.loop-name.name-index c.deref-name-items.ensures.value (omega arith) (omega arith) in
-    λ _. put_end c.args.dst.now c.loop-name.dst c.args.first names (names_of c.args.set.now.items)
+    λ _. value_put_end c.args.dst.now c.loop-name.dst c.args.first names (names_of c.args.set.now.items)
     (subst (λ (n : ℕ). ArePut c.args.dst.now c.loop-name.dst c.args.first n names (names_of c.args.set.now.items)) c.requires.count
     (subst (λ (xs : List Name). ArePut c.args.dst.now c.loop-name.dst c.args.first c.args.count names xs) all c.loop-name.invariant))

@@ -1,6 +1,6 @@
 use Rattle.std.proofs.Common.{◌<◌, ◌+◌, [], arith, length, refl}
 use Rattle.canon_value_parts.proofs.Lookups.{no_names_at}
-use Rattle.canon_value_parts.proofs.PairRows.{count_turns, key_at, value_at}
+use Rattle.canon_value_parts.proofs.PairRows.{count_turns, key_at, pair_value_at}
 use Rattle.canon_plan.proofs.Pairs.{half_below, key_here, key_known, value_here, value_known}
 use Rattle.canon_value_parts.proofs.members.pair_of.Goals.{After-map-map}
 use Rattle.canon_value_parts.proofs.members.pair_of.Goals as goal
@@ -43,5 +43,5 @@ returns-else-k-eq0 c =
       same = (λ h. refl, λ e. refl);
       shapes = value_here t c.args.i m c.map-map.ensures.entry (length ps) c.args.k lt c.if-k-eq0.false;
       names = no_names_at _ c.args.k c.requires.inside;
-      values = value_at ps c.args.k c.index-pairs-k.result c.index-pairs-k.result c.if-k-eq0.false c.index-pairs-k.is c.requires.inside;
+      values = pair_value_at ps c.args.k c.index-pairs-k.result c.index-pairs-k.result c.if-k-eq0.false c.index-pairs-k.is c.requires.inside;
     }

@@ -1,9 +1,10 @@
 use Rattle.std.proofs.Common.{[], ap, ◌<◌, arith, length, refl}
 use Rattle.canon_types.specs.Table.{types_of}
-use Rattle.canon_plan.proofs.Lookups.{tuple_is_known, count_members, drop_at, tuple_member}
+use Rattle.canon_plan.proofs.Lookups.{tuple_is_known, drop_at, tuple_member}
 use Rattle.canon_value_parts.proofs.Lookups.{no_names_at}
 use Rattle.canon_value_parts.proofs.members.place_of.Goals.{After-tuple}
 use Rattle.canon_value_parts.proofs.members.place_of.Goals as goal
+use Rattle.canon_types.proofs.Measures.{count_members}
 
 in_types : (c : After-tuple) → c.args.k < length c.tuple.result.now.types.items
 in_types c = omega (arith, c.requires.inside, c.requires.count, count_members c.args.types.now (types_of c.args.types.now c.args.i), ap length c.tuple.ensures.types)

@@ -7,7 +7,7 @@ use Rattle.canon_value_parts.specs.Plan.{IsRebuilt}
 use Rattle.canon_value_parts.specs.Elements.{by_turns}
 use Rattle.canon_val.specs.Value.{IsPairs, IsProduct, member_names}
 use Rattle.canon_val.specs.declared.val.Val.{Val}
-use Rattle.canon_context.proofs.Told.{on_ok}
+use Rattle.canon_context.proofs.Told.{core_on_ok}
 use Rattle.canon_value_parts.proofs.Planning.{fixed_rebuilt, list_rebuilt, map_even, map_rebuilt, record_count, record_rebuilt, tuple_rebuilt}
 use Rattle.canon_plan.proofs.TypeKinds.{list_left}
 use Rattle.canon_value_parts.proofs.ResourcesOf.{pair_resources, product_resources, resources_fixed, resources_list, resources_tuple}
@@ -27,7 +27,7 @@ returns-in-Record-clause-ok c =
     let s = shape_of t (ty.Record c.in-Record.i) in
     let vs = c.args.values.items in
     let kind = rw c.in-Record.is at c.requires.kind in
-    rw c.in-Record.is (on_ok c.rebuild_record.result (λ v. IsProduct of_fields (member_names (product_members s)) vs v) (λ v. IsRebuilt s vs v) (λ v h. record_rebuilt s (product_members s) vs v kind h) c.rebuild_record.ensures.ok)
+    rw c.in-Record.is (core_on_ok c.rebuild_record.result (λ v. IsProduct of_fields (member_names (product_members s)) vs v) (λ v. IsRebuilt s vs v) (λ v h. record_rebuilt s (product_members s) vs v kind h) c.rebuild_record.ensures.ok)
 
 pub returns-in-Tuple-clause-ok : goal.returns-in-Tuple-clause-ok
 returns-in-Tuple-clause-ok c =
@@ -51,7 +51,7 @@ returns-in-Map-clause-ok c =
     let s = shape_of c.args.types.now (ty.Map c.in-Map.field-0) in
     let vs = c.args.values.items in
     let kind = rw c.in-Map.is at c.requires.kind in
-    rw c.in-Map.is (on_ok c.rebuild_map.result (λ v. (ps : List (Val × Val)) × IsPairs ps v × (by_turns ps ≡ vs)) (λ v. IsRebuilt s vs v) (λ v h. map_rebuilt s vs v kind h) c.rebuild_map.ensures.ok)
+    rw c.in-Map.is (core_on_ok c.rebuild_map.result (λ v. (ps : List (Val × Val)) × IsPairs ps v × (by_turns ps ≡ vs)) (λ v. IsRebuilt s vs v) (λ v h. map_rebuilt s vs v kind h) c.rebuild_map.ensures.ok)
 
 pub returns-in_default : goal.returns-in_default
 returns-in_default c =
@@ -66,7 +66,7 @@ pub returns-in-Record-clause-resources : goal.returns-in-Record-clause-resources
 returns-in-Record-clause-resources c =
     let s = shape_of c.args.types.now (ty.Record c.in-Record.i) in
     let vs = c.args.values.items in
-    on_ok c.rebuild_record.result (λ v. IsProduct of_fields (member_names (product_members s)) vs v) (λ v. resources v ≡ all_resources vs) (λ v h. product_resources of_fields (member_names (product_members s)) vs v h) c.rebuild_record.ensures.ok
+    core_on_ok c.rebuild_record.result (λ v. IsProduct of_fields (member_names (product_members s)) vs v) (λ v. resources v ≡ all_resources vs) (λ v h. product_resources of_fields (member_names (product_members s)) vs v h) c.rebuild_record.ensures.ok
 
 pub returns-in-Tuple-clause-resources : goal.returns-in-Tuple-clause-resources
 returns-in-Tuple-clause-resources c = resources_tuple c.args.values
@@ -77,4 +77,4 @@ returns-in-FixedLengthList-clause-resources c = resources_fixed c.args.values
 pub returns-in-Map-clause-resources : goal.returns-in-Map-clause-resources
 returns-in-Map-clause-resources c =
     let vs = c.args.values.items in
-    on_ok c.rebuild_map.result (λ v. (ps : List (Val × Val)) × IsPairs ps v × (by_turns ps ≡ vs)) (λ v. resources v ≡ all_resources vs) (λ v (ps, is, e). pair_resources ps v is ∙ ap all_resources e) c.rebuild_map.ensures.ok
+    core_on_ok c.rebuild_map.result (λ v. (ps : List (Val × Val)) × IsPairs ps v × (by_turns ps ≡ vs)) (λ v. resources v ≡ all_resources vs) (λ v (ps, is, e). pair_resources ps v is ∙ ap all_resources e) c.rebuild_map.ensures.ok

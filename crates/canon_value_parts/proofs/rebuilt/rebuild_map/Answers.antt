@@ -4,7 +4,7 @@ use Rattle.std.specs.Vec.Iter.{into_iter_items}
 use Rattle.canon_value_parts.specs.Elements.{by_turns}
 use Rattle.canon_val.specs.declared.val.Val.{Val}
 use Rattle.canon_value_parts.proofs.PairRows.{count_turns, turns_push}
-use Rattle.canon_value_parts.proofs.Planning.{nothing_left}
+use Rattle.canon_value_parts.proofs.Planning.{value_nothing_left}
 use Rattle.canon_value_parts.proofs.rebuilt.rebuild_map.Goals as goal
 
 -- as many are left as aren't in pairs
@@ -62,5 +62,5 @@ pub returns-clause-ok : goal.returns-clause-ok
 returns-clause-ok c =
     let at = c.loop in
     let rest = into_iter_items at.rest in
-    let none : rest ≡ [] = nothing_left rest (omega (arith, left at.pairs.items rest c.args.values.items at.invariant.0, at.invariant.2, c.loop-test.false, at.auto.counter-end, c.len-count.ensures, c.args.values.ok.0, c.requires.even)) in
+    let none : rest ≡ [] = value_nothing_left rest (omega (arith, left at.pairs.items rest c.args.values.items at.invariant.0, at.invariant.2, c.loop-test.false, at.auto.counter-end, c.len-count.ensures, c.args.values.ok.0, c.requires.even)) in
     (at.pairs.items, (at.pairs, refl, refl), sym (append-nil (by_turns at.pairs.items)) ∙ (ap (λ (vs : List Val). by_turns at.pairs.items ++ vs) (sym none) ∙ at.invariant.0))

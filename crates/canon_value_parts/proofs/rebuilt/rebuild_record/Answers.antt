@@ -8,7 +8,7 @@ use Rattle.canon_types.specs.Table.{shape_of}
 use Rattle.canon_types.specs.declared.types.InterfaceType.TheVariants as ty
 use Rattle.canon_val.specs.Value.{member_names, names_in, values_in}
 use Rattle.canon_val.specs.declared.val.Val.{Val}
-use Rattle.canon_value_parts.proofs.Planning.{name_end, name_next, nothing_left}
+use Rattle.canon_value_parts.proofs.Planning.{name_end, name_next, value_nothing_left}
 use Rattle.canon_plan.proofs.Lookups.{field_member, in_fields, members_from-all}
 use Rattle.canon_value_parts.proofs.rebuilt.rebuild_record.Goals as goal
 
@@ -60,7 +60,7 @@ returns-clause-ok c =
     let t = c.args.types.now in
     let at = c.loop-value in
     let ms = product_members (shape_of t (ty.Record c.args.i)) in
-    let empty : into_iter_items at.value-iterator ≡ [] = nothing_left _ (sym at.invariant.1 ∙ c.in-None.ensures.steps.0) in
+    let empty : into_iter_items at.value-iterator ≡ [] = value_nothing_left _ (sym at.invariant.1 ∙ c.in-None.ensures.steps.0) in
     let all : at.yielded ≡ c.args.values.items = sym (append-nil at.yielded) ∙ (rw empty at at.invariant.0 ∙ c.into_iter-value-iterator.ensures.into_iter_gives.0) in
     let over : at.k ≡ member_count ms = omega (arith, at.invariant.2, ap length all, c.requires.count) in
     (at.named, refl, sym (name_end _ _ _ (members_from-all ms at.k over) at.invariant.4), sym (at.invariant.3 ∙ all))

@@ -4,10 +4,11 @@ use Rattle.canon_types.specs.Table.{shape_of, tuple_members, types_of}
 use Rattle.canon_types.specs.declared.types.InterfaceType.TheVariants as ty
 use Rattle.canon_value_parts.specs.Fails.{mismatch, wrong_length}
 use Rattle.canon_val.specs.Value.{no_names}
-use Rattle.canon_plan.proofs.Lookups.{count_members, tuple_shape_of}
+use Rattle.canon_plan.proofs.Lookups.{tuple_shape_of}
 use Rattle.canon_value_parts.proofs.Steps.{own_failure, product_seen}
 use Rattle.canon_value_parts.proofs.view.places_view.Goals.{After-len-count}
 use Rattle.canon_value_parts.proofs.view.places_view.Goals as goal
+use Rattle.canon_types.proofs.Measures.{count_members}
 
 shape : (c : After-len-count) → shape_of c.args.types.now (ty.Tuple c.args.i) ≡ product of_places (tuple_members c.args.types.now c.args.i)
 shape c = tuple_shape_of c.args.types.now c.args.types.now c.args.i c.tuple.result.now.types.items refl c.tuple.ensures.entry c.tuple.ensures.types

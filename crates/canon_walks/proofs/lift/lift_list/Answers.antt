@@ -12,7 +12,7 @@ use Rattle.canon_context.specs.Told.{Exactly, LiftBlames, ToldAt, place_of}
 use Rattle.canon_value_parts.specs.Plan.{IsListLoaded}
 use Rattle.canon_val.specs.declared.val.Val.{Val}
 use Rattle.canon_value_parts.proofs.ListLoading.{list_lifted, list_unlifted, row_weighs}
-use Rattle.canon_context.proofs.Told.{on_err, on_ok}
+use Rattle.canon_context.proofs.Told.{core_on_err, core_on_ok}
 use Rattle.canon_walks.proofs.lift.lift_list.Goals as goal
 
 pub returns-clause-ok : goal.returns-clause-ok
@@ -24,7 +24,7 @@ returns-clause-ok c =
     let w = row_weighs enc a.source.now.memory.now a.source.now.types.now a.element.now c.requires.known 0 0 in
     let found = c.pointer_and_length-pointer.ensures in
     let last = c.load_items.new.fuel in
-    on_ok c.load_items.result (λ (vs : Vec Val Global). IsListLoaded enc m s _ _ a.fuel.now last vs.items) (λ (vs : Vec Val Global). ArePartsLifted enc m a.src.now a.at.now (a.at.now + 2) a.fuel.now last s vs.items)
+    core_on_ok c.load_items.result (λ (vs : Vec Val Global). IsListLoaded enc m s _ _ a.fuel.now last vs.items) (λ (vs : Vec Val Global). ArePartsLifted enc m a.src.now a.at.now (a.at.now + 2) a.fuel.now last s vs.items)
     (λ vs h. list_lifted enc m s w.part w.kind w.is _ _ a.fuel.now a.src.now a.at.now found.pointer found.count last vs.items h) c.load_items.ensures.ok
 
 pub returns-clause-err : goal.returns-clause-err
@@ -37,7 +37,7 @@ returns-clause-err c =
     let found = c.pointer_and_length-pointer.ensures in
     let p = c.pointer_and_length-pointer.result.0 in
     let n = c.pointer_and_length-pointer.result.1 in
-    on_err c.load_items.result (LiftBlames (Exactly (ItemsFault enc m s (place_of c.word_at.result) p n)) (a.fuel.now < items_reach enc m s p n))
+    core_on_err c.load_items.result (LiftBlames (Exactly (ItemsFault enc m s (place_of c.word_at.result) p n)) (a.fuel.now < items_reach enc m s p n))
     (LiftBlames (ToldAt (FlatFault enc m a.src.now s a.at.now)) (a.fuel.now < flat_reach enc m a.src.now s a.at.now))
     (λ e h. list_unlifted enc m s w.part w.kind w.is p n a.fuel.now a.src.now a.at.now found.pointer found.count c.word_at.result e c.word_at.ensures h) c.load_items.ensures.err
 

@@ -13,7 +13,7 @@ use Rattle.canon_value_parts.specs.Plan.{ArePartsLoaded, IsRebuilt}
 use Rattle.canon_plan.specs.Plan.{shapes_of, members_from}
 use Rattle.canon_plan.specs.Element.{list_shape}
 use Rattle.canon_value_parts.proofs.LoadedBytes.{scalar_room}
-use Rattle.canon_context.proofs.Told.{exhausted, handed_on, on_ok}
+use Rattle.canon_context.proofs.Told.{exhausted, handed_on, core_on_ok}
 use Rattle.canon_value_parts.proofs.Loading.{loading_ends, next_aligned, next_fits, next_leaves, next_loaded, next_refused, next_room, scalar_refused}
 use Rattle.canon_value_parts.proofs.Listing.{row}
 use Rattle.canon_value_parts.proofs.LoadingParts.{parts_count, parts_refused, text_room, weighs, whole_loaded}
@@ -136,8 +136,8 @@ load_items-returns-clause-ok = steps.load_items-returns-clause-ok
 pub load_items-returns-clause-err : goal.load_items-returns-clause-err
 load_items-returns-clause-err = steps.load_items-returns-clause-err
 
-pub load_items-returns-then-pointer-length-clause-handles : goal.load_items-returns-then-pointer-length-clause-handles
-load_items-returns-then-pointer-length-clause-handles = steps.load_items-returns-then-pointer-length-clause-handles
+pub load_items-returns-then-not-ends_inside-clause-handles : goal.load_items-returns-then-not-ends_inside-clause-handles
+load_items-returns-then-not-ends_inside-clause-handles = steps.load_items-returns-then-not-ends_inside-clause-handles
 
 pub load_items-returns-in_err-charge_each-clause-handles : goal.load_items-returns-in_err-charge_each-clause-handles
 load_items-returns-in_err-charge_each-clause-handles = steps.load_items-returns-in_err-charge_each-clause-handles
@@ -199,7 +199,7 @@ load_value-returns-in-Ok-clause-ok t c =
     let (known, e, kind) = c.in-List.ensures in
     let vs = c.in-Ok.items.items in
     let loaded = subst (λ (x : Shape). ArePartsLoaded enc (narrow bytes) x c.args.at c.args.fuel.now c.load_list.new.fuel vs) (sym e) c.in-Ok.ensures.ok in
-    on_ok c.rebuild.result (IsRebuilt s vs) (IsLoaded enc (narrow bytes) s c.args.at c.args.fuel.now c.load_list.new.fuel)
+    core_on_ok c.rebuild.result (IsRebuilt s vs) (IsLoaded enc (narrow bytes) s c.args.at c.args.fuel.now c.load_list.new.fuel)
     (λ v made. whole_loaded enc bytes s c.args.at c.args.fuel.now c.load_list.new.fuel vs v loaded made) c.rebuild.ensures.ok
 
 pub load_value-returns-in_err-charge_each-in-Members-clause-err : goal.load_value-returns-in_err-charge_each-in-Members-clause-err
@@ -246,7 +246,7 @@ load_value-returns-in-Ok-load_parts-clause-ok t c =
     let s = shape_of c.args.source.now.types.now c.args.ty.now in
     let vs = c.in-Ok-load_parts.values.items in
     let loaded = parts_loaded t (goal.at.load_value-returns-in-Ok-load_parts-clause-ok t c).In-Ok-load_parts in
-    on_ok c.rebuild-in-Ok-load_parts.result (IsRebuilt s vs) (IsLoaded enc (narrow bytes) s c.args.at c.args.fuel.now c.load_parts.new.fuel)
+    core_on_ok c.rebuild-in-Ok-load_parts.result (IsRebuilt s vs) (IsLoaded enc (narrow bytes) s c.args.at c.args.fuel.now c.load_parts.new.fuel)
     (λ v made. whole_loaded enc bytes s c.args.at c.args.fuel.now c.load_parts.new.fuel vs v loaded made) c.rebuild-in-Ok-load_parts.ensures.ok
 
 pub load_value-returns-in-Err-load_parts-clause-err : goal.load_value-returns-in-Err-load_parts-clause-err

@@ -7,7 +7,7 @@ use Rattle.canon_indices.specs.Options.{encoding_of}
 use Rattle.canon_context.specs.Told.{Exactly, LiftBlames}
 use Rattle.canon_value_parts.specs.Loads.{AreCharged, AreLoaded, charged_reach}
 use Rattle.canon_val.specs.declared.val.Val.{Val}
-use Rattle.canon_context.proofs.Told.{on_err, on_ok}
+use Rattle.canon_context.proofs.Told.{core_on_err, core_on_ok}
 use Rattle.canon_value_parts.proofs.Loading.{members_loaded, members_refused}
 use Rattle.canon_walks.proofs.load.load_members.Goals as goal
 
@@ -17,7 +17,7 @@ returns-clause-ok c =
     let m = narrow c.args.source.now.memory.now in
     let t = c.args.source.now.types.now in
     let ms = tuple_members t c.args.i in
-    on_ok c.load_parts.result (λ (vs : Vec Val Global). AreCharged enc m ms 0 c.args.at c.args.fuel.now c.load_parts.new.fuel vs.items) (λ (vs : Vec Val Global). AreLoaded enc m ms 0 c.args.at c.args.fuel.now c.load_parts.new.fuel vs.items)
+    core_on_ok c.load_parts.result (λ (vs : Vec Val Global). AreCharged enc m ms 0 c.args.at c.args.fuel.now c.load_parts.new.fuel vs.items) (λ (vs : Vec Val Global). AreLoaded enc m ms 0 c.args.at c.args.fuel.now c.load_parts.new.fuel vs.items)
     (λ vs h. members_loaded enc m t (types_of t c.args.i) c.args.at c.args.fuel.now c.load_parts.new.fuel vs.items h) c.load_parts.ensures.ok
 
 pub returns-clause-err : goal.returns-clause-err
@@ -26,6 +26,6 @@ returns-clause-err c =
     let m = narrow c.args.source.now.memory.now in
     let t = c.args.source.now.types.now in
     let ms = tuple_members t c.args.i in
-    on_err c.load_parts.result (LiftBlames (Exactly (MemberFault enc m ms 0 c.args.at)) (c.args.fuel.now < charged_reach enc m ms 0 c.args.at))
+    core_on_err c.load_parts.result (LiftBlames (Exactly (MemberFault enc m ms 0 c.args.at)) (c.args.fuel.now < charged_reach enc m ms 0 c.args.at))
     (LiftBlames (Exactly (MemberFault enc m ms 0 c.args.at)) (c.args.fuel.now < members_reach enc m ms 0 c.args.at))
     (members_refused enc m t (types_of t c.args.i) c.args.at c.args.fuel.now) c.load_parts.ensures.err

@@ -23,7 +23,7 @@ use Rattle.canon_value_parts.proofs.Listing.{row}
 use Rattle.canon_value_parts.proofs.Viewing.{lies_depth, lies_words, names_count}
 use Rattle.canon_value_parts.proofs.WalkCases.{case_wants}
 use Rattle.canon_value_parts.proofs.WalkLoops.{member_shallow}
-use Rattle.canon_value_parts.proofs.WordCases.{case_lowered, case_room, case_stopped}
+use Rattle.canon_value_parts.proofs.WordCases.{case_lowered, value_case_room, case_stopped}
 use Rattle.canon_value_parts.proofs.WordLoops.{end, go_on, has_room, misnamed, stop}
 use Rattle.canon_value_parts.proofs.WordSteps.{members_lower, value_refused}
 use Rattle.canon_walks.proofs.lower.+lower.Given.{Over}
@@ -168,7 +168,7 @@ lower_case-word_after-end-requires g t0 c = record {
 }
 
 pub lower_case-bounds-dst-from : goal.lower_case-bounds-dst-from
-lower_case-bounds-dst-from g t0 c = omega (arith, c.requires.room, case_room (component_types c.args.cx.now.core.now) (shape_of (component_types c.args.cx.now.core.now) c.args.ty.now) c.args.value.now c.args.case.now c.requires.seen)
+lower_case-bounds-dst-from g t0 c = omega (arith, c.requires.room, value_case_room (component_types c.args.cx.now.core.now) (shape_of (component_types c.args.cx.now.core.now) c.args.ty.now) c.args.value.now c.args.case.now c.requires.seen)
 
 pub lower_case-behind_tag-requires : goal.lower_case-behind_tag-requires
 lower_case-behind_tag-requires g t0 c =
@@ -177,7 +177,7 @@ lower_case-behind_tag-requires g t0 c =
       c.word_after-end.ensures,
       c.word_after-end.type_inv,
       ap (λ (x : TypeTable). flat (shape_of x c.args.ty.now)) c.types.ensures,
-      case_room (component_types c.args.cx.now.core.now)
+      value_case_room (component_types c.args.cx.now.core.now)
           (shape_of (component_types c.args.cx.now.core.now) c.args.ty.now) c.args.value.now c.args.case.now c.requires.seen,
     )
 
@@ -186,7 +186,7 @@ lower_case-lower_parts-requires g t0 c =
     let t = component_types c.args.cx.now.core.now in
     let s = shape_of t c.args.ty.now in
     let wants = case_wants t s c.args.value.now c.args.case.now 0 c.requires.seen in
-    let room = case_room t s c.args.value.now c.args.case.now c.requires.seen in
+    let room = value_case_room t s c.args.value.now c.args.case.now c.requires.seen in
     let falls : 4 * deepest (viewed_shapes t c.args.case.now.payload) + 1 < 4 * deepest (viewed_shapes t c.args.case.now.payload) + 2 = omega arith in
     λ κs sub. (
       search (rules, the_lemmas, falls),
@@ -208,7 +208,7 @@ lower_case-clear_to-requires g t0 c =
     let h = c.in-Ok.ensures.lowers in
     let words = ap (λ (x : TypeTable). flat (shape_of x c.args.ty.now)) c.types.ensures in
     record {
-      later = omega (arith, h.passed, ap (λ (x : Spot). x.word) c.behind_tag.ensures, c.word_after-end.ensures, words, case_room t (shape_of t c.args.ty.now) c.args.value.now c.args.case.now c.requires.seen);
+      later = omega (arith, h.passed, ap (λ (x : Spot). x.word) c.behind_tag.ensures, c.word_after-end.ensures, words, value_case_room t (shape_of t c.args.ty.now) c.args.value.now c.args.case.now c.requires.seen);
       room = omega (arith, h.stays.same_length, length-set c.args.dst.now c.args.from.word c.u32.result, c.requires.room, c.word_after-end.ensures, words);
     }
 

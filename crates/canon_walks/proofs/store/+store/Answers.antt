@@ -26,10 +26,10 @@ use Rattle.canon_context.proofs.Cores.{same_types}
 use Rattle.canon_value_parts.proofs.Passing.{handles_types}
 use Rattle.canon_value_parts.proofs.PassesOf.{case_passes, listed_passes, members_passes}
 use Rattle.canon_value_parts.proofs.Viewing.{lies_depth, lies_room, names_count, values_count}
-use Rattle.canon_value_parts.proofs.WalkCases.{case_stored, case_wants, written_length}
+use Rattle.canon_value_parts.proofs.WalkCases.{value_case_stored, case_wants, written_length}
 use Rattle.canon_value_parts.proofs.WalkLoops.{end, go_on, member_shallow, misnamed, parts_stood, stands, stop}
 use Rattle.canon_context.proofs.Moves.{GuestLaws}
-use Rattle.canon_value_parts.proofs.Walks.{list_told, members_store, placed_stop, value_refused}
+use Rattle.canon_value_parts.proofs.Walks.{value_list_told, members_store, placed_stop, value_refused}
 use Rattle.canon_value_parts.proofs.Listing.{element_size, listed, row}
 use Rattle.canon_value_parts.proofs.Placing.{list_broken, list_placed, list_refused, list_too_large}
 use Rattle.canon_walks.proofs.store.+store.Given.{Over}
@@ -224,7 +224,7 @@ store_list-returns-in-Ok-clause-stores g t0 c =
     let l = listed (component_types core) a.list.now c.requires.known in
     let L : GuestLaws _ = record { seen = g.G.Guest.seen; moves = g.G.Guest.moves; stays = g.met.G.Guest.stays; goes_on = g.met.G.Guest.goes_on } in
     let pair : IsPair placed.memory c.put_pair.new.memory a.at b.pointer b.length = subst (λ (xs : List ℕ). IsPair xs c.put_pair.new.memory a.at b.pointer b.length) c.as_slice_mut.ensures.value c.put_pair.ensures in
-    list_told L a.cx.now.options core placed c.put_pair.new.memory a.at _ a.place b (omega (arith, c.requires.room, there.lowered.lowering.goes.no_shorter)) there.lowered.lowering.small
+    value_list_told L a.cx.now.options core placed c.put_pair.new.memory a.at _ a.place b (omega (arith, c.requires.room, there.lowered.lowering.goes.no_shorter)) there.lowered.lowering.small
     there.narrow.0 there.narrow.1 pair _ l.part l.kind l.shape there
 
 pub store_list-returns-in-Err-clause-stores : goal.store_list-returns-in-Err-clause-stores
@@ -329,7 +329,7 @@ store_value-returns-in-Ok-Case-clause-stores g t0 c =
     let L : GuestLaws _ = record { seen = g.G.Guest.seen; moves = g.G.Guest.moves; stays = g.met.G.Guest.stays; goes_on = g.met.G.Guest.goes_on } in
     let put : num (narrow c.put_low_bytes.new.memory) a.at c.byte_size-size.result ≡ x.tag % 256 ^ c.byte_size-size.result = c.put_low_bytes.ensures.stored ∙ ap (λ (n : ℕ). n % 256 ^ c.byte_size-size.result) c.from-in-Ok-Case.ensures in
     let seen = rw c.in-Ok-Case.field-0-is at (rw c.types.ensures at c.in-Ok-Case.ensures) in
-    case_stored L a.cx.now.options (component_types core) core c.store_parts-in-Ok-Case.new.cx.core.now c.put_low_bytes.new.memory c.as_slice_mut.result.now (shape_of (component_types core) a.ty) a.at
+    value_case_stored L a.cx.now.options (component_types core) core c.store_parts-in-Ok-Case.new.cx.core.now c.put_low_bytes.new.memory c.as_slice_mut.result.now (shape_of (component_types core) a.ty) a.at
     c.byte_size-size.result (a.at + c.from.result) x a.value.now a.place
     c.saturating_add-in-Ok-Case.result c.store_parts-in-Ok-Case.result c.requires.small c.requires.room seen (case_passes (component_types core) a.ty a.value.now x seen)
     c.byte_size-size.ensures (ap (λ (o : ℕ). a.at + o) c.from.ensures)

@@ -11,8 +11,8 @@ returns-then-answer-from-ne0-clause-does g c =
     misanswered_bare (moment_of g.G.Guest.seen c.args.self.now) (moment (g.G.Guest.seen c.realloc-answer.new.self) m.bytes) (call c.args.old c.args.old_size c.args.old_align c.args.new_size) c.in-Ok.answer
     (c.in-Ok.answer % c.args.old_align ≡ 0 → ⊥) (search rules) (search rules)
 
-pub returns-then-answer-new_size-clause-does : goal.returns-then-answer-new_size-clause-does
-returns-then-answer-new_size-clause-does g c =
+pub returns-then-not-ends_inside-clause-does : goal.returns-then-not-ends_inside-clause-does
+returns-then-not-ends_inside-clause-does g c =
     let m = c.realloc-answer.new.memory in
     misanswered_bare (moment_of g.G.Guest.seen c.args.self.now) (moment (g.G.Guest.seen c.realloc-answer.new.self) m.bytes) (call c.args.old c.args.old_size c.args.old_align c.args.new_size) c.in-Ok.answer
     ((c.in-Ok.answer % c.args.old_align ≡ 0) × (c.in-Ok.answer + c.args.new_size ≤ length m.bytes → ⊥)) (search rules) (search rules)

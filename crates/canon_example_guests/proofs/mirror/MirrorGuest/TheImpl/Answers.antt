@@ -1,7 +1,7 @@
 use Rattle.std.proofs.Common.{ap}
 use Rattle.canon_model.specs.Memory.{Memory}
 use Rattle.canon_memory.specs.Realloc.{call}
-use Rattle.canon_example_guests.proofs.Meets.{caused, free, reallocates, started}
+use Rattle.canon_example_guests.proofs.Meets.{example_caused, free, reallocates, started}
 use Rattle.canon_example_guests.proofs.mirror.MirrorGuest.TheImpl.Goals as goal
 
 pub start-tells : goal.start-tells
@@ -12,7 +12,7 @@ start-tells c =
       width = c.ensures.width;
       goes = started a b c.args.memory.now.bytes c.new.memory.now.bytes c.ensures.length c.result c.ensures.counts _;
       moves = free c.result;
-      cause = caused a b c.args.memory.now.bytes c.new.memory.now.bytes c.ensures.length c.result c.ensures.counts;
+      cause = example_caused a b c.args.memory.now.bytes c.new.memory.now.bytes c.ensures.length c.result c.ensures.counts;
     }
 
 pub realloc-tells : goal.realloc-tells

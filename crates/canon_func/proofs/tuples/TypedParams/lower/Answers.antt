@@ -5,7 +5,7 @@ use Rattle.canon_context.specs.Core.{component_types}
 use Rattle.canon_model.specs.Flat.{max_params}
 use Rattle.canon_model.specs.Shape.{Members, of_places, product}
 use Rattle.canon_types.specs.Table.{TypeTable, tuple_members}
-use Rattle.canon_func.proofs.Lowered.{params_are, written}
+use Rattle.canon_func.proofs.Lowered.{params_are, call_written}
 use Rattle.canon_func.proofs.TupleLowered.{tuple_done, tuple_refused}
 use Rattle.canon_func.specs.Call.{words_within}
 use Rattle.canon_func.specs.Stores.{export_callee}
@@ -22,7 +22,7 @@ returns-in-Ok-clause-lowered g c =
     let callee = export_callee before.component e in
     let same : c.types-types.result.now ≡ component_types before = c.types-types.ensures ∙ ap (λ k. k.types.types) c.component.ensures.component in
     let are = params_are (component_types before) c.types-types.result.now e.ty f same c.func.ensures.found in
-    let all = written c.in_ok-words.words.items c.lower_into.new.words c.in_ok-words.words.len (omega (arith, c.deref_mut.ensures.len, c.lower_into.ensures.count)) in
+    let all = call_written c.in_ok-words.words.items c.lower_into.new.words c.in_ok-words.words.len (omega (arith, c.deref_mut.ensures.len, c.lower_into.ensures.count)) in
     let counted : words_within max_params (tuple_members c.types-types.result.now f.params) ≡ words_within max_params callee.params =
     ap (λ (t : TypeTable). words_within max_params (tuple_members t f.params)) same ∙ ap (words_within max_params) are in
     tuple_done L e.options before after callee.params (g.P.ComponentType.walks v) (g.P.Lower.gives before.component.types (product of_places callee.params) v) _ c.lower_into.new.words all

@@ -4,7 +4,7 @@ use Rattle.canon_types.specs.Table.{shape_of}
 use Rattle.canon_reading.specs.Reading.{setting_in}
 use Rattle.canon_reading.specs.Spots.{stored}
 use Rattle.canon_lift.proofs.CaseLookups.{IsOptionThere, option_there}
-use Rattle.canon_lift.proofs.Cases.{HasCase, none_lifts, one_aligned, one_inside, some_lifts, stored_case}
+use Rattle.canon_lift.proofs.Cases.{HasCase, none_lifts, one_aligned, lift_one_inside, some_lifts, stored_case}
 use Rattle.canon_lift_parts.proofs.CaseLifting.{IsOfCases, place_small, tag_room}
 use Rattle.canon_lift_parts.proofs.Lookups.{option_cases}
 use Rattle.canon_lift.proofs.compounds.OptionLift.linear_lift_from_memory.Given.{Over}
@@ -54,7 +54,7 @@ linear_lift_from_memory-requires-clause-aligned g c =
 pub linear_lift_from_memory-requires-clause-inside : goal.linear_lift_from_memory-requires-clause-inside
 linear_lift_from_memory-requires-clause-inside g c =
     let l = (goal.at.linear_lift_from_memory-requires-clause-inside g c).After-option-option in
-    one_inside c.args.cx.now.core.now (cases g l) c.from.result c.from.ensures 1 _ (there g l).payload (there g l).few
+    lift_one_inside c.args.cx.now.core.now (cases g l) c.from.result c.from.ensures 1 _ (there g l).payload (there g l).few
 
 pub returns-in-0-clause-lifts : goal.returns-in-0-clause-lifts
 returns-in-0-clause-lifts g c =

@@ -4,9 +4,9 @@ use Rattle.canon_types.specs.Table.{shape_of}
 use Rattle.canon_reading.specs.Reading.{setting_in}
 use Rattle.canon_reading.specs.Spots.{stored}
 use Rattle.canon_lift.proofs.CaseLookups.{IsResultThere, result_there}
-use Rattle.canon_lift.proofs.Cases.{HasCase, error_lifts, ok_lifts, one_aligned, one_inside, stored_case}
+use Rattle.canon_lift.proofs.Cases.{HasCase, error_lifts, ok_lifts, one_aligned, lift_one_inside, stored_case}
 use Rattle.canon_lift_parts.proofs.CaseLifting.{IsOfCases, place_small, tag_room}
-use Rattle.canon_lift_parts.proofs.Lookups.{result_cases}
+use Rattle.canon_lift_parts.proofs.Lookups.{lift_result_cases}
 use Rattle.canon_lift.proofs.compounds.ResultLift.linear_lift_from_memory.Given.{Over}
 use Rattle.canon_lift.proofs.compounds.ResultLift.linear_lift_from_memory.Goals.{After-load_tag, After-result-result}
 use Rattle.canon_lift.proofs.compounds.ResultLift.linear_lift_from_memory.Goals as goal
@@ -21,7 +21,7 @@ module _ (g : Over) (c : After-result-result g) where
   cases : IsOfCases (shape_of (component_types c.args.cx.now.core.now) c.args.ty) c.result-result.result.now.info c.args.cx.now.core.now.memory c.args.at
   cases =
       let r = c.result-result.result.now in
-      result_cases (component_types c.args.cx.now.core.now) c.types.result.now c.in-Result.i c.args.ty r.ok r.err c.types.ensures c.in-Result.is c.result-result.ensures.entry
+      lift_result_cases (component_types c.args.cx.now.core.now) c.types.result.now c.in-Result.i c.args.ty r.ok r.err c.types.ensures c.in-Result.is c.result-result.ensures.entry
       r.info c.args.cx.now.core.now.memory c.args.at c.result-result.ensures.info c.requires.aligned c.requires.inside
 
 -- its value
@@ -56,7 +56,7 @@ pub lift_payload-requires-clause-inside : goal.lift_payload-requires-clause-insi
 lift_payload-requires-clause-inside g c =
     let at = goal.at.lift_payload-requires-clause-inside g c in
     let type = there g at.After-result-result in
-    one_inside c.args.cx.now.core.now (cases g at.After-result-result) c.from.result c.from.ensures 0 _ type.ok_payload (type.few 0 (omega arith))
+    lift_one_inside c.args.cx.now.core.now (cases g at.After-result-result) c.from.result c.from.ensures 0 _ type.ok_payload (type.few 0 (omega arith))
 
 pub lift_payload-requires-in-1-clause-known : goal.lift_payload-requires-in-1-clause-known
 lift_payload-requires-in-1-clause-known g c = (there g (goal.at.lift_payload-requires-in-1-clause-known g c).After-result-result).error_known
@@ -71,7 +71,7 @@ pub lift_payload-requires-in-1-clause-inside : goal.lift_payload-requires-in-1-c
 lift_payload-requires-in-1-clause-inside g c =
     let at = goal.at.lift_payload-requires-in-1-clause-inside g c in
     let type = there g at.After-result-result in
-    one_inside c.args.cx.now.core.now (cases g at.After-result-result) c.from.result c.from.ensures 1 _ type.error_payload (type.few 1 (omega arith))
+    lift_one_inside c.args.cx.now.core.now (cases g at.After-result-result) c.from.result c.from.ensures 1 _ type.error_payload (type.few 1 (omega arith))
 
 pub returns-in-Ok-clause-lifts : goal.returns-in-Ok-clause-lifts
 returns-in-Ok-clause-lifts g c =

@@ -4,7 +4,7 @@ use Rattle.canon_reading.specs.Reading.{setting_in}
 use Rattle.canon_reading.specs.Spots.{flat_in}
 use Rattle.canon_lift_parts.proofs.Lookups.{IsFixedElement, fixed_part, fixed_there}
 use Rattle.canon_lift.proofs.Rows.{fixed_refused}
-use Rattle.canon_lift_parts.proofs.WordRooms.{fixed_words}
+use Rattle.canon_lift_parts.proofs.WordRooms.{lift_fixed_words}
 use Rattle.std.proofs.Common.{length}
 use Rattle.canon_lift.proofs.fixed_list.FixedListLift.lift_words.Given.{Over}
 use Rattle.canon_lift.proofs.fixed_list.FixedListLift.lift_words.Goals.{After-fixed_length_list}
@@ -23,7 +23,7 @@ lift_row-requires-clause-words g c =
     let t = component_types core in
     let list = c.fixed_length_list.result.now in
     let there = element g (goal.at.lift_row-requires-clause-words g c).After-fixed_length_list in
-    fixed_words (shape_of t c.args.ty) (shape_of t list.element) g.row.N c.args.at (length c.args.src.now) there.shape c.requires.words
+    lift_fixed_words (shape_of t c.args.ty) (shape_of t list.element) g.row.N c.args.at (length c.args.src.now) there.shape c.requires.words
 
 pub returns-in-Err-clause-lifts : goal.returns-in-Err-clause-lifts
 returns-in-Err-clause-lifts g c =

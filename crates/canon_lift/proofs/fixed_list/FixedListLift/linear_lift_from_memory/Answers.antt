@@ -3,7 +3,7 @@ use Rattle.canon_types.specs.Table.{shape_of}
 use Rattle.canon_reading.specs.Reading.{setting_in}
 use Rattle.canon_reading.specs.Spots.{stored}
 use Rattle.canon_lift_parts.proofs.Lookups.{IsFixedElement, fixed_aligned, fixed_inside, fixed_part, fixed_there}
-use Rattle.canon_lift.proofs.Rows.{fixed_refused, row_items, row_refused}
+use Rattle.canon_lift.proofs.Rows.{fixed_refused, row_items, lift_row_refused}
 use Rattle.canon_lift.proofs.fixed_list.FixedListLift.linear_lift_from_memory.Given.{Over}
 use Rattle.canon_lift.proofs.fixed_list.FixedListLift.linear_lift_from_memory.Goals.{After-fixed_length_list}
 use Rattle.canon_lift.proofs.fixed_list.FixedListLift.linear_lift_from_memory.Goals as goal
@@ -42,4 +42,4 @@ returns-in-Err-clause-lifts g c =
     let after = c.linear_lift_list_from_memory.new.cx in
     fixed_refused g.row.N g.T.Lift.reading (λ v. v.items.items) w (stored c.args.at) s u core.ledger after.core.now.ledger cx.fuel after.fuel
     c.in-Err.fault (fixed_part s u g.row.N c.args.at there.shape)
-    (row_refused w list.element c.args.at g.row.N c.row-row.result c.row-row.ensures g.T.Lift.reading core.ledger after.core.now.ledger cx.fuel after.fuel c.in-Err.fault c.in-Err.ensures.lifts)
+    (lift_row_refused w list.element c.args.at g.row.N c.row-row.result c.row-row.ensures g.T.Lift.reading core.ledger after.core.now.ledger cx.fuel after.fuel c.in-Err.fault c.in-Err.ensures.lifts)

@@ -2,11 +2,11 @@ use Rattle.std.proofs.Common.{length}
 use Rattle.canon_reading.specs.Reading.{setting_in}
 use Rattle.canon_reading.specs.Spots.{flat_in}
 use Rattle.canon_lift_parts.proofs.HandleSteps.{any_lifts}
-use Rattle.canon_lift_parts.proofs.WordRooms.{handle_words}
+use Rattle.canon_lift_parts.proofs.WordRooms.{lift_handle_words}
 use Rattle.canon_lift.proofs.handles.ResourceAnyLift.lift_words.Goals as goal
 
 pub word_u32-requires : goal.word_u32-requires
-word_u32-requires g c = handle_words c.args.cx.now.core.now.component.types c.args.ty c.args.at (length c.args.src.now) c.requires.fits c.requires.words
+word_u32-requires g c = lift_handle_words c.args.cx.now.core.now.component.types c.args.ty c.args.at (length c.args.src.now) c.requires.fits c.requires.words
 
 pub returns-clause-lifts : goal.returns-clause-lifts
 returns-clause-lifts g c =

@@ -6,13 +6,13 @@ use Rattle.canon_model.specs.Memory.{num}
 use Rattle.canon_types.specs.Table.{shape_of}
 use Rattle.canon_reading.specs.Reading.{setting_in}
 use Rattle.canon_reading.specs.Spots.{stored}
-use Rattle.canon_lift_parts.proofs.HandleSteps.{any_lifts, handle_room}
+use Rattle.canon_lift_parts.proofs.HandleSteps.{any_lifts, lift_handle_room}
 use Rattle.canon_lift.proofs.handles.ResourceAnyLift.linear_lift_from_memory.Goals as goal
 
 pub load_u32-index-requires : goal.load_u32-index-requires
 load_u32-index-requires g c =
     let core = c.args.cx.now.core.now in
-    handle_room core.component.types c.args.ty c.memory.result.now core.memory c.args.at c.requires.fits c.requires.inside c.memory.ensures
+    lift_handle_room core.component.types c.args.ty c.memory.result.now core.memory c.args.at c.requires.fits c.requires.inside c.memory.ensures
 
 pub returns-clause-lifts : goal.returns-clause-lifts
 returns-clause-lifts g c =

@@ -2,14 +2,15 @@ use Rattle.std.proofs.Common.{length}
 use Rattle.canon_reading.specs.HostHandles.{IsMadeBy}
 use Rattle.canon_reading.specs.Reading.{setting_in}
 use Rattle.canon_reading.specs.Spots.{flat_in}
-use Rattle.canon_lift_parts.proofs.HostSteps.{held_lifts, is_handle}
-use Rattle.canon_lift_parts.proofs.WordRooms.{handle_words}
+use Rattle.canon_lift_parts.proofs.HostSteps.{held_lifts}
+use Rattle.canon_lift_parts.proofs.WordRooms.{lift_handle_words}
 use Rattle.canon_lift.proofs.host_handles.HostResourceLift.lift_words.Goals as goal
+use Rattle.canon_typed.proofs.Layouts.{is_handle}
 
 pub word_u32-requires : goal.word_u32-requires
 word_u32-requires g c =
     let types = c.args.cx.now.core.now.component.types in
-    handle_words types c.args.ty c.args.at (length c.args.src.now) (is_handle g.T.HostResourceType.checked types c.args.ty c.requires.fits) c.requires.words
+    lift_handle_words types c.args.ty c.args.at (length c.args.src.now) (is_handle g.T.HostResourceType.checked types c.args.ty c.requires.fits) c.requires.words
 
 pub returns-clause-lifts : goal.returns-clause-lifts
 returns-clause-lifts g c =

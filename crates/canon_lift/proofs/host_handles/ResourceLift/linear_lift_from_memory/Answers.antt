@@ -8,14 +8,15 @@ use Rattle.canon_types.specs.Table.{shape_of}
 use Rattle.canon_reading.specs.HostHandles.{IsMadeBy}
 use Rattle.canon_reading.specs.Reading.{setting_in}
 use Rattle.canon_reading.specs.Spots.{stored}
-use Rattle.canon_lift_parts.proofs.HandleSteps.{handle_room}
-use Rattle.canon_lift_parts.proofs.HostSteps.{held_lifts, is_handle}
+use Rattle.canon_lift_parts.proofs.HandleSteps.{lift_handle_room}
+use Rattle.canon_lift_parts.proofs.HostSteps.{held_lifts}
 use Rattle.canon_lift.proofs.host_handles.ResourceLift.linear_lift_from_memory.Goals as goal
+use Rattle.canon_typed.proofs.Layouts.{is_handle}
 
 pub load_u32-index-requires : goal.load_u32-index-requires
 load_u32-index-requires g c =
     let core = c.args.cx.now.core.now in
-    handle_room core.component.types c.args.ty c.memory.result.now core.memory c.args.at (is_handle (as_host g.T.HostType.ID) core.component.types c.args.ty c.requires.fits) c.requires.inside c.memory.ensures
+    lift_handle_room core.component.types c.args.ty c.memory.result.now core.memory c.args.at (is_handle (as_host g.T.HostType.ID) core.component.types c.args.ty c.requires.fits) c.requires.inside c.memory.ensures
 
 pub returns-clause-lifts : goal.returns-clause-lifts
 returns-clause-lifts g c =

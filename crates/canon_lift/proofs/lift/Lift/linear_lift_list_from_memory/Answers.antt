@@ -7,7 +7,7 @@ use Rattle.canon_types.specs.Table.{Knows, shape_of}
 use Rattle.canon_reading.specs.Reading.{Lifts, setting_in}
 use Rattle.canon_reading.specs.Readings.{item_spot}
 use Rattle.canon_reading.specs.Spots.{stored}
-use Rattle.canon_lift.proofs.Rows.{IsSoFar, all_lifted, item_lifts, item_lost, item_refused, none_lifted, one_more, row_room}
+use Rattle.canon_lift.proofs.Rows.{IsSoFar, all_lifted, item_lifts, item_lost, item_refused, none_lifted, one_more, lift_row_room}
 use Rattle.canon_lift.proofs.Stays.{only_ledger}
 use Rattle.canon_lift_parts.proofs.Settings.{element_aligned, looked_up_size, same_shape}
 use Rattle.canon_lift.proofs.lift.Lift.linear_lift_list_from_memory.Given.{Over}
@@ -57,7 +57,7 @@ linear_lift_from_memory-requires-clause-inside g c =
     let is = step_is g (goal.at.linear_lift_from_memory-requires-clause-inside g c).After-from-size in
     let room : list.pointer + list.count * size false s ≤ length core.memory = c.requires.items.good.1 in
     subst (λ (z : Parts g.row.U.Denot g.row.G.Denot). list.pointer + c.loop-k.k * step + size false (shape_of (component_types z) list.element) ≤ length z.memory) (sym c.loop-k.invariant.same_core)
-    (row_room list.pointer c.loop-k.k list.count step (size false s) (length core.memory) (omega arith) is room)
+    (lift_row_room list.pointer c.loop-k.k list.count step (size false s) (length core.memory) (omega arith) is room)
 
 pub loop-k-init : goal.loop-k-init
 loop-k-init g c =

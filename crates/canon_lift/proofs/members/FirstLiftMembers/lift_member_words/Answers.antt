@@ -5,7 +5,7 @@ use Rattle.canon_types.specs.Table as table
 use Rattle.canon_types.specs.Table.{HasTuple, members_of, shape_of}
 use Rattle.canon_typed.specs.Types.{AreOf}
 use Rattle.canon_reading.specs.Spots.{flat_from, flat_in}
-use Rattle.canon_lift.proofs.MemberLifting.{IsMember, IsNext, first_refused, members_from, next, rest_lifts}
+use Rattle.canon_lift.proofs.MemberLifting.{IsMember, IsNextMember, first_refused, members_from, next, rest_lifts}
 use Rattle.canon_lift.proofs.Stays.{only_ledger}
 use Rattle.canon_lift_parts.proofs.WordRooms.{member_words}
 use Rattle.canon_lift.proofs.members.FirstLiftMembers.lift_member_words.Given.{Over}
@@ -14,7 +14,7 @@ use Rattle.canon_lift.proofs.members.FirstLiftMembers.lift_member_words.Goals as
 
 -- the type of member k, and its words
 module _ (g : Over) (c : After-index g) where
-  next_there : IsNext c.args.cx.now.core.now c.args.i c.args.k g.A.ComponentType.fits g.R.LiftMembers.all c.index.result.now
+  next_there : IsNextMember c.args.cx.now.core.now c.args.i c.args.k g.A.ComponentType.fits g.R.LiftMembers.all c.index.result.now
   next_there =
       next c.args.cx.now.core.now c.args.i c.args.k g.A.ComponentType.fits g.R.LiftMembers.all c.types.result.now c.tuple.result.now.types.items c.index.result.now
       c.types.ensures c.tuple.ensures.types c.index.ensures c.requires.fits
@@ -31,7 +31,7 @@ module _ (g : Over) (c : After-flat_words g) where
   words = c.flat_words.ensures ∙ ap (λ t. flat (shape_of t c.index.result.now)) c.types-2.ensures
 
   -- where it stands, and those behind it
-  here : IsNext c.args.cx.now.core.now c.args.i c.args.k g.A.ComponentType.fits g.R.LiftMembers.all c.index.result.now
+  here : IsNextMember c.args.cx.now.core.now c.args.i c.args.k g.A.ComponentType.fits g.R.LiftMembers.all c.index.result.now
       → IsMember c.args.cx.now.core.now c.args.i c.args.k (shape_of (component_types c.args.cx.now.core.now) c.index.result.now) (flat_from c.args.src.now c.args.at)
       (flat_from c.args.src.now (c.args.at + c.flat_words.result)) (flat_in c.args.src.now c.args.at)
   here n = record {

@@ -5,27 +5,27 @@ use Rattle.canon_types.specs.Table as table
 use Rattle.canon_types.specs.Table.{HasTuple, members_of, shape_of}
 use Rattle.canon_typed.specs.Types.{AreOf}
 use Rattle.canon_reading.specs.Spots.{stored, stored_from}
-use Rattle.canon_lift.proofs.MemberLifting.{IsMember, IsNext, IsPlaced, first_refused, members_from, next, placed, rest_lifts}
+use Rattle.canon_lift.proofs.MemberLifting.{IsMember, IsNextMember, IsPlacedMember, first_refused, members_from, next, lift_placed, rest_lifts}
 use Rattle.canon_lift.proofs.Stays.{only_ledger}
-use Rattle.canon_lift_parts.proofs.MemberSteps.{next_fits}
+use Rattle.canon_lift_parts.proofs.MemberSteps.{lift_next_fits}
 use Rattle.canon_lift.proofs.members.FirstLiftMembers.lift_members.Given.{Over}
 use Rattle.canon_lift.proofs.members.FirstLiftMembers.lift_members.Goals.{After-index, After-next_field32_size-start}
 use Rattle.canon_lift.proofs.members.FirstLiftMembers.lift_members.Goals as goal
 
 -- the type of member k
-next_there : (g : Over) (c : After-index g) → IsNext c.args.cx.now.core.now c.args.i c.args.k g.A.ComponentType.fits g.R.LiftMembers.all c.index.result.now
+next_there : (g : Over) (c : After-index g) → IsNextMember c.args.cx.now.core.now c.args.i c.args.k g.A.ComponentType.fits g.R.LiftMembers.all c.index.result.now
 next_there g c =
     next c.args.cx.now.core.now c.args.i c.args.k g.A.ComponentType.fits g.R.LiftMembers.all c.types.result.now c.tuple.result.now.types.items c.index.result.now
     c.types.ensures c.tuple.ensures.types c.index.ensures c.requires.fits
 
 -- where it stands, and those behind it
-module _ (g : Over) (c : After-next_field32_size-start g) (n : IsNext c.args.cx.now.core.now c.args.i c.args.k g.A.ComponentType.fits g.R.LiftMembers.all c.index.result.now) where
-  stands : IsPlaced (shape_of (component_types c.args.cx.now.core.now) c.index.result.now) (members_from c.args.i (c.args.k + 1) c.args.cx.now.core.now) c.args.cx.now.core.now.memory
+module _ (g : Over) (c : After-next_field32_size-start g) (n : IsNextMember c.args.cx.now.core.now c.args.i c.args.k g.A.ComponentType.fits g.R.LiftMembers.all c.index.result.now) where
+  stands : IsPlacedMember (shape_of (component_types c.args.cx.now.core.now) c.index.result.now) (members_from c.args.i (c.args.k + 1) c.args.cx.now.core.now) c.args.cx.now.core.now.memory
       c.args.at c.args.end c.next_field32_size-start.result c.next_field32_size-start.new.offset
   stands =
       let t = component_types c.args.cx.now.core.now in
       let f = c.next_field32_size-start in
-      placed t c.types-2.result.now _ _ c.index.result.now n.split c.args.cx.now.core.now.memory c.args.at c.args.end f.result f.new.offset c.canonical_abi.result.now
+      lift_placed t c.types-2.result.now _ _ c.index.result.now n.split c.args.cx.now.core.now.memory c.args.at c.args.end f.result f.new.offset c.canonical_abi.result.now
       c.requires.aligned c.requires.inside c.types-2.ensures c.canonical_abi.ensures f.ensures.start f.ensures.end
 
   here : IsMember c.args.cx.now.core.now c.args.i c.args.k (shape_of (component_types c.args.cx.now.core.now) c.index.result.now) (stored_from c.args.at c.args.end)
@@ -37,7 +37,7 @@ next_field32_size-start-requires g c =
     let t = component_types c.args.cx.now.core.now in
     let n = next_there g (goal.at.next_field32_size-start-requires g c).After-index in
     record {
-      fits = next_fits t _ _ c.index.result.now n.split c.args.at c.args.end c.args.cx.now.core.now.memory c.requires.inside c.requires.aligned
+      fits = lift_next_fits t _ _ c.index.result.now n.split c.args.at c.args.end c.args.cx.now.core.now.memory c.requires.inside c.requires.aligned
           c.types-2.result.now c.canonical_abi.result.now c.types-2.ensures c.canonical_abi.ensures c.memory-memory.ensures.small;
     }
 

@@ -6,18 +6,18 @@ use Rattle.canon_model.specs.Reach.{word}
 use Rattle.canon_reading.specs.Reading.{setting_in}
 use Rattle.canon_reading.specs.Spots.{flat_in}
 use Rattle.canon_lift.proofs.Pairs.{text_lifts}
-use Rattle.canon_lift_parts.proofs.WordRooms.{text_words}
+use Rattle.canon_lift_parts.proofs.WordRooms.{lift_text_words}
 use Rattle.canon_lift.proofs.texts.StringLift.lift_words.Goals as goal
 
 pub word_u32-requires : goal.word_u32-requires
 word_u32-requires g c =
     let t = component_types c.args.cx.now.core.now in
-    omega (arith, text_words (shape_of t c.args._ty) c.args.at (length c.args.src.now) (ap (shape_of t) c.requires.fits) c.requires.words)
+    omega (arith, lift_text_words (shape_of t c.args._ty) c.args.at (length c.args.src.now) (ap (shape_of t) c.requires.fits) c.requires.words)
 
 pub word_u32-requires-2 : goal.word_u32-requires-2
 word_u32-requires-2 g c =
     let t = component_types c.args.cx.now.core.now in
-    omega (arith, text_words (shape_of t c.args._ty) c.args.at (length c.args.src.now) (ap (shape_of t) c.requires.fits) c.requires.words)
+    omega (arith, lift_text_words (shape_of t c.args._ty) c.args.at (length c.args.src.now) (ap (shape_of t) c.requires.fits) c.requires.words)
 
 pub returns-clause-lifts : goal.returns-clause-lifts
 returns-clause-lifts g c =

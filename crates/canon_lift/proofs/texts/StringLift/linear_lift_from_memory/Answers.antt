@@ -7,18 +7,18 @@ use Rattle.canon_model.specs.Memory.{num}
 use Rattle.canon_types.specs.Table.{shape_of}
 use Rattle.canon_reading.specs.Reading.{setting_in}
 use Rattle.canon_reading.specs.Spots.{stored}
-use Rattle.canon_lift.proofs.Pairs.{text_lifts, text_room}
+use Rattle.canon_lift.proofs.Pairs.{text_lifts, lift_text_room}
 use Rattle.canon_lift.proofs.texts.StringLift.linear_lift_from_memory.Goals as goal
 
 pub load_u32-requires : goal.load_u32-requires
 load_u32-requires g c =
     let core = c.args.cx.now.core.now in
-    omega (arith, text_room c.memory.result.now core.memory (shape_of (component_types core) c.args._ty) c.args.at (ap (shape_of (component_types core)) c.requires.fits) c.requires.inside c.memory.ensures)
+    omega (arith, lift_text_room c.memory.result.now core.memory (shape_of (component_types core) c.args._ty) c.args.at (ap (shape_of (component_types core)) c.requires.fits) c.requires.inside c.memory.ensures)
 
 pub load_u32-requires-2 : goal.load_u32-requires-2
 load_u32-requires-2 g c =
     let core = c.args.cx.now.core.now in
-    omega (arith, text_room c.memory-2.result.now core.memory (shape_of (component_types core) c.args._ty) c.args.at (ap (shape_of (component_types core)) c.requires.fits) c.requires.inside c.memory-2.ensures)
+    omega (arith, lift_text_room c.memory-2.result.now core.memory (shape_of (component_types core) c.args._ty) c.args.at (ap (shape_of (component_types core)) c.requires.fits) c.requires.inside c.memory-2.ensures)
 
 pub returns-clause-lifts : goal.returns-clause-lifts
 returns-clause-lifts g c =

@@ -2,7 +2,7 @@ use Rattle.std.proofs.Common.{Result, subst}
 use Rattle.canon_context.specs.Core.{component_types}
 use Rattle.canon_types.specs.Table.{shape_of}
 use Rattle.canon_typed.specs.Meaning.{ResultMeans}
-use Rattle.canon_lower_parts.proofs.Seen.{result_seen}
+use Rattle.canon_lower_parts.proofs.Seen.{lower_result_seen}
 use Rattle.canon_lower_parts.specs.Gives.{result_gives}
 use Rattle.canon_lower_parts.specs.Words.{TypedLowers}
 use Rattle.canon_lower.proofs.compounds.ResultLowerShared.linear_lower_to_flat.Goals as goal
@@ -19,5 +19,5 @@ returns-clause-lowers g c =
     let h = g.E.LowerShared.gives in
     subst (λ (v : Result g.row.T.Denot g.row.E.Denot). TypedLowers g.G.Guest.seen g.G.Guest.moves a.cx.now.options core low.new.cx.core.now s low.new.dst 0 (ResultMeans T.is_unit T.walks E.is_unit E.walks v)
     (result_gives T.is_unit f E.is_unit h core.component.types s v) low.result) c.as_ref.ensures.value
-    (result_seen T.is_unit T.walks f E.is_unit E.walks h core.component.types s (λ Has gs. TypedLowers g.G.Guest.seen g.G.Guest.moves a.cx.now.options core low.new.cx.core.now s low.new.dst 0 Has gs low.result) c.as_ref.result
+    (lower_result_seen T.is_unit T.walks f E.is_unit E.walks h core.component.types s (λ Has gs. TypedLowers g.G.Guest.seen g.G.Guest.moves a.cx.now.options core low.new.cx.core.now s low.new.dst 0 Has gs low.result) c.as_ref.result
     low.ensures.lowers)

@@ -1,6 +1,6 @@
 use Rattle.canon_types.specs.Resource.{as_host_dynamic}
-use Rattle.canon_lower_parts.proofs.HeldSteps.{held_type}
 use Rattle.canon_lower.proofs.host_resources.ResourceDynamicLower.linear_lower_to_memory.Goals as goal
+use Rattle.canon_typed.proofs.Layouts.{is_handle}
 
 pub store_held-requires-clause-fits : goal.store_held-requires-clause-fits
-store_held-requires-clause-fits g c = held_type as_host_dynamic c.args.cx.now.core.now.component.types c.args.ty c.requires.fits
+store_held-requires-clause-fits g c = is_handle as_host_dynamic c.args.cx.now.core.now.component.types c.args.ty c.requires.fits

@@ -1,6 +1,6 @@
 use Rattle.canon_resources.specs.Types.{as_host}
-use Rattle.canon_lower_parts.proofs.HeldSteps.{held_type}
 use Rattle.canon_lower.proofs.host_resources.ResourceLower.linear_lower_to_flat.Goals as goal
+use Rattle.canon_typed.proofs.Layouts.{is_handle}
 
 pub lower_held-requires-clause-fits : goal.lower_held-requires-clause-fits
-lower_held-requires-clause-fits g c = held_type (as_host g.T.HostType.ID) c.args.cx.now.core.now.component.types c.args.ty c.requires.fits
+lower_held-requires-clause-fits g c = is_handle (as_host g.T.HostType.ID) c.args.cx.now.core.now.component.types c.args.ty c.requires.fits

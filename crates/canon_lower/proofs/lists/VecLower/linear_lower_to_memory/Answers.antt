@@ -5,7 +5,7 @@ use Rattle.canon_context.specs.Core.{component_types}
 use Rattle.canon_model.specs.Shape.{of_items}
 use Rattle.canon_types.specs.Table.{shape_of}
 use Rattle.canon_typed.specs.Meaning.{ListMeans}
-use Rattle.canon_lower_parts.proofs.ListSteps.{list_done, list_shape, pair_room}
+use Rattle.canon_lower_parts.proofs.ListSteps.{list_done, lower_list_shape, pair_room}
 use Rattle.canon_lower_parts.specs.Gives.{item_shape}
 use Rattle.canon_lower_parts.specs.Places.{TypedPlaces}
 use Rattle.canon_lower.proofs.lists.VecLower.linear_lower_to_memory.Goals as goal
@@ -19,7 +19,7 @@ put_placed-requires-clause-room g c =
     let a = c.args in
     let core = a.cx.now.core.now in
     let p = c.place_list-placed in
-    let (s, shape) = list_shape g.T.ComponentType.fits core.component.types a.ty c.requires.fits in
+    let (s, shape) = lower_list_shape g.T.ComponentType.fits core.component.types a.ty c.requires.fits in
     pair_room L a.cx.now.options core p.new.cx.core.now (shape_of (component_types core) a.ty) s of_items shape a.offset c.requires.room _ _ p.result p.ensures.places
 
 pub returns-clause-stores : goal.returns-clause-stores
@@ -29,7 +29,7 @@ returns-clause-stores g c =
     let core = a.cx.now.core.now in
     let z = shape_of (component_types core) a.ty in
     let W = g.T.ComponentType.walks in
-    let (s, shape) = list_shape g.T.ComponentType.fits core.component.types a.ty c.requires.fits in
+    let (s, shape) = lower_list_shape g.T.ComponentType.fits core.component.types a.ty c.requires.fits in
     let p = c.place_list-placed in
     let there = subst (λ (xs : List g.row.T.Denot). TypedPlaces L.seen L.moves a.cx.now.options core p.new.cx.core.now z (ListMeans W xs) (flat_map (g.T.Lower.gives core.component.types (item_shape z)) xs) p.result) c.as_mut_slice.ensures.value p.ensures.places in
     list_done L a.cx.now.options core p.new.cx.core.now z s of_items shape a.offset c.requires.room (ListMeans W a.self.now.items) (flat_map (g.T.Lower.gives core.component.types (item_shape z)) a.self.now.items)

@@ -4,9 +4,8 @@ use Rattle.canon_context.specs.Core.{component_types}
 use Rattle.canon_model.specs.Layout.{size}
 use Rattle.canon_types.specs.Table.{shape_of}
 use Rattle.canon_lower_parts.proofs.Rows.{item_stood, row_broken, row_end, row_go_on}
-use Rattle.canon_plan.proofs.Lookups.{drop_at}
+use Rattle.canon_plan.proofs.Lookups.{drop_at, item_size}
 use Rattle.canon_value_parts.proofs.Passing.{handles_instance}
-use Rattle.canon_lower_parts.proofs.Types.{size_here}
 use Rattle.canon_lower.proofs.lower.LowerShared.linear_store_list_to_memory.Goals as goal
 
 pub returns-in-Err-clause-stores : goal.returns-in-Err-clause-stores
@@ -19,7 +18,7 @@ returns-in-Err-clause-stores g c =
     let i = c.loop-k.invariant in
     let x = c.index-items-k.result in
     let here = drop_at a.items.now c.loop-k.k c.index-items-k.result x c.index-items-k.is (omega (arith, c.loop-k-test.true, c.loop-k.auto.k-end)) in
-    let bytes : c.from-size.result ≡ size false (shape_of t a.ty) = c.from-size.ensures ∙ size_here t c.types.result.now a.ty c.canonical_abi.result.now c.types.ensures c.canonical_abi.ensures in
+    let bytes : c.from-size.result ≡ size false (shape_of t a.ty) = c.from-size.ensures ∙ item_size t c.types.result.now a.ty c.canonical_abi.result.now c.types.ensures c.canonical_abi.ensures in
     let one = item_stood g.G.Guest.seen g.G.Guest.moves a.cx.now.options g.Self.ComponentType.walks g.Self.LowerShared.gives core.component.types now c.linear_lower_to_memory.new.cx.core.now c.loop-k.cx.options a.ty a.offset c.loop-k.k c.from-size.result x (Err c.in-Err.fault)
     i.options (handles_instance core now i.stored.same) bytes c.in-Err.ensures.stores in
     row_broken L a.cx.now.options g.Self.ComponentType.walks (g.Self.LowerShared.gives core.component.types (shape_of t a.ty)) (shape_of t a.ty) a.offset a.items.now core now c.linear_lower_to_memory.new.cx.core.now c.loop-k.k x c.in-Err.fault here one i.stored
@@ -34,7 +33,7 @@ loop-k-preserved g c =
     let i = c.loop-k.invariant in
     let x = c.index-items-k.result in
     let here = drop_at a.items.now c.loop-k.k c.index-items-k.result x c.index-items-k.is (omega (arith, c.loop-k-test.true, c.loop-k.auto.k-end)) in
-    let bytes : c.from-size.result ≡ size false (shape_of t a.ty) = c.from-size.ensures ∙ size_here t c.types.result.now a.ty c.canonical_abi.result.now c.types.ensures c.canonical_abi.ensures in
+    let bytes : c.from-size.result ≡ size false (shape_of t a.ty) = c.from-size.ensures ∙ item_size t c.types.result.now a.ty c.canonical_abi.result.now c.types.ensures c.canonical_abi.ensures in
     let one = item_stood g.G.Guest.seen g.G.Guest.moves a.cx.now.options g.Self.ComponentType.walks g.Self.LowerShared.gives core.component.types now c.linear_lower_to_memory.new.cx.core.now c.loop-k.cx.options a.ty a.offset c.loop-k.k c.from-size.result x (Ok tt)
     i.options (handles_instance core now i.stored.same) bytes c.in-Ok.ensures.stores in
     record {

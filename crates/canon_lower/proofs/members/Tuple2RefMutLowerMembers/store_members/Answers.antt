@@ -1,5 +1,5 @@
 use Rattle.canon_context.proofs.Moves.{GuestLaws}
-use Rattle.canon_lower_parts.proofs.TupleSteps.{first_room, later_room, stored_more, stored_stop}
+use Rattle.canon_lower_parts.proofs.TupleSteps.{first_room, later_room, lower_stored_more, stored_stop}
 use Rattle.canon_lower.proofs.members.Tuple2RefMutLowerMembers.store_members.Goals as goal
 
 pub store_member-requires-clause-room : goal.store_member-requires-clause-room
@@ -23,7 +23,7 @@ returns-in-Ok-clause-stores g c =
     let v = a.self.now in
     let one = c.in-Ok.ensures in
     let more = c.store_members in
-    stored_more L a.cx.now.options a.cx.now.core.now a.ty.now a.k g.A.ComponentType.fits g.R.LowerMembers.all c.requires.fits c.store_member.new.cx.core.now one.stores.same
+    lower_stored_more L a.cx.now.options a.cx.now.core.now a.ty.now a.k g.A.ComponentType.fits g.R.LowerMembers.all c.requires.fits c.store_member.new.cx.core.now one.stores.same
     c.store_member.new.k one.next a.at a.end c.store_member.new.end one.end (g.A.ComponentType.walks v.0.now) (g.R.LowerMembers.have v.1) (λ i u. g.A.Lower.gives i u v.0.now) (λ i. g.R.LowerMembers.give i v.1)
     more.new.cx.core.now c.store_member.new.cx.options more.result one.same_options one.stores more.ensures.stores
 

@@ -12,7 +12,7 @@ use Rattle.canon_leaves.specs.Parts.{LeavesLift, LeavesStop}
 use Rattle.canon_model.specs.Leaves.{Leaf, flat_leaves}
 use Rattle.canon_indices.specs.Options.{encoding_of}
 use Rattle.canon_plan.specs.Plan.{shapes_of, members_from}
-use Rattle.canon_context.proofs.Told.{on_err}
+use Rattle.canon_context.proofs.Told.{core_on_err}
 use Rattle.canon_value_parts.proofs.LiftLoops.{lift_part_leaves}
 use Rattle.canon_value_parts.proofs.LiftCases.{case_weighs_words, variant_word}
 use Rattle.canon_value_parts.proofs.LiftSteps.{word_found}
@@ -105,7 +105,7 @@ lift_value-returns-in-Scalar-clause-handles t c =
     let (k, e) = c.in-Scalar.ensures in
     lifts_nothing s.instance.now resources a.ledger.now a.ledger.now _ c.lift_scalar.result (scalar_flat_leaves (narrow s.memory.now) a.src.now a.at.now k _ (scalar_shape s.types.now a.ty.now k e)) refl
     (lifted_scalar_none (encoding_of s.encoding) (narrow s.memory.now) a.src.now a.at.now c.lift_scalar.new.at a.fuel.now k _ (plain_scalar a.ty.now k e) c.lift_scalar.result (c.lift_scalar.ensures.lifts (encoding_of s.encoding) (narrow s.memory.now) a.fuel.now))
-    (on_err c.lift_scalar.result IsNoRefusal (λ f. stop_of f ≡ None) no_refusal c.lift_scalar.ensures.unrefused)
+    (core_on_err c.lift_scalar.result IsNoRefusal (λ f. stop_of f ≡ None) no_refusal c.lift_scalar.ensures.unrefused)
 
 pub lift_value-returns-in-Text-clause-handles : goal.lift_value-returns-in-Text-clause-handles
 lift_value-returns-in-Text-clause-handles t c =
@@ -113,7 +113,7 @@ lift_value-returns-in-Text-clause-handles t c =
     let s = a.source.now in
     lifts_nothing s.instance.now resources a.ledger.now a.ledger.now _ c.lift_string.result (text_flat_leaves (narrow s.memory.now) a.src.now a.at.now _ c.in-Text.ensures) refl
     (lifted_text_none (encoding_of s.encoding) (narrow s.memory.now) a.src.now a.at.now c.lift_string.new.at a.fuel.now c.lift_string.new.fuel c.lift_string.result c.lift_string.ensures.lifts)
-    (on_err c.lift_string.result IsNoRefusal (λ f. stop_of f ≡ None) no_refusal c.lift_string.ensures.unrefused)
+    (core_on_err c.lift_string.result IsNoRefusal (λ f. stop_of f ≡ None) no_refusal c.lift_string.ensures.unrefused)
 
 pub lift_value-returns-in-Flags-clause-handles : goal.lift_value-returns-in-Flags-clause-handles
 lift_value-returns-in-Flags-clause-handles t c = rw c.in-Flags.ensures (c.lift_flags.ensures.handles c.args.ledger.now)

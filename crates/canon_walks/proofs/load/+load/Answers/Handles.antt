@@ -1,5 +1,6 @@
 -- What loading does with handles, step by step, and what it says of lists and cases.
 use Rattle.std.proofs.Common.{◌≡◌, ◌≤◌, ◌<◌, ◌+◌, ◌-◌, ◌*◌, ◌%◌, ◌∙◌, [], List, None, Vec, ap, arith, false, length, refl, subst, sym}
+use Rattle.std.proofs.lemmas.Bool.{leb-true}
 use Rattle.std.specs.declared.alloc.Global.{Global}
 use Rattle.canon_lowering.specs.Storing.{narrow}
 use Rattle.canon_model.specs.Cost.{val_cost}
@@ -22,7 +23,7 @@ use Rattle.canon_plan.specs.Plan.{shapes_of, members_from}
 use Rattle.canon_plan.specs.Element.{ItemsFault, element_cost, items_reach, list_shape}
 use Rattle.canon_val.specs.declared.val.Val.{Val}
 use Rattle.canon_value_parts.proofs.LoadCases.{case_weighs, tag_inside}
-use Rattle.canon_context.proofs.Told.{exhausted, on_err, on_ok}
+use Rattle.canon_context.proofs.Told.{exhausted, core_on_err, core_on_ok}
 use Rattle.canon_value_parts.proofs.Loading.{next_leaves}
 use Rattle.canon_value_parts.proofs.ListLoading.{list_inside, list_parts, list_refused, row_refused, row_weighs}
 use Rattle.canon_value_parts.proofs.Listing.{row}
@@ -82,8 +83,8 @@ load_items-load_parts-requires t0 c =
     let w = row_weighs enc bytes t e c.requires.known n p in
     let shapes = c.slots_of-members.ensures.shapes t in
     let abi = c.element_abi-abi.ensures in
-    let inside : p + n * size false (element_shape s) ≤ length bytes = subst (λ k. p + n * k ≤ length bytes) (c.from.ensures ∙ (abi.size false)) c.if-pointer-length.false in
-    let aligned : p % align false (element_shape s) ≡ 0 = subst (λ k. p % k ≡ 0) (c.from-2.ensures ∙ (abi.align false)) c.if-pointer-from-ne0.false in
+    let inside : p + n * size false (element_shape s) ≤ length bytes = subst (λ k. p + n * k ≤ length bytes) (abi.size false) (leb-true _ _ (sym c.ends_inside.ensures ∙ c.if-not-ends_inside.false)) in
+    let aligned : p % align false (element_shape s) ≡ 0 = subst (λ k. p % k ≡ 0) (c.from.ensures ∙ (abi.align false)) c.if-pointer-from-ne0.false in
     let these = shapes_of t c.slots_of-members.result in
     let r = row t e c.requires.known n in
     let falls : 4 * deepest these + 1 < 4 * depth s - 2 = omega (arith, r.shallow, ap deepest shapes) in (
@@ -109,13 +110,13 @@ load_items-returns-clause-ok t0 c =
     let w = row_weighs enc bytes t e c.requires.known n p in
     let shapes = c.slots_of-members.ensures.shapes t in
     let abi = c.element_abi-abi.ensures in
-    let inside : p + n * size false (element_shape s) ≤ length bytes = subst (λ k. p + n * k ≤ length bytes) (c.from.ensures ∙ (abi.size false)) c.if-pointer-length.false in
-    let aligned : p % align false (element_shape s) ≡ 0 = subst (λ k. p % k ≡ 0) (c.from-2.ensures ∙ (abi.align false)) c.if-pointer-from-ne0.false in
+    let inside : p + n * size false (element_shape s) ≤ length bytes = subst (λ k. p + n * k ≤ length bytes) (abi.size false) (leb-true _ _ (sym c.ends_inside.ensures ∙ c.if-not-ends_inside.false)) in
+    let aligned : p % align false (element_shape s) ≡ 0 = subst (λ k. p % k ≡ 0) (c.from.ensures ∙ (abi.align false)) c.if-pointer-from-ne0.false in
     let charged : c.args.fuel.now ≡ c.charge_each.new.fuel + n * element_cost s = c.in_ok-charge_each.ensures ∙ ap (λ k. c.charge_each.new.fuel + n * k) (c.element_cost.ensures t c.requires.known) in
     let mid = c.charge_each.new.fuel in
     let these = shapes_of t c.slots_of-members.result in
     let last = c.load_parts.new.fuel in
-    on_ok c.load_parts.result (λ (vs : Vec Val Global). AreCharged enc (narrow bytes) these 0 p mid last vs.items) (λ (vs : Vec Val Global). IsListLoaded enc (narrow bytes) s p n c.args.fuel.now last vs.items)
+    core_on_ok c.load_parts.result (λ (vs : Vec Val Global). AreCharged enc (narrow bytes) these 0 p mid last vs.items) (λ (vs : Vec Val Global). IsListLoaded enc (narrow bytes) s p n c.args.fuel.now last vs.items)
     (λ vs h. w.loaded aligned inside c.args.fuel.now mid last vs.items charged (subst (λ (x : Members). AreCharged enc (narrow bytes) x 0 p mid last vs.items) shapes h)) c.load_parts.ensures.ok
 
 pub load_items-returns-clause-err : goal.load_items-returns-clause-err
@@ -130,18 +131,18 @@ load_items-returns-clause-err t0 c =
     let w = row_weighs enc bytes t e c.requires.known n p in
     let shapes = c.slots_of-members.ensures.shapes t in
     let abi = c.element_abi-abi.ensures in
-    let inside : p + n * size false (element_shape s) ≤ length bytes = subst (λ k. p + n * k ≤ length bytes) (c.from.ensures ∙ (abi.size false)) c.if-pointer-length.false in
-    let aligned : p % align false (element_shape s) ≡ 0 = subst (λ k. p % k ≡ 0) (c.from-2.ensures ∙ (abi.align false)) c.if-pointer-from-ne0.false in
+    let inside : p + n * size false (element_shape s) ≤ length bytes = subst (λ k. p + n * k ≤ length bytes) (abi.size false) (leb-true _ _ (sym c.ends_inside.ensures ∙ c.if-not-ends_inside.false)) in
+    let aligned : p % align false (element_shape s) ≡ 0 = subst (λ k. p % k ≡ 0) (c.from.ensures ∙ (abi.align false)) c.if-pointer-from-ne0.false in
     let charged : c.args.fuel.now ≡ c.charge_each.new.fuel + n * element_cost s = c.in_ok-charge_each.ensures ∙ ap (λ k. c.charge_each.new.fuel + n * k) (c.element_cost.ensures t c.requires.known) in
     let mid = c.charge_each.new.fuel in
     let these = shapes_of t c.slots_of-members.result in
-    on_err c.load_parts.result (LiftBlames (Exactly (MemberFault enc (narrow bytes) these 0 p)) (mid < charged_reach enc (narrow bytes) these 0 p))
+    core_on_err c.load_parts.result (LiftBlames (Exactly (MemberFault enc (narrow bytes) these 0 p)) (mid < charged_reach enc (narrow bytes) these 0 p))
     (LiftBlames (Exactly (ItemsFault enc (narrow bytes) s (place_of c.args.at) p n)) (c.args.fuel.now < items_reach enc (narrow bytes) s p n))
     (λ f h. row_refused enc bytes s n p c.args.fuel.now mid (place_of c.args.at) f w aligned inside charged
     (subst (λ (x : Members). LiftBlames (Exactly (MemberFault enc (narrow bytes) x 0 p)) (mid < charged_reach enc (narrow bytes) x 0 p) f) shapes h)) c.load_parts.ensures.err
 
-pub load_items-returns-then-pointer-length-clause-handles : goal.load_items-returns-then-pointer-length-clause-handles
-load_items-returns-then-pointer-length-clause-handles t0 c = stops_before c.args.source.now.instance.now c.args.ledger.now _ _ (fault.PointerOutOfBounds c.args.at) refl refl
+pub load_items-returns-then-not-ends_inside-clause-handles : goal.load_items-returns-then-not-ends_inside-clause-handles
+load_items-returns-then-not-ends_inside-clause-handles t0 c = stops_before c.args.source.now.instance.now c.args.ledger.now _ _ (fault.PointerOutOfBounds c.args.at) refl refl
 
 pub load_items-returns-in_err-charge_each-clause-handles : goal.load_items-returns-in_err-charge_each-clause-handles
 load_items-returns-in_err-charge_each-clause-handles t0 c =
@@ -160,8 +161,8 @@ load_items-returns-clause-handles t0 c =
     let p = c.args.pointer in
     let shapes = c.slots_of-members.ensures.shapes t in
     let abi = c.element_abi-abi.ensures in
-    let inside : p + n * size false (element_shape s) ≤ length bytes = subst (λ k. p + n * k ≤ length bytes) (c.from.ensures ∙ (abi.size false)) c.if-pointer-length.false in
-    let aligned : p % align false (element_shape s) ≡ 0 = subst (λ k. p % k ≡ 0) (c.from-2.ensures ∙ (abi.align false)) c.if-pointer-from-ne0.false in
+    let inside : p + n * size false (element_shape s) ≤ length bytes = subst (λ k. p + n * k ≤ length bytes) (abi.size false) (leb-true _ _ (sym c.ends_inside.ensures ∙ c.if-not-ends_inside.false)) in
+    let aligned : p % align false (element_shape s) ≡ 0 = subst (λ k. p % k ≡ 0) (c.from.ensures ∙ (abi.align false)) c.if-pointer-from-ne0.false in
     subst (λ (ls : List Leaf). LiftsHandles (λ (vs : Vec Val Global). all_resources vs.items) c.args.source.now.instance.now c.args.ledger.now c.load_parts.new.ledger ls c.load_parts.result)
     (ap (λ (x : Members). members_reach_leaves (narrow bytes) x 0 p) shapes ∙ sym (items_leaves bytes t e c.requires.known n p aligned inside)) c.load_parts.ensures.handles
 
@@ -183,7 +184,7 @@ load_list-returns-clause-ok t0 c =
     let w = row_weighs enc c.args.source.now.memory.now t c.args.element.now c.requires.known 0 0 in
     let p = c.from-pointer.result in
     let n = c.from-length.result in
-    on_ok c.load_items.result (λ (vs : Vec Val Global). IsListLoaded enc m s p n c.args.fuel.now c.load_items.new.fuel vs.items) (λ (vs : Vec Val Global). ArePartsLoaded enc m s c.args.at c.args.fuel.now c.load_items.new.fuel vs.items)
+    core_on_ok c.load_items.result (λ (vs : Vec Val Global). IsListLoaded enc m s p n c.args.fuel.now c.load_items.new.fuel vs.items) (λ (vs : Vec Val Global). ArePartsLoaded enc m s c.args.at c.args.fuel.now c.load_items.new.fuel vs.items)
     (λ vs h. list_parts enc m s w.part w.kind w.is p n c.args.fuel.now c.args.at (c.from-pointer.ensures ∙ c.load_u32.ensures) (c.from-length.ensures ∙ c.load_u32-2.ensures) c.load_items.new.fuel vs.items
     (list_inside c.args.source.now.memory.now w.part w.kind c.args.at c.requires.inside) h) c.load_items.ensures.ok
 
@@ -196,7 +197,7 @@ load_list-returns-clause-err t0 c =
     let w = row_weighs enc c.args.source.now.memory.now t c.args.element.now c.requires.known 0 0 in
     let p = c.from-pointer.result in
     let n = c.from-length.result in
-    on_err c.load_items.result (LiftBlames (Exactly (ItemsFault enc m s (address c.args.at) p n)) (c.args.fuel.now < items_reach enc m s p n))
+    core_on_err c.load_items.result (LiftBlames (Exactly (ItemsFault enc m s (address c.args.at) p n)) (c.args.fuel.now < items_reach enc m s p n))
     (LiftBlames (Exactly (StoredFault enc m s c.args.at)) (c.args.fuel.now < reach_cost enc m s c.args.at))
     (list_refused enc m s w.part w.kind w.is p n c.args.fuel.now c.args.at (c.from-pointer.ensures ∙ c.load_u32.ensures) (c.from-length.ensures ∙ c.load_u32-2.ensures)) c.load_items.ensures.err
 
@@ -237,16 +238,16 @@ load_value-returns-in-Scalar-clause-handles t c =
     let enc = encoding_of c.args.source.now.encoding in
     let (k, e) = c.in-Scalar.ensures in
     lifts_nothing c.args.source.now.instance.now resources c.args.ledger.now c.args.ledger.now _ c.load_scalar.result (scalar_leaves bytes k _ c.args.at (scalar_shape c.args.source.now.types.now c.args.ty.now k e)) refl
-    (on_ok c.load_scalar.result (IsLoaded enc (narrow bytes) (scalar k) c.args.at c.args.fuel.now c.args.fuel.now) (λ v. resources v ≡ []) (λ v h. scalar_has_none k v h.0 h.2) (c.load_scalar.ensures.ok k enc c.args.fuel.now e))
-    (on_err c.load_scalar.result (λ f. f ≡ fault.InvalidChar (place.Address c.args.at)) (λ f. stop_of f ≡ None) (λ f is. ap stop_of is) c.load_scalar.ensures.only_char)
+    (core_on_ok c.load_scalar.result (IsLoaded enc (narrow bytes) (scalar k) c.args.at c.args.fuel.now c.args.fuel.now) (λ v. resources v ≡ []) (λ v h. scalar_has_none k v h.0 h.2) (c.load_scalar.ensures.ok k enc c.args.fuel.now e))
+    (core_on_err c.load_scalar.result (λ f. f ≡ fault.InvalidChar (place.Address c.args.at)) (λ f. stop_of f ≡ None) (λ f is. ap stop_of is) c.load_scalar.ensures.only_char)
 
 pub load_value-returns-in-Text-clause-handles : goal.load_value-returns-in-Text-clause-handles
 load_value-returns-in-Text-clause-handles t c =
     let bytes = c.args.source.now.memory.now in
     let enc = encoding_of c.args.source.now.encoding in
     lifts_nothing c.args.source.now.instance.now resources c.args.ledger.now c.args.ledger.now _ c.load_string.result (text_leaves bytes _ c.args.at c.in-Text.ensures) refl
-    (on_ok c.load_string.result (IsLoaded enc (narrow bytes) string c.args.at c.args.fuel.now c.load_string.new.fuel) (λ v. resources v ≡ []) (λ v h. text_has_none h.2.0 v h.2.2) c.load_string.ensures.ok)
-    (on_err c.load_string.result IsNoRefusal (λ f. stop_of f ≡ None) no_refusal c.load_string.ensures.unrefused)
+    (core_on_ok c.load_string.result (IsLoaded enc (narrow bytes) string c.args.at c.args.fuel.now c.load_string.new.fuel) (λ v. resources v ≡ []) (λ v h. text_has_none h.2.0 v h.2.2) c.load_string.ensures.ok)
+    (core_on_err c.load_string.result IsNoRefusal (λ f. stop_of f ≡ None) no_refusal c.load_string.ensures.unrefused)
 
 pub load_value-returns-in-Flags-clause-handles : goal.load_value-returns-in-Flags-clause-handles
 load_value-returns-in-Flags-clause-handles t c = rw c.in-Flags.ensures (c.load_flags.ensures.handles c.args.ledger.now)
@@ -345,7 +346,7 @@ load_case-returns-in_ok-charge-in-Ok-clause-ok t c =
     let w = case_weighs enc bytes s a.at tag r.variant a.info.now r.info c.load_tag-tag.ensures r.aligned r.inside types c.in-Some.case is c.from.result c.from.ensures in
     let charged : a.fuel.now ≡ c.charge_each.new.fuel + member_count (shapes_of types c.in-Some.case.payload) * val_cost = omega (arith, c.in_ok-charge_each.ensures, c.slot_count.ensures) in
     let named : c.load_parts.new.fuel ≡ c.charge.new.fuel + name_charge s tag = omega (arith, c.in_ok-charge-in-Ok.ensures, is.charge) in
-    on_ok c.rebuild_case.result (IsCaseRebuilt s tag vs) (IsLoaded enc (narrow bytes) s a.at a.fuel.now c.charge.new.fuel)
+    core_on_ok c.rebuild_case.result (IsCaseRebuilt s tag vs) (IsLoaded enc (narrow bytes) s a.at a.fuel.now c.charge.new.fuel)
     (w.loaded a.fuel.now c.charge_each.new.fuel c.load_parts.new.fuel c.charge.new.fuel vs charged c.in-Ok.ensures.ok named) c.rebuild_case.ensures.ok
 
 pub load_case-returns-in-Err-clause-err : goal.load_case-returns-in-Err-clause-err

@@ -7,17 +7,17 @@ use Rattle.std.specs.Int.{byte_at, bytes_low_first, to_le_bytes}
 use Rattle.canon_model.specs.Image.{le_bytes}
 use Rattle.canon_model.specs.Memory.{le_number}
 
-byte_at-pow : (k n : ℕ) → byte_at k n ≡ n / 256 ^ k % 256
+pub byte_at-pow : (k n : ℕ) → byte_at k n ≡ n / 256 ^ k % 256
 byte_at-pow zero n = ap (λ (x : ℕ). x % 256) (sym (div-one n))
 byte_at-pow (suc k) n = refl
 
-low_first : (k i n : ℕ) → bytes_low_first i k n ≡ le_bytes k (n / 256 ^ i)
+pub low_first : (k i n : ℕ) → bytes_low_first i k n ≡ le_bytes k (n / 256 ^ i)
 low_first zero i n = refl
 low_first (suc k) i n =
     let shift : n / 256 ^ suc i ≡ n / 256 ^ i / 256 = ap (λ (p : ℕ). n / p) (pow-suc 256 i) ∙ sym (div-div-eq-div-mul n (256 ^ i) 256) in
     ap₂ (λ b bs. b ∷ bs) (byte_at-pow i n) (low_first k (suc i) n ∙ ap (le_bytes k) shift)
 
-take-bytes_low_first : (k j i n : ℕ) → k ≤ j → take k (bytes_low_first i j n) ≡ bytes_low_first i k n
+pub take-bytes_low_first : (k j i n : ℕ) → k ≤ j → take k (bytes_low_first i j n) ≡ bytes_low_first i k n
 take-bytes_low_first zero j i n h = refl
 take-bytes_low_first (suc k) zero i n h = absurd (omega (arith, h))
 take-bytes_low_first (suc k) (suc j) i n h = ap (λ bs. byte_at i n ∷ bs) (take-bytes_low_first k j (suc i) n (omega (arith, h)))
