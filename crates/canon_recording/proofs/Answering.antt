@@ -1,9 +1,11 @@
 -- Questions that may want memory, put together.
-use Rattle.std.proofs.Common.{All, Bool, Err, List, None, Ok, Option, Result, Some, [], ap, arith, drop, false, length, refl, subst, subst₂, suc, sym, true, true≢false, zero, ℕ, ◌+◌, ◌<◌, ◌∙◌, ◌∷◌, ◌≡◌, ◌≤◌}
-use Rattle.std.specs.Prelude.{IfSome, IsNone, IsTrue, is_some, not, slice_index_or, ◌↔◌}
+use Rattle.std.proofs.Common.{All, Bool, Err, List, None, Ok, Option, Result, Some, [], ap, arith, drop, false, length, map, refl, subst, subst₂, suc, sym, true, true≢false, zero, ℕ, ◌+◌, ◌<◌, ◌∙◌, ◌∷◌, ◌≡◌, ◌≤◌, ◌^◌}
+use Rattle.std.specs.Prelude.{IfSome, IsErr, IsErrAnd, IsNone, IsTrue, is_some, not, slice_index_or, ◌↔◌}
+use Rattle.canon_model.specs.Shape.{Members}
 use Rattle.std.proofs.lemmas.List.Elements.{All-cons, All-head, All-nil, All-tail}
 use Rattle.canon_model.specs.Tree.{no_trees, tree}
-use Rattle.canon_types.specs.Table.{TypeTable, members_of, shape_of}
+use Rattle.canon_types.specs.Table.{Knows, TypeTable, members_of, shape_of}
+use Rattle.canon_plan.specs.NoHandle.{HaveNoHandle}
 use Rattle.canon_types.specs.declared.types.InterfaceType.{InterfaceType}
 use Rattle.canon_context.specs.declared.component.Component.{Component}
 use Rattle.canon_val.specs.declared.val.Val.{Val}
@@ -11,9 +13,10 @@ use Rattle.canon_func.specs.Runs.{last_len}
 use Rattle.canon_recording_parts.specs.declared.error.ReplayError.{ReplayError}
 use Rattle.canon_recording_parts.specs.declared.error.ReplayError.TheVariants as error
 use Rattle.canon_recording.specs.Decided.{Decides}
-use Rattle.canon_recording.specs.Fits.{AreRuns, AreValuesOf, IsNoRunAt, IsValueOf}
-use Rattle.canon_recording.specs.Recordings.{RecordedCall}
+use Rattle.canon_recording.specs.Fits.{ArePassedValues, AreRuns, AreValuesOf, FitsComponent, HaveKnownEvents, IsNoRunAt, IsOfFunction, IsRecordedCallOf, IsServedAskOf, IsValueOf}
+use Rattle.canon_recording.specs.Recordings.{Functions, RecordedCall, exports_of, imports_of}
 use Rattle.canon_recording.proofs.Staging.{none}
+use Rattle.canon_recording.proofs.Values.{given_at}
 
 pub is_so : (P : Type 0) → P → Decides P (Ok true)
 is_so P p = (λ h. p, λ q. refl)
@@ -33,15 +36,18 @@ no_answer P Q (error.BadRecording k) d = d
 no_answer P Q (error.NotARun k) d = d
 no_answer P Q error.TooLong d = d
 
--- where the first is so, the second decides both
-pub second_decides : (P Q : Type 0) (r : Result Bool ReplayError) → Decides P (Ok true) → Decides Q r → Decides (P × Q) r
-second_decides P Q r first d = decides_as Q (P × Q) r (λ q. (first.0 refl, q)) (λ h. h.1) d
+-- an error that is handed on
+pub handed_on : (P Q : Type 0) (e : ReplayError) (r : Result Bool ReplayError) → IsErr r × IsErrAnd r (λ f. f ≡ e) → Decides P (Err e) → Decides Q r
+handed_on P Q e (Ok b) h d = absurd h.1
+handed_on P Q e (Err f) h d = subst (λ (x : ReplayError). Decides Q (Err x)) (sym h.1) (no_answer P Q e d)
 
-pub first_fails : (P Q : Type 0) → Decides P (Ok false) → Decides (P × Q) (Ok false)
-first_fails P Q d = none (λ h. absurd (d_no (d.1 h.0)))
-  where
-    d_no : ¬ IsTrue false
-    d_no h = cc
+-- what is answered no isn't so
+pub not_so : (P Q : Type 0) (b : Bool) → (Q → P) → b ≡ false → Decides P (Ok b) → Decides Q (Ok false)
+not_so P Q b f e d = none (λ q. true≢false (sym (d.1 (f q)) ∙ e))
+
+-- where the first is so, the second decides both
+pub then_second : (P Q : Type 0) (r : Result Bool ReplayError) → P → Decides Q r → Decides (P × Q) r
+then_second P Q r p d = decides_as Q (P × Q) r (λ q. (p, q)) (λ h. h.1) d
 
 -- ---- each of a list
 
@@ -68,8 +74,8 @@ rest_begins P xs h = h
 pub rest_goes_on : {A : Type 0} (P : A → Type 0) (xs : List A) (k : ℕ) (x : A) → drop k xs ≡ x ∷ drop (k + 1) xs → P x → RestOf P xs k → RestOf P xs (k + 1)
 rest_goes_on P xs k x e p so h = so (subst (All P) (sym e) (All-cons P x (drop (k + 1) xs) p h))
 
-pub rest_ends : {A : Type 0} (P : A → Type 0) (xs : List A) (k : ℕ) → drop k xs ≡ [] → RestOf P xs k → All P xs
-rest_ends P xs k e so = so (subst (All P) (sym e) (All-nil P))
+pub rest_is_all : {A : Type 0} (P : A → Type 0) (xs : List A) (k : ℕ) → drop k xs ≡ [] → RestOf P xs k → All P xs
+rest_is_all P xs k e so = so (subst (All P) (sym e) (All-nil P))
 
 pub all_there : {A : Type 0} (P : A → Type 0) (xs : List A) (k : ℕ) (x : A) (rest : List A) → drop k xs ≡ x ∷ rest → All P xs → P x
 all_there P [] zero x rest e all = absurd (omega (arith, ap length e))
@@ -114,3 +120,42 @@ runs_decided c calls None true e all first = (λ h. all refl, λ h. refl)
 runs_decided c calls None false e all first = absurd (true≢false (sym e))
 runs_decided c calls (Some k) true e all first = absurd (true≢false e)
 runs_decided c calls (Some k) false e all first = none (no_runs c 0 calls k first)
+
+pub not_values : (t : TypeTable) (tys : List InterfaceType) (vs : List Val) (k : ℕ) (type : InterfaceType) (v : Val) (b : Bool) → k < length tys → slice_index_or tys k type ≡ type → slice_index_or vs k v ≡ v
+    → All (Knows t) tys → HaveNoHandle (members_of t tys) → b ≡ false → Decides (IsValueOf (shape_of t type) v) (Ok b) → Decides (AreValuesOf (members_of t tys) vs) (Ok false)
+not_values t tys vs k type v b lt te ve known free e d =
+    not_so (IsValueOf (shape_of t type) v) (AreValuesOf (members_of t tys) vs) b (λ are. (given_at t tys vs k type v lt te ve known (record { no_handle = free; are = are })).of) e d
+
+-- ---- functions and calls
+
+pub passed_decides : (fs : Functions) (n : ℕ) (ms ns : Members) (ps qs rs ss : List Val) (r : Result Bool ReplayError) → fs.params n ≡ ms → fs.results n ≡ ns → ps ≡ qs → rs ≡ ss
+    → Decides (AreValuesOf ms ps × AreValuesOf ns rs) r → Decides (ArePassedValues fs n qs ss) r
+passed_decides fs n ms ns ps qs rs ss r e f g h d =
+    subst₂ (λ a b. Decides (AreValuesOf a qs × AreValuesOf b ss) r) (sym e) (sym f) (subst₂ (λ a b. Decides (AreValuesOf ms a × AreValuesOf ns b) r) g h d)
+
+pub function_decides : (fs : Functions) (n : ℕ) (given answered : List Val) (r : Result Bool ReplayError) → n < fs.count → Decides (ArePassedValues fs n given answered) r → Decides (IsOfFunction fs n given answered) r
+function_decides fs n given answered r lt d =
+    decides_as (ArePassedValues fs n given answered) (IsOfFunction fs n given answered) r (λ are. record { known = lt; params = are.0; results = are.1 }) (λ of. (of.params, of.results)) d
+
+pub call_decides : (exports imports : Functions) (call : RecordedCall) (r : Result Bool ReplayError) → (call.export < exports.count) × HaveKnownEvents imports.count call.events → ArePassedValues exports call.export call.params call.results
+    → Decides (All (IsServedAskOf imports) call.served) r → Decides (IsRecordedCallOf exports imports call) r
+call_decides exports imports call r known are d =
+    decides_as (All (IsServedAskOf imports) call.served) (IsRecordedCallOf exports imports call) r
+    (λ served. record { its = record { known = known.0; params = are.0; results = are.1 }; few = known.1.0; asks = known.1.1; served = served }) (λ of. of.served) d
+
+pub known_exports : (exports imports : Functions) (calls : List RecordedCall) → All (IsRecordedCallOf exports imports) calls → All (λ (call : RecordedCall). call.export < exports.count) calls
+known_exports exports imports [] h = All-nil (λ (call : RecordedCall). call.export < exports.count)
+known_exports exports imports (call ∷ calls) h =
+    All-cons (λ (c : RecordedCall). c.export < exports.count) call calls (All-head (IsRecordedCallOf exports imports) call calls h).its.known
+    (known_exports exports imports calls (All-tail (IsRecordedCallOf exports imports) call calls h))
+
+pub fit_decides : (c : Component) (calls : List RecordedCall) (b : Bool) → length calls < 2 ^ 32 → All (IsRecordedCallOf (exports_of c) (imports_of c)) calls → Decides (AreRuns c 0 calls) (Ok b) → Decides (FitsComponent c calls) (Ok b)
+fit_decides c calls b few are d = decides_as (AreRuns c 0 calls) (FitsComponent c calls) (Ok b) (λ runs. record { few = few; are = are; runs = runs }) (λ fits. fits.runs) d
+
+-- ---- what is seen of each of a list
+
+pub mapped_past : {X A : Type 0} (f : X → A) (xs : List X) (k : ℕ) → length xs ≤ k → drop k (map f xs) ≡ []
+mapped_past f [] zero le = refl
+mapped_past f [] (suc k) le = refl
+mapped_past f (x ∷ xs) zero le = absurd (omega (arith, le))
+mapped_past f (x ∷ xs) (suc k) le = mapped_past f xs k (omega (arith, le))

@@ -74,9 +74,9 @@ recorded_stopped c bs to error.TooLong h = absurd h
 
 -- ---- what bytes of a recording tell
 
-pub each_all : {J A : Type 0} (F : J → Format A) (P : A → Type 0) → ((i : J) (a : A) (xs : List ℕ) → (F i).writes a xs → P a) → (is : List J) (things : List A) (bs : List ℕ) → (for_each F is).writes things bs → All P things
-each_all F P tells [] things bs (e, h) = subst (All P) (sym e) (All-nil P)
-each_all F P tells (i ∷ is) things bs (x, e, (xs, ys, be, h, g)) = subst (All P) (sym e) (All-cons P x.0 x.1 (tells i x.0 xs h) (each_all F P tells is x.1 ys g))
+pub recorded_each_all : {J A : Type 0} (F : J → Format A) (P : A → Type 0) → ((i : J) (a : A) (xs : List ℕ) → (F i).writes a xs → P a) → (is : List J) (things : List A) (bs : List ℕ) → (for_each F is).writes things bs → All P things
+recorded_each_all F P tells [] things bs (e, h) = subst (All P) (sym e) (All-nil P)
+recorded_each_all F P tells (i ∷ is) things bs (x, e, (xs, ys, be, h, g)) = subst (All P) (sym e) (All-cons P x.0 x.1 (tells i x.0 xs h) (recorded_each_all F P tells is x.1 ys g))
 
 module _ (exports imports : Functions) where
   call_known : (call : RecordedCall) (xs : List ℕ) → (a_call true exports imports).writes call xs → call.export < exports.count
@@ -85,7 +85,7 @@ module _ (exports imports : Functions) where
   pub written_known : (calls : List RecordedCall) (bs : List ℕ) → (recording_format true exports imports).writes calls bs → All (λ (r : RecordedCall). r.export < exports.count) calls
   written_known calls bs (x, e, (xs, ys, be, h, (n, rest, t, f, g))) =
       subst (All (λ (r : RecordedCall). r.export < exports.count)) (sym e)
-      (each_all (λ (u : Unit {0}). a_call true exports imports) (λ (r : RecordedCall). r.export < exports.count) (λ u call zs w. call_known call zs w) (so_many n) x.1 rest g)
+      (recorded_each_all (λ (u : Unit {0}). a_call true exports imports) (λ (r : RecordedCall). r.export < exports.count) (λ u call zs w. call_known call zs w) (so_many n) x.1 rest g)
 
   pub written_few : (calls : List Recorded) (bs : List ℕ) → (recording_format true exports imports).writes (recorded_calls calls) bs → length calls < 2 ^ 32
   written_few calls bs (x, e, (xs, ys, be, h, (n, rest, t, f, g))) =

@@ -15,7 +15,7 @@ use Rattle.canon_recording.specs.Coded.{IsDecoded}
 use Rattle.canon_recording.specs.Fits.{AreRuns, AreValuesOf, FitsComponent, IsRecordedCallOf, IsServedAskOf}
 use Rattle.canon_recording.specs.Recordings.{Functions, RecordedCall, ServedAsk, a_call, an_ask, calls_in, exports_of, imports_of, read_recording, recorded_call_of, recording_format, served_ask_of, values}
 use Rattle.canon_recording.specs.declared.recording.Recording.{Recording}
-use Rattle.canon_recording.proofs.Deciding.{each_all}
+use Rattle.canon_recording.proofs.Deciding.{recorded_each_all}
 use Rattle.canon_recording_parts.specs.Format.{so_many}
 
 -- values that are read are of their types
@@ -51,14 +51,14 @@ module _ (exports imports : Functions) where
       subst (IsRecordedCallOf exports imports) (sym e) (record {
         its = record { known = good; params = values_are (exports.params n) x.0.0 ps hp; results = values_are (exports.results n) x.0.1 rs hr };
         few = omega (arith, fe.fits, row_count (an_event imports.count) ne x.1.0 erest he);
-        asks = each_all (λ (u : Unit {0}). an_event imports.count) (IsWritten imports.count) (λ u. event_written imports.count) (so_many ne) x.1.0 erest he;
-        served = each_all (λ (u : Unit {0}). an_ask true exports imports) (IsServedAskOf imports) (λ u. ask_of_import) (so_many na) x.1.1 arest ha;
+        asks = recorded_each_all (λ (u : Unit {0}). an_event imports.count) (IsWritten imports.count) (λ u. event_written imports.count) (so_many ne) x.1.0 erest he;
+        served = recorded_each_all (λ (u : Unit {0}). an_ask true exports imports) (IsServedAskOf imports) (λ u. ask_of_import) (so_many na) x.1.1 arest ha;
       })
 
   are_of_exports : (calls : List RecordedCall) (bs : List ℕ) → (recording_format true exports imports).writes calls bs → All (IsRecordedCallOf exports imports) calls
   are_of_exports calls bs (x, e, (xs, ys, be, h, (n, rest, t, f, g))) =
       subst (All (IsRecordedCallOf exports imports)) (sym e)
-      (each_all (λ (u : Unit {0}). a_call true exports imports) (IsRecordedCallOf exports imports) (λ u. call_of_export) (so_many n) x.1 rest g)
+      (recorded_each_all (λ (u : Unit {0}). a_call true exports imports) (IsRecordedCallOf exports imports) (λ u. call_of_export) (so_many n) x.1 rest g)
 
   few_calls : (calls : List RecordedCall) (bs : List ℕ) → (recording_format true exports imports).writes calls bs → length calls < 2 ^ 32
   few_calls calls bs (x, e, (xs, ys, be, h, (n, rest, t, f, g))) = omega (arith, f.fits, ap length e, row_count (a_call true exports imports) n x.1 rest g)

@@ -29,7 +29,10 @@ pub fn fits(alloc: Global, c: &Component, r: &Recording) -> Result<bool, ReplayE
     ensures decides { Decides (FitsComponent c.now (calls_in r.now)) result }
 {
     let calls = r.calls.as_slice();
-    if calls.len() as u64 >= COUNTS || !calls_fit(alloc, c, calls)? {
+    if calls.len() as u64 >= COUNTS {
+        return Ok(false);
+    }
+    if !calls_fit(alloc, c, calls)? {
         return Ok(false);
     }
     Ok(are_runs(c, calls))
@@ -65,7 +68,10 @@ fn call_fits(alloc: Global, c: &Component, call: &Recorded) -> Result<bool, Repl
     requires recordable { IsRecordable c.now }
     ensures decides { Decides (IsRecordedCallOf (exports_of c.now) (imports_of c.now) (recorded_call call.now)) result }
 {
-    if !is_known(c, call) || !export_fits(alloc, c, call)? {
+    if !is_known(c, call) {
+        return Ok(false);
+    }
+    if !export_fits(alloc, c, call)? {
         return Ok(false);
     }
     asks_fit(alloc, c, call.served.as_slice())

@@ -10,8 +10,8 @@ use Rattle.canon_recording.specs.declared.recording.Served.{Served}
 use Rattle.canon_replay.specs.Imports.{answer_of_ask, recorded_answer}
 
 -- the answer by the lines, and by the same lines after room was made
-pub next_is : (asks : List Served) (lines lines2 : List Line) (n : ℕ) (a : HostAnswer) → a ≡ recorded_answer (served_asks asks) (entries_of lines2) n → lines2 ≡ lines → a ≡ recorded_answer (served_asks asks) (entries_of lines) n
-next_is asks lines lines2 n a is same = is ∙ ap (λ (ls : List Line). recorded_answer (served_asks asks) (entries_of ls) n) same
+pub replay_next_is : (asks : List Served) (lines lines2 : List Line) (n : ℕ) (a : HostAnswer) → a ≡ recorded_answer (served_asks asks) (entries_of lines2) n → lines2 ≡ lines → a ≡ recorded_answer (served_asks asks) (entries_of lines) n
+replay_next_is asks lines lines2 n a is same = is ∙ ap (λ (ls : List Line). recorded_answer (served_asks asks) (entries_of ls) n) same
 
 abbrev pub mapped : {X A : Type 0} → (X → A) → Option X → Option A
 mapped f None = None

@@ -1,4 +1,5 @@
 pub mod Asks
+pub mod Comparing
 pub mod Departing
 pub mod Looping
 pub mod Making

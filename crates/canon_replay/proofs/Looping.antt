@@ -10,8 +10,8 @@ use Rattle.canon_replay.specs.declared.again.Again.{Again}
 use Rattle.canon_replay.specs.declared.outcome.Outcome.{Outcome}
 use Rattle.canon_replay.specs.declared.outcome.Outcome.TheVariants as outcome
 
-abbrev pub IsKnown : Component → Again → Type 0
-IsKnown c a = a.export < length c.exports.items
+abbrev pub IsKnownAgain : Component → Again → Type 0
+IsKnownAgain c a = a.export < length c.exports.items
 
 events_at : (recorded : List (List Event)) (k : ℕ) → k < length recorded → All HasEvents recorded → HasEvents (call_events recorded k)
 events_at [] k lt all = absurd (omega (arith, lt))
@@ -29,11 +29,11 @@ module _ (first : ReplayStore) (calls : List Again) where
     pub same : (guest_in_store store).recorded ≡ recorded
     pub count : k + length left ≡ length recorded
     pub few : length recorded < 2 ^ 32
-    pub known : All (IsKnown first.core.component) left
+    pub known : All (IsKnownAgain first.core.component) left
     pub events : All HasEvents recorded
     pub rest : (o : Outcome) → ReplaysFrom k (all_made recorded k left) store o → ReplaysFrom 0 (all_made recorded 0 calls) first o
 
-  pub loop_begins : IsReady 0 first → All (IsKnown first.core.component) calls → length calls ≡ length recorded → length calls < 2 ^ 32 → All HasEvents recorded → AreReplayed 0 first calls
+  pub loop_begins : IsReady 0 first → All (IsKnownAgain first.core.component) calls → length calls ≡ length recorded → length calls < 2 ^ 32 → All HasEvents recorded → AreReplayed 0 first calls
   loop_begins ready known count few events = record {
     ready = ready;
     component = refl;
@@ -47,7 +47,7 @@ module _ (first : ReplayStore) (calls : List Again) where
 
   module _ (k : ℕ) (store : ReplayStore) (a : Again) (left : List Again) (are : AreReplayed k store (a ∷ left)) where
     pub in_store : a.export < length store.core.component.exports.items
-    in_store = subst (λ (c : Component). a.export < length c.exports.items) (sym are.component) (All-head (IsKnown first.core.component) a left are.known)
+    in_store = subst (λ (c : Component). a.export < length c.exports.items) (sym are.component) (All-head (IsKnownAgain first.core.component) a left are.known)
 
     below : k < length recorded
     below = omega (arith, are.count)
@@ -73,7 +73,7 @@ module _ (first : ReplayStore) (calls : List Again) where
           same = replayed.kept.recorded ∙ are.same;
           count = omega (arith, are.count);
           few = are.few;
-          known = All-tail (IsKnown first.core.component) a left are.known;
+          known = All-tail (IsKnownAgain first.core.component) a left are.known;
           events = are.events;
           rest = λ o r. are.rest o (inl (next, replayed, r));
         }

@@ -24,7 +24,7 @@ use Rattle.canon_recording.specs.Recordings.{served_asks}
 use Rattle.canon_recording.specs.declared.recording.Served.{Served}
 use Rattle.std.specs.declared.alloc.Global.{Global}
 use Rattle.canon_replay.specs.Calls.{AnswersOtherwise, CallReplayed, Departs, EndsOk, HaveOneImage, HaveOtherImages, IsReady, MadeCall, MakesAgain, WasMadeAgain, made_again, results_shape_in, results_shape_of}
-use Rattle.canon_replay.specs.Made.{CallsExport}
+use Rattle.canon_replay.specs.Made.{CallsAgain}
 use Rattle.canon_replay.specs.Outcomes.{has_passed, outcome_at, place_in_call}
 use Rattle.canon_replay.specs.Stores.{JournaledReplays, ReplayStore, guest_in_store, named_export}
 use Rattle.canon_replay.specs.declared.again.Again.{Again}
@@ -54,7 +54,7 @@ module _ (k : ℕ) (a : Again) (before after : ReplayStore) (ready : IsReady k b
   same_in events m = recorded_same (of_guest (guest_of before.core)) (of_guest (guest_of after.core)) events m.moves
 
   module _ (slots : ℕ) (results : List Val) where
-    pub after_ok : (o : Option Outcome) → 0 < length (call_events g.recorded k) → CallsExport (named_export before a.export) a.params.items slots before after (Ok tt) results
+    pub after_ok : (o : Option Outcome) → 0 < length (call_events g.recorded k) → CallsAgain (named_export before a.export) a.params.items slots before after (Ok tt) results
         → after.core.component ≡ before.core.component → EndsOk k (named_export before a.export) after results a.results.items o → MakesAgain k call before after o
     after_ok None some calls same (passed, one) =
         let adding = calls.call refl in
@@ -95,7 +95,7 @@ module _ (k : ℕ) (a : Again) (before after : ReplayStore) (ready : IsReady k b
         otherwise events kept f (inr other) = inr (subst (λ (c : Component). HaveOtherImages (results_shape_in c.types.types (type_in c (slice_get c.exports.items a.export))) results a.results.items) same other)
 
     pub after_err : (e : Error) → ¬ (e ≡ error.Fault fault.OutOfMemory) → IfSome (type_of before (named_export before a.export)) (λ t. slots ≡ length (types_of (component_types before.core) t.results))
-        → CallsExport (named_export before a.export) a.params.items slots before after (Err e) results → Departs k call before (outcome_at k h)
+        → CallsAgain (named_export before a.export) a.params.items slots before after (Err e) results → Departs k call before (outcome_at k h)
     after_err e other slots_are calls = by (refused_by (Err e)) refl
       where
         entered : IsNone (refused_by (Err e)) → Departs k call before (outcome_at k h)

@@ -43,8 +43,8 @@ all_made_are recorded k (a ∷ agains) (call ∷ calls) e f =
     let events : call_events recorded k ≡ call.events = rw (get_first recorded k call.events (map events_of_call calls) f) refl in
     ap₂ (λ x xs. x ∷ xs) (same_made recorded k a call first events) (all_made_are recorded (k + 1) agains calls others (drop_rest recorded k call.events (map events_of_call calls) f))
 
-pub same_length : (agains : List Again) (calls : List RecordedCall) → map told_again agains ≡ map told_call calls → length agains ≡ length calls
-same_length agains calls e = sym (map_length told_again agains) ∙ (ap length e ∙ map_length told_call calls)
+pub as_many_made : (agains : List Again) (calls : List RecordedCall) → map told_again agains ≡ map told_call calls → length agains ≡ length calls
+as_many_made agains calls e = sym (map_length told_again agains) ∙ (ap length e ∙ map_length told_call calls)
 
 -- ---- what fits
 

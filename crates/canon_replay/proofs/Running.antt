@@ -39,11 +39,11 @@ grows_sooner len more last (event.Dtor f r ∷ events) le h = grows_sooner len m
 -- ---- from the start on
 
 module _ (post : Option ℕ) (returned after : List ℕ) where
-  abbrev tail : List Event
-  tail = event.Return returned after ∷ posts post returned
+  abbrev returned_tail : List Event
+  returned_tail = event.Return returned after ∷ posts post returned
 
   -- memory has the length of the returned one after these events
-  record Ends (len : ℕ) (events : List Event) : Type 0 where
+  record EndsAsReturned (len : ℕ) (events : List Event) : Type 0 where
     stepped : stepped_length len events ≡ length after
     last : last_len len events ≡ length after
 
@@ -56,24 +56,24 @@ module _ (post : Option ℕ) (returned after : List ℕ) where
   posts_end (Some f) = (refl, refl)
 
   -- behind an ask: blocks that were asked for, a resume, and the rest
-  answers_follow : (len : ℕ) (answers : List Answer) (words memory : List ℕ) (turns : List AskTurn) → (Grows len (events_in turns ++ tail) (2 ^ 32) → StepsFollow true len (events_in turns ++ tail))
-      → Grows len ((events_of answers None ++ event.Resume words memory ∷ events_in turns) ++ tail) (2 ^ 32) → StepsFollow false len ((events_of answers None ++ event.Resume words memory ∷ events_in turns) ++ tail)
-  answers_follow len [] words memory turns on (le, g) = on (grows_sooner len (length memory) (2 ^ 32) (events_in turns ++ tail) le g)
+  answers_follow : (len : ℕ) (answers : List Answer) (words memory : List ℕ) (turns : List AskTurn) → (Grows len (events_in turns ++ returned_tail) (2 ^ 32) → StepsFollow true len (events_in turns ++ returned_tail))
+      → Grows len ((events_of answers None ++ event.Resume words memory ∷ events_in turns) ++ returned_tail) (2 ^ 32) → StepsFollow false len ((events_of answers None ++ event.Resume words memory ∷ events_in turns) ++ returned_tail)
+  answers_follow len [] words memory turns on (le, g) = on (grows_sooner len (length memory) (2 ^ 32) (events_in turns ++ returned_tail) le g)
   answers_follow len (x ∷ xs) words memory turns on g = answers_follow len xs words memory turns on g
 
-  turns_follow : (len : ℕ) (turns : List AskTurn) → Grows len (events_in turns ++ tail) (2 ^ 32) → StepsFollow true len (events_in turns ++ tail)
+  turns_follow : (len : ℕ) (turns : List AskTurn) → Grows len (events_in turns ++ returned_tail) (2 ^ 32) → StepsFollow true len (events_in turns ++ returned_tail)
   turns_follow len [] (le, h) = ((le, grows_to (length after) (2 ^ 32) (posts post returned) h), posts_follow post)
   turns_follow len (t ∷ turns) (le, h) =
-      ((le, grows_to (length t.memory) (2 ^ 32) ((events_of t.answers None ++ event.Resume t.resumed_words t.resumed_memory ∷ events_in turns) ++ tail) h),
+      ((le, grows_to (length t.memory) (2 ^ 32) ((events_of t.answers None ++ event.Resume t.resumed_words t.resumed_memory ∷ events_in turns) ++ returned_tail) h),
       answers_follow (length t.memory) t.answers t.resumed_words t.resumed_memory turns (λ g. turns_follow (length t.memory) turns g) h)
 
-  answers_end : (len : ℕ) (answers : List Answer) (words memory : List ℕ) (turns : List AskTurn) → ((n : ℕ) → Ends n (events_in turns ++ tail)) → Ends len ((events_of answers None ++ event.Resume words memory ∷ events_in turns) ++ tail)
+  answers_end : (len : ℕ) (answers : List Answer) (words memory : List ℕ) (turns : List AskTurn) → ((n : ℕ) → EndsAsReturned n (events_in turns ++ returned_tail)) → EndsAsReturned len ((events_of answers None ++ event.Resume words memory ∷ events_in turns) ++ returned_tail)
   answers_end len [] words memory turns on = record { stepped = (on len).stepped; last = (on (length memory)).last }
   answers_end len (x ∷ xs) words memory turns on =
       let more = answers_end len xs words memory turns on in
       record { stepped = more.stepped; last = more.last }
 
-  turns_end : (len : ℕ) (turns : List AskTurn) → Ends len (events_in turns ++ tail)
+  turns_end : (len : ℕ) (turns : List AskTurn) → EndsAsReturned len (events_in turns ++ returned_tail)
   turns_end len [] = record { stepped = (posts_end post).0; last = (posts_end post).1 }
   turns_end len (t ∷ turns) =
       let more = answers_end (length t.memory) t.answers t.resumed_words t.resumed_memory turns (λ n. turns_end n turns) in
@@ -85,10 +85,10 @@ module _ (post : Option ℕ) (returned after : List ℕ) where
     can : CanReplay len events
     ends : stepped_length (start_length events len) events ≡ last_len len events
 
-  run_can : (func : ℕ) (words memory : List ℕ) (turns : List AskTurn) (len : ℕ) (reallocs : List Event) → Each IsRealloc reallocs → Grows len ((reallocs ++ event.Start func words memory ∷ events_in turns) ++ tail) (2 ^ 32)
-      → CanRun len ((reallocs ++ event.Start func words memory ∷ events_in turns) ++ tail)
+  run_can : (func : ℕ) (words memory : List ℕ) (turns : List AskTurn) (len : ℕ) (reallocs : List Event) → Each IsRealloc reallocs → Grows len ((reallocs ++ event.Start func words memory ∷ events_in turns) ++ returned_tail) (2 ^ 32)
+      → CanRun len ((reallocs ++ event.Start func words memory ∷ events_in turns) ++ returned_tail)
   run_can func words memory turns len [] only (le, g) = record {
-    can = record { begins = tt; grows = (le, grows_to (length memory) (2 ^ 32) (events_in turns ++ tail) g); follow = turns_follow (length memory) turns g };
+    can = record { begins = tt; grows = (le, grows_to (length memory) (2 ^ 32) (events_in turns ++ returned_tail) g); follow = turns_follow (length memory) turns g };
     ends = (turns_end (length memory) turns).stepped ∙ sym (turns_end (length memory) turns).last;
   }
   run_can func words memory turns len (event.Realloc o os al ns a ∷ xs) (r, only) g =

@@ -9,9 +9,9 @@ use Rattle.canon_replay.specs.Calls.{asks_of_calls, events_of_call, told_again, 
 use Rattle.canon_replay.specs.declared.again.Again.{Again}
 use Rattle.canon_replay.specs.declared.again.Parts.{Parts}
 
-pub nothing_left : {X : Type 0} (xs : List X) → length xs ≡ 0 → xs ≡ []
-nothing_left [] e = refl
-nothing_left (x ∷ xs) e = absurd (omega (arith, e))
+pub no_items_left : {X : Type 0} (xs : List X) → length xs ≡ 0 → xs ≡ []
+no_items_left [] e = refl
+no_items_left (x ∷ xs) e = absurd (omega (arith, e))
 
 map_then : {A B : Type 0} (f : A → B) (xs ys : List A) → map f (xs ++ ys) ≡ map f xs ++ map f ys
 map_then f [] ys = refl

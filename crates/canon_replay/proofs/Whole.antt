@@ -12,7 +12,7 @@ use Rattle.canon_replay.specs.Stores.{IsNewStore, ReplayStore, guest_in_store}
 use Rattle.canon_replay.specs.declared.again.Again.{Again}
 use Rattle.canon_replay.specs.declared.outcome.Outcome.{Outcome}
 use Rattle.canon_replay.proofs.Running.{runs_can}
-use Rattle.canon_replay.proofs.Rows.{all_made_are, events_fit, known_again, same_length}
+use Rattle.canon_replay.proofs.Rows.{all_made_are, events_fit, known_again, as_many_made}
 
 module _ (c : Component) (calls : List RecordedCall) (fuel turns : ℕ) (events : List (List Event)) (asks : List ServedAsk) (agains : List Again) (store : ReplayStore)
     (are : (events ≡ map events_of_call calls) × (asks ≡ asks_of_calls calls) × (map told_again agains ≡ map told_call calls)) (new : IsNewStore c events asks fuel turns store) where
@@ -38,7 +38,7 @@ module _ (c : Component) (calls : List RecordedCall) (fuel turns : ℕ) (events 
       can_all = subst₂ CanReplayAll (sym no_memory) (sym from_first) (runs_can c 0 calls fits.runs)
 
   pub count_first : length agains ≡ length (guest_in_store store).recorded
-  count_first = same_length agains calls are.2 ∙ sym (ap length recorded_are ∙ map_length events_of_call calls)
+  count_first = as_many_made agains calls are.2 ∙ sym (ap length recorded_are ∙ map_length events_of_call calls)
 
   pub replayed_is : (o : Outcome) → ReplaysFrom 0 (all_made (guest_in_store store).recorded 0 agains) store o
       → (s : ReplayStore) × IsNewStore c (map events_of_call calls) (asks_of_calls calls) fuel turns s × ReplaysFrom 0 (map made_call_of calls) s o
@@ -52,7 +52,7 @@ module _ (c : Component) (calls : List RecordedCall) (fuel turns : ℕ) (events 
     known_first = subst (λ (k : Component). All (λ (a : Again). a.export < length k.exports.items) agains) (sym new.component) (known_again agains calls c are.2 fits.are)
 
     pub few_first : length agains < 2 ^ 32
-    few_first = omega (arith, same_length agains calls are.2, fits.few)
+    few_first = omega (arith, as_many_made agains calls are.2, fits.few)
 
     pub events_first : All HasEvents (guest_in_store store).recorded
     events_first = subst (All HasEvents) (sym recorded_are) (events_fit c 0 calls fits.are fits.runs)

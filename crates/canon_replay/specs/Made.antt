@@ -13,7 +13,7 @@ use Rattle.canon_replay.specs.Stores.{JournaledReplays, ReplayStore, asks_in_sto
 
 -- A function was called with these parameters and so many slots for results, which it left so: refused before the guest was entered, which leaves the
 -- store as it was, or called.
-pub record CallsExport (f : Named) (params : List Val) (slots : ℕ) (before after : ReplayStore) (result : Result (Unit {0}) Error) (results : List Val) : Type 0 where
+pub record CallsAgain (f : Named) (params : List Val) (slots : ℕ) (before after : ReplayStore) (result : Result (Unit {0}) Error) (results : List Val) : Type 0 where
   pub refused : refused_by result ≡ call_refusal (callee_of before f) (length params) slots before.trapped
   pub unchanged : IfSome (refused_by result) (λ e. after ≡ before)
   pub call : IsNone (refused_by result) → Adding (moment_of journaled_seen before.core) (moment_of journaled_seen after.core)

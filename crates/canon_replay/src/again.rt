@@ -36,9 +36,7 @@ pub(crate) fn parts_of(alloc: Global, r: Recording) -> Result<Parts, ReplayError
         calls: Vec::new(alloc),
     };
     for call in r.calls {
-        if add(&mut parts, call).is_err() {
-            return Err(ReplayError::OutOfMemory);
-        }
+        add(&mut parts, call)?;
     }
     Ok(parts)
 }
@@ -47,6 +45,7 @@ pub(crate) fn parts_of(alloc: Global, r: Recording) -> Result<Parts, ReplayError
 fn add(parts: &mut Parts, call: Recorded) -> Result<(), ReplayError>
     ensures adds { OnOk result ((parts.new.events.items ≡ parts.old.events.items ++ call.events ∷ []) × (parts.new.asks.items ≡ parts.old.asks.items ++ call.served.items)
         × (parts.new.calls.items ≡ parts.old.calls.items ++ (record { export = call.export; params = call.params; results = call.results }) ∷ [])) }
+    ensures short { IfErr result (λ e. e ≡ ReplayError.OutOfMemory) }
 {
     let Recorded {
         export,
@@ -69,6 +68,7 @@ fn add(parts: &mut Parts, call: Recorded) -> Result<(), ReplayError>
 
 fn keep<T: Drop>(items: &mut Vec<T>, item: T) -> Result<(), ReplayError>
     ensures ok { OnOk result (items.new.items ≡ items.old.items ++ item ∷ []) }
+    ensures short { IfErr result (λ e. e ≡ ReplayError.OutOfMemory) }
 {
     match items.push(item) {
         Ok(()) => Ok(()),

@@ -8,7 +8,7 @@ ghost use Rattle.canon_func.specs.Stores.{IsOwned, type_of};
 ghost use Rattle.canon_func.specs.declared.error.Error.TheVariants as error;
 ghost use Rattle.canon_replay_guest.specs.Replaying.{call_events};
 ghost use Rattle.canon_replay.specs.Calls.{ComparesImages, EndsOk, IsReady, MakesAgain, made_again, results_shape_in};
-ghost use Rattle.canon_replay.specs.Made.{CallsExport};
+ghost use Rattle.canon_replay.specs.Made.{CallsAgain};
 ghost use Rattle.canon_replay.specs.Outcomes.{has_passed, outcome_at};
 ghost use Rattle.canon_replay.specs.Stores.{guest_in_store};
 
@@ -102,7 +102,7 @@ fn enter(
     results: &mut [Val],
 ) -> Result<(), Error>
     requires owned { IsOwned store.old func.now }
-    ensures { CallsExport func.now params.now (length results.old) store.old store.new result results.new }
+    ensures { CallsAgain func.now params.now (length results.old) store.old store.new result results.new }
 {
     func.call(alloc, store, params, results)
 }

@@ -1,8 +1,8 @@
 //! Whether results are the recorded ones, bit for bit.
 
-ghost use Rattle.std.specs.Prelude.{◌≡◌, ◌↔◌, IsTrue};
+ghost use Rattle.std.specs.Prelude.{◌≡◌, ◌↔◌, IfErr, IfOk, IsTrue};
 ghost use Rattle.canon_types.specs.Table.{HasTuple, shape_of};
-ghost use Rattle.canon_replay.specs.Calls.{ComparesImages};
+ghost use Rattle.canon_replay.specs.Calls.{ComparesImages, HaveImage};
 
 use canon_image::image;
 use canon_recording::ReplayError;
@@ -19,15 +19,27 @@ pub(crate) fn have_one_image(
     others: Vec<Val>,
 ) -> Result<bool, ReplayError>
     requires { HasTuple types.now tuple }
-    ensures { ComparesImages (shape_of types.now (InterfaceType.Tuple tuple)) values.items others.items result }
+    ensures compares { ComparesImages (shape_of types.now (InterfaceType.Tuple tuple)) values.items others.items result }
 {
-    let ty = InterfaceType::Tuple(tuple);
-    let image_of_values = image(alloc, types, &ty, &Val::Tuple(values));
-    let image_of_others = image(alloc, types, &ty, &Val::Tuple(others));
-    match (image_of_values, image_of_others) {
-        (Ok(bytes), Ok(other)) => Ok(same_bytes(bytes.as_slice(), other.as_slice())),
-        // Values of the types have images, as they reach no handle, so that only memory was short.
-        _ => Err(ReplayError::OutOfMemory),
+    let bytes = image_of_tuple(alloc, types, tuple, values)?;
+    let other = image_of_tuple(alloc, types, tuple, others)?;
+    Ok(same_bytes(bytes.as_slice(), other.as_slice()))
+}
+
+/// The image of values, as a tuple of their types. Values of the types have one, as these reach no handle, unless memory is short.
+fn image_of_tuple(
+    alloc: Global,
+    types: &ComponentTypes,
+    tuple: TypeTupleIndex,
+    values: Vec<Val>,
+) -> Result<Vec<u8>, ReplayError>
+    requires { HasTuple types.now tuple }
+    ensures image { IfOk result (λ bytes. HaveImage (shape_of types.now (InterfaceType.Tuple tuple)) values.items bytes.items) }
+    ensures short { IfErr result (λ e. e ≡ ReplayError.OutOfMemory) }
+{
+    match image(alloc, types, &InterfaceType::Tuple(tuple), &Val::Tuple(values)) {
+        Ok(bytes) => Ok(bytes),
+        Err(_) => Err(ReplayError::OutOfMemory),
     }
 }
 

@@ -85,18 +85,18 @@ in_call : (g : Replaying) (e : Event) → next_event g ≡ Some e → g.call < l
 in_call g e h = let (es, is) = there_is (slice_get g.recorded g.call) g.at e h in below g.recorded g.call es is
 
 -- what is before a guest: the length that memory is given, the events that are left of the call, and the calls after it
-record Before (g : Replaying) (len grown : ℕ) : Type 0 where
+record WhatIsBefore (g : Replaying) (len grown : ℕ) : Type 0 where
   follow : StepsFollow false grown (drop g.at (events_now g))
   later : CanReplayAll (stepped_length grown (drop g.at (events_now g))) (drop (g.call + 1) g.recorded)
   grows : CanGrow len grown
   wanted : wanted_length g len ≡ grown
   first : (g.at ≡ 0) → BeginsCall (events_now g)
 
-can_before : (g : Replaying) (len : ℕ) → g.call < length g.recorded → len ≤ 2 ^ 32 → CanReplayFrom g len → Before g len (wanted_length g len)
+can_before : (g : Replaying) (len : ℕ) → g.call < length g.recorded → len ≤ 2 ^ 32 → CanReplayFrom g len → WhatIsBefore g len (wanted_length g len)
 can_before g len lt fits (inl (e, all)) =
     let here = subst (CanReplayAll len) (first_call g.recorded g.call lt) all in
     let wanted = wanted_first g len e in
-    subst (Before g len) (sym wanted) (record {
+    subst (WhatIsBefore g len) (sym wanted) (record {
       follow = subst (λ (n : ℕ). StepsFollow false (start_length (events_now g) len) (drop n (events_now g))) (sym e) here.0.follow;
       later = subst (λ (n : ℕ). CanReplayAll (stepped_length (start_length (events_now g) len) (drop n (events_now g))) (drop (g.call + 1) g.recorded)) (sym e) here.1;
       grows = here.0.grows;
@@ -104,7 +104,7 @@ can_before g len lt fits (inl (e, all)) =
       first = λ z. here.0.begins;
     })
 can_before g len lt fits (inr (some, follow, all)) =
-    subst (Before g len) (sym (wanted_later g len some)) (record { follow = follow; later = all; grows = (omega arith, fits); wanted = wanted_later g len some; first = λ z. absurd (omega (arith, z, some)) })
+    subst (WhatIsBefore g len) (sym (wanted_later g len some)) (record { follow = follow; later = all; grows = (omega arith, fits); wanted = wanted_later g len some; first = λ z. absurd (omega (arith, z, some)) })
 
 -- ---- the events of requests
 
@@ -176,7 +176,7 @@ module _ (mid h : Replaying) (len : ℕ) (few : len ≤ 2 ^ 32) (can : CanReplay
   abbrev its : List Event
   its = events_now mid
 
-  before : (e : Event) → next_event mid ≡ Some e → Before mid len (wanted_length mid len)
+  before : (e : Event) → next_event mid ≡ Some e → WhatIsBefore mid len (wanted_length mid len)
   before e is = can_before mid len (in_call mid e is) few can
 
   left_by : (e : Event) → next_event mid ≡ Some e → StepsFollow false (wanted_length mid len) (e ∷ drop (mid.at + 1) its)
@@ -244,13 +244,13 @@ at_most (posts f ws) g mid len grown b c = omega (arith, b.1, c.0)
 at_most (destroys f r) g mid len grown b c = omega (arith, b.1, c.0)
 
 -- it goes on, or it trapped for another reason
-abbrev GoesOn : Replaying → ℕ → Type 0
-GoesOn h last = ((h.stop ≡ None) × CanReplayFrom h last × (last ≤ 2 ^ 32)) ⊎ ((h.stop ≢ None) × (h.stop ≢ Some stop.Unfit))
+abbrev ReplaysOn : Replaying → ℕ → Type 0
+ReplaysOn h last = ((h.stop ≡ None) × CanReplayFrom h last × (last ≤ 2 ^ 32)) ⊎ ((h.stop ≢ None) × (h.stop ≢ Some stop.Unfit))
 
 stop_kept : (g mid : Replaying) → IsOpened g mid → mid.stop ≡ g.stop
 stop_kept g mid o = (opened_kept g mid o).stop
 
-traps_so : (mid h : Replaying) (why : Stop) (last : ℕ) → h ≡ stopped_for mid why → why ≢ stop.Unfit → GoesOn h last
+traps_so : (mid h : Replaying) (why : Stop) (last : ℕ) → h ≡ stopped_for mid why → why ≢ stop.Unfit → ReplaysOn h last
 traps_so mid h why last e other = inr (λ none. absurd (some_stop none), λ unfit. other (same_stop unfit))
   where
     is : h.stop ≡ Some why
@@ -262,12 +262,12 @@ traps_so mid h why last e other = inr (λ none. absurd (some_stop none), λ unfi
     same_stop : h.stop ≡ Some stop.Unfit → why ≡ stop.Unfit
     same_stop unfit = cc
 
-for_reason : (why : Stop) (g mid h : Replaying) (len grown last : ℕ) (q : GuestRequest) → len ≤ 2 ^ 32 → CanReplayFrom mid len → BeginsRequest q g len mid grown → IsReason why mid grown q → h ≡ stopped_for mid why → GoesOn h last
+for_reason : (why : Stop) (g mid h : Replaying) (len grown last : ℕ) (q : GuestRequest) → len ≤ 2 ^ 32 → CanReplayFrom mid len → BeginsRequest q g len mid grown → IsReason why mid grown q → h ≡ stopped_for mid why → ReplaysOn h last
 for_reason stop.Differs g mid h len grown last q few can b r e = traps_so mid h stop.Differs last e (λ x. cc)
 for_reason stop.Unlawful g mid h len grown last q few can b r e = traps_so mid h stop.Unlawful last e (λ x. cc)
 for_reason stop.Unfit g mid h len grown last q few can b r e = absurd (has_step mid h len few can q grown (at_most q g mid len grown b (can_grow mid h len few can)) r.0 r.1 r.2)
 
-one_on : (g h : Replaying) (x : RequestOutcome) → g.stop ≡ None → from_length x ≤ 2 ^ 32 → CanReplayFrom g (from_length x) → Replays g x h → GoesOn h (to_length x)
+one_on : (g h : Replaying) (x : RequestOutcome) → g.stop ≡ None → from_length x ≤ 2 ^ 32 → CanReplayFrom g (from_length x) → Replays g x h → ReplaysOn h (to_length x)
 one_on g h (stepped q before after st) going few can (n, l, (mid, grown, b, next, is, e)) =
     let o = opens q g (length before) mid grown b in
     let there = opened g mid (length before) o can in
