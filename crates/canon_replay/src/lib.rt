@@ -6,11 +6,11 @@ mod calls;
 mod imports;
 pub mod laws;
 mod outcome;
-mod replay;
+mod replaying;
 mod results;
 mod store;
 
 pub use imports::ReplayImports;
 pub use outcome::Outcome;
-pub use replay::replay;
+pub use replaying::replay;
 pub use store::ReplayStore;

@@ -7,8 +7,8 @@ use Rattle.canon_recording.proofs.fitting.val_fits.Goals as goal
 
 pub returns-in-Ok : goal.returns-in-Ok
 returns-in-Ok c =
-    let (free, t, has, is) = c.in-Ok.ensures.is in
-    record { decides = is_so (IsValueOf (shape_of c.args.types.now c.args.ty.now) c.args.val.now) (t, has) }
+    let imaged = c.in-Ok.ensures.is in
+    record { decides = is_so (IsValueOf (shape_of c.args.types.now c.args.ty.now) c.args.val.now) (imaged.1.0, imaged.1.1) }
 
 pub returns-in-Err-NotOfType : goal.returns-in-Err-NotOfType
 returns-in-Err-NotOfType c =

@@ -1,7 +1,7 @@
 use Rattle.std.proofs.Common.{length, ◌≡◌}
 use Rattle.std.specs.Vec.Iter.{into_iter_items, into_iter_len}
 use Rattle.canon_replay.proofs.Looping.{AreReplayed}
-use Rattle.canon_replay.proofs.replay.replay_calls.Given as goal
+use Rattle.canon_replay.proofs.replaying.replay_calls.Given as goal
 
 -- those so far were replayed
 abbrev pub invariant-loop-call : goal.invariant-loop-call
