@@ -1,5 +1,5 @@
 -- What was decoded fits.
-use Rattle.std.proofs.Common.{All, Err, List, Ok, Result, [], ap, arith, length, refl, subst, suc, sym, true, zero, ℕ, ◌<◌, ◌∷◌, ◌≡◌, ◌^◌}
+use Rattle.std.proofs.Common.{All, Err, List, Ok, Result, ap, arith, length, refl, subst, suc, sym, true, zero, ℕ, ◌<◌, ◌^◌}
 use Rattle.std.specs.Prelude.{IfOk}
 use Rattle.canon_model.specs.Shape.{Members, member, no_members}
 use Rattle.canon_model.specs.Tree.{no_trees, tree}
@@ -8,12 +8,12 @@ use Rattle.canon_context.specs.declared.component.Component.{Component}
 use Rattle.canon_val.specs.declared.val.Val.{Val}
 use Rattle.canon_value_parts.proofs.LiftedValues.{unlifted}
 use Rattle.canon_recording_parts.proofs.Formats.{row_count}
-use Rattle.canon_recording_parts.specs.Events.{IsWritten, an_event, ask_event, post_event, realloc_event, resume_event, return_event, start_event, tagged}
+use Rattle.canon_recording_parts.specs.Events.{IsWritten, an_event, tagged}
 use Rattle.canon_recording_parts.specs.declared.error.ReplayError.{ReplayError}
 use Rattle.canon_recording_parts.specs.declared.error.ReplayError.TheVariants as error
 use Rattle.canon_recording.specs.Coded.{IsDecoded}
-use Rattle.canon_recording.specs.Fits.{AreRuns, AreValuesOf, FitsComponent, IsRecordedCallOf, IsServedAskOf}
-use Rattle.canon_recording.specs.Recordings.{Functions, RecordedCall, ServedAsk, a_call, an_ask, calls_in, exports_of, imports_of, read_recording, recorded_call_of, recording_format, served_ask_of, values}
+use Rattle.canon_recording.specs.Fits.{AreValuesOf, FitsComponent, IsRecordedCallOf, IsServedAskOf}
+use Rattle.canon_recording.specs.Recordings.{Functions, RecordedCall, ServedAsk, a_call, an_ask, calls_in, exports_of, imports_of, recording_format, values}
 use Rattle.canon_recording.specs.declared.recording.Recording.{Recording}
 use Rattle.canon_recording.proofs.Deciding.{recorded_each_all}
 use Rattle.canon_recording_parts.specs.Format.{so_many}
