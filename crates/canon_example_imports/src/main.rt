@@ -1,7 +1,7 @@
 //! Two functions of the host. A guest asks for the time, and has a line written in a diary. Where the diary is full, the host refuses.
 #![tactic(auto)]
 
-ghost use Rattle.std.specs.Prelude.{◌≡◌, ◌+◌, ◌≤◌, ◌%◌, ◌^◌, ◌<◌, Err, IfOk, IsOk, OnErr, Some, length, slice_get};
+ghost use Rattle.std.specs.Prelude.{◌≡◌, ◌+◌, ◌%◌, ◌^◌, ◌<◌, Err, IfOk, IsOk, Some, length, slice_get};
 ghost use Rattle.canon_context.specs.declared.host.HostStop.TheVariants as stop;
 ghost use Rattle.canon_val.specs.declared.val.Val.TheVariants as val;
 
@@ -80,6 +80,7 @@ fn main(rt: HostRuntime) -> Result<(), Failure> {
             ensures tables { view.new.tables ≡ view.old.tables }
             ensures time { view.new.state.now.time ≡ view.old.state.now.time }
             ensures full { length view.old.state.now.diary.items ≡ 2 → (result ≡ Err stop.Refused) × (view.new.state.now ≡ view.old.state.now) }
+            ensures writes { IfOk result (λ _. length view.new.state.now.diary.items ≡ length view.old.state.now.diary.items + 1) }
         { write(alloc, view.state, params, results) },
     );
     let imports = TwoImports {
