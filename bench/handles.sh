@@ -8,11 +8,10 @@ set -e
 top=$(CDPATH= cd -- "$(dirname -- "$0")/.." && pwd)
 work=$(mktemp -d)
 trap 'rm -rf "$work"' EXIT
-git -C "$top" archive "${1:-HEAD}" crates/canon_model crates/canon_indices crates/canon_handles | tar -x -C "$work"
+git -C "$top" archive "${1:-HEAD}" crates/canon_model crates/canon_abi crates/canon_handles | tar -x -C "$work"
 cat >"$work/crates.txt" <<'END'
 canon_model:
-canon_indices: canon_model
-canon_handles: canon_indices
+canon_handles: canon_abi
 measure: canon_handles
 END
 mkdir -p "$work/crates/measure/src"

@@ -2,3 +2,4 @@ pub mod Alignment
 pub mod Sizes
 pub mod Numbers
 pub mod Abi
+pub mod Options

@@ -5,7 +5,7 @@ use Rattle.std.proofs.lemmas.Bool.{cond-true}
 use Rattle.canon_context.specs.declared.fault.At.TheVariants as at
 use Rattle.canon_context.specs.declared.fault.Fault.{Fault}
 use Rattle.canon_context.specs.declared.fault.Fault.TheVariants as fault
-use Rattle.canon_leaves.specs.Parts.{LeavesStop, Part}
+use Rattle.canon_resources.specs.Parts.{LeavesStop, Part}
 use Rattle.canon_ledger.specs.Ledger.{LedgerState}
 use Rattle.canon_lift_parts.proofs.Refusals.{named_in, lift_refused_before, refused_by}
 use Rattle.canon_reading.specs.Reading.{Lifts, Reading, Refused, Setting}

@@ -9,8 +9,8 @@ use Rattle.canon_context.proofs.Told.{blamed_by}
 use Rattle.canon_context.specs.Told.{LiftBlames, ToldAt}
 use Rattle.canon_context.specs.declared.fault.Fault.{Fault}
 use Rattle.canon_context.specs.declared.fault.Fault.TheVariants as fault
-use Rattle.canon_leaves.proofs.Leaves.{leaves_excluded}
-use Rattle.canon_leaves.specs.Parts.{LeavesStop, LeavesTake, Part}
+use Rattle.canon_resources.proofs.Leaves.{leaves_excluded}
+use Rattle.canon_resources.specs.Parts.{LeavesStop, LeavesTake, Part}
 use Rattle.canon_ledger.specs.Ledger.{LedgerState}
 use Rattle.canon_ledger.specs.declared.fault.ResourceFault.{ResourceFault}
 use Rattle.canon_lift_parts.proofs.Exactness.{Remains, lifts_exactly_there}

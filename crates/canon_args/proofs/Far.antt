@@ -9,7 +9,7 @@ use Rattle.canon_context.specs.Core.{Parts, encoding_by, moment_of, stage_of}
 use Rattle.canon_context.specs.Lowers.{fault_ending}
 use Rattle.canon_context.specs.Quiet.{have_block}
 use Rattle.canon_context.specs.declared.fault.Fault.{Fault}
-use Rattle.canon_leaves.specs.Parts.{Part}
+use Rattle.canon_resources.specs.Parts.{Part}
 use Rattle.canon_ledger.specs.Ledger.{LedgerState}
 use Rattle.canon_lower_parts.proofs.Attempts.{cross_stopped, ends_done, ends_early}
 use Rattle.canon_lower_parts.proofs.BlockSteps.{elsewhere_asked}

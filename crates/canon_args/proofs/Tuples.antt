@@ -7,7 +7,7 @@ use Rattle.canon_args.specs.Params.{InParts}
 use Rattle.canon_args.specs.Results.{LowersTuple, TypedResults}
 use Rattle.canon_context.specs.Core.{Parts, encoding_by, stage_of}
 use Rattle.canon_context.specs.declared.fault.Fault.{Fault}
-use Rattle.canon_leaves.specs.Parts.{Part}
+use Rattle.canon_resources.specs.Parts.{Part}
 use Rattle.canon_lower_parts.specs.Stores.{TypedStores}
 use Rattle.canon_lower_parts.specs.Words.{TypedLowers}
 use Rattle.canon_lowering.proofs.AimedAt.{members_framed}

@@ -1,7 +1,7 @@
 -- What holds of a reading of a Rust type holds of the reading of what is passed, in a row or by a pointer.
 use Rattle.std.proofs.Common.{Bool, List, eq-eqb, false, subst, sym, true, ℕ, ◌≡◌}
 use Rattle.std.proofs.lemmas.Bool.{and_from, cond-true, le-leb}
-use Rattle.canon_leaves.specs.Parts.{LeavesTake, Part}
+use Rattle.canon_resources.specs.Parts.{LeavesTake, Part}
 use Rattle.canon_reading.specs.Reading.{AreTaken, Reading, Setting}
 use Rattle.canon_reading.specs.Scopes.{AllKeep, all_if, none_kept}
 use Rattle.canon_reading.specs.Spots.{Spot}

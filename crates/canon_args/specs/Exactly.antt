@@ -2,7 +2,7 @@
 use Rattle.std.specs.Prelude.{List, Ok, Result, false, ℕ, ◌+◌, ◌≡◌, ◌≤◌}
 use Rattle.canon_args.specs.Returned.{passed_reading}
 use Rattle.canon_context.specs.declared.fault.Fault.{Fault}
-use Rattle.canon_leaves.specs.Parts.{LeavesTake, Part}
+use Rattle.canon_resources.specs.Parts.{LeavesTake, Part}
 use Rattle.canon_ledger.specs.Ledger.{LedgerState}
 use Rattle.canon_reading.specs.Laws.{IsLifted}
 use Rattle.canon_reading.specs.Reading.{Lifts, Reading, Setting}

@@ -4,7 +4,7 @@ use Rattle.canon_context.specs.Asks.{SameButHandles}
 use Rattle.canon_context.specs.Core.{Parts, encoding_by, stage_of}
 use Rattle.canon_context.specs.Quiet.{have_block}
 use Rattle.canon_context.specs.declared.fault.Fault.{Fault}
-use Rattle.canon_leaves.specs.Parts.{Part}
+use Rattle.canon_resources.specs.Parts.{Part}
 use Rattle.canon_lower_parts.specs.Blames.{HaveLarge, IsElsewhere}
 use Rattle.canon_lower_parts.specs.Lowers.{EndsBy, HandlesCross}
 use Rattle.canon_lowering.specs.Lowering.{Ending, refused}

@@ -1,8 +1,8 @@
 -- A component: each index is inside its table.
 use Rattle.std.specs.Prelude.{ℕ, ◌<◌, ◌≡◌, length, false, All, IfSome, Option, None, Some, slice_get}
 use Rattle.canon_model.specs.Text.{Encoding, utf8}
-use Rattle.canon_indices.specs.declared.options.CanonicalOptions.{CanonicalOptions}
-use Rattle.canon_indices.specs.Options.{encoding_of}
+use Rattle.canon_abi.specs.declared.options.CanonicalOptions.{CanonicalOptions}
+use Rattle.canon_abi.specs.Options.{encoding_of}
 use Rattle.canon_types.specs.Table.{HasFunc, HasResource}
 use Rattle.canon_context.specs.declared.component.Component.{Component}
 use Rattle.canon_context.specs.declared.component.Export.{Export}

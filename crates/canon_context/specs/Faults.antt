@@ -3,7 +3,7 @@ use Rattle.std.specs.Prelude.{◌≡◌, Bool, Err, Ok, Result, false, true, ℕ
 use Rattle.canon_ledger.specs.declared.fault.ResourceFault.{ResourceFault}
 use Rattle.canon_ledger.specs.declared.fault.ResourceFault.TheVariants as resource
 use Rattle.canon_ledger.specs.Ledger.{Did, Done, LedgerState}
-use Rattle.canon_leaves.specs.Parts.{Part, borrow_in, is_defined_here, refusal_of, table_for, tell}
+use Rattle.canon_resources.specs.Parts.{Part, borrow_in, is_defined_here, refusal_of, table_for, tell}
 use Rattle.canon_types.specs.Instance.{Instance}
 use Rattle.canon_memory.specs.declared.error.GuestFault.{GuestFault}
 use Rattle.canon_memory.specs.declared.error.GuestFault.TheVariants as guest

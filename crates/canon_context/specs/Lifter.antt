@@ -1,6 +1,6 @@
 -- What is lifted from, and what that does to the ledger.
 use Rattle.std.specs.Prelude.{List, ℕ, ◌≡◌}
-use Rattle.canon_indices.specs.Options.{encoding_of}
+use Rattle.canon_abi.specs.Options.{encoding_of}
 use Rattle.canon_ledger.specs.Ledger.{LedgerState, LedgerStep, run_steps}
 use Rattle.canon_model.specs.Text.{Encoding}
 use Rattle.canon_types.specs.Instance.{Instance}

@@ -1,6 +1,6 @@
 -- How the faults of lifting are reported.
 use Rattle.std.specs.Prelude.{Some, ◌≡◌, ◌≤◌, ◌-◌, ◌^◌, ◌⊎◌}
-use Rattle.canon_leaves.specs.Parts.{refusal_of}
+use Rattle.canon_resources.specs.Parts.{refusal_of}
 use Rattle.canon_model.specs.Reach as reach
 use Rattle.canon_model.specs.Reach.{Kind, badly_spelled, misaligned, no_case, no_scalar, out_of_bounds}
 use Rattle.canon_model.specs.Text.{in_utf16, in_utf8}

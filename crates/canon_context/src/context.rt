@@ -8,7 +8,7 @@ ghost use Rattle.canon_memory.specs.Journal.{realloc_events};
 ghost use Rattle.canon_memory.specs.Realloc.{call};
 ghost use Rattle.canon_model.specs.Laws.{IsAlignment};
 ghost use Rattle.canon_context.specs.Component.{HasOptions};
-ghost use Rattle.canon_indices.specs.Options.{encoding_of};
+ghost use Rattle.canon_abi.specs.Options.{encoding_of};
 ghost use Rattle.canon_context.specs.Core.{encoding_by, guest_of, moment_of, component_types};
 ghost use Rattle.canon_context.specs.Fuel.{Charged};
 ghost use Rattle.canon_context.specs.Lifter.{IsAfterSteps, origin_in};

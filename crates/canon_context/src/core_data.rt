@@ -8,7 +8,7 @@ ghost use Rattle.canon_memory.specs.Journal.{dtor_events, post_events, realloc_e
 ghost use Rattle.canon_memory.specs.Realloc.{call};
 ghost use Rattle.canon_model.specs.Laws.{IsAlignment};
 ghost use Rattle.canon_context.specs.Component.{IsComponent};
-ghost use Rattle.canon_indices.specs.Options.{encoding_of};
+ghost use Rattle.canon_abi.specs.Options.{encoding_of};
 ghost use Rattle.canon_context.specs.Core.{Parts, encoding_by, guest_of, moment_of};
 ghost use Rattle.canon_context.specs.Lowers.{answer_of, ending_of, guest_answer};
 

@@ -9,13 +9,13 @@ ghost use Rattle.canon_ledger.specs.Ledger.{given, mapped};
 ghost use Rattle.canon_ledger.specs.Places.{SamePlaces};
 ghost use Rattle.canon_types.specs.Resource.{resource_type_at};
 ghost use Rattle.canon_types.specs.Table.{HasResource};
-ghost use Rattle.canon_leaves.specs.Parts.{do_part, dtor_for, instance_for, table_for};
+ghost use Rattle.canon_resources.specs.Parts.{do_part, dtor_for, instance_for, table_for};
 ghost use Rattle.canon_context.specs.Core.{SameButLedger, component_types};
 ghost use Rattle.canon_context.specs.Faults.{Stepped, SteppedSurely, borrow_part};
 
 use crate::fault::faulted;
 use crate::{Fault, LiftContext, LowerContext};
-use canon_leaves::{is_defined_here, kept_for};
+use canon_resources::{is_defined_here, kept_for};
 use canon_ledger::HostResourceIndex;
 use canon_types::{ResourceType, RuntimeInstance, TypeResourceTableIndex};
 

@@ -5,7 +5,7 @@ use Rattle.canon_model.specs.Layout.{members_flat}
 use Rattle.canon_memory.specs.declared.event.Event.{Event}
 use Rattle.canon_memory.specs.Guest.{Goes, GuestIn, Moment, Seen}
 use Rattle.canon_ledger.specs.Ledger.{LedgerState}
-use Rattle.canon_leaves.specs.Parts.{LeavesStop, LeavesTake}
+use Rattle.canon_resources.specs.Parts.{LeavesStop, LeavesTake}
 use Rattle.canon_lowering.specs.Lowering.{AllLawful, Answer, Trap, events_of, marks_of}
 use Rattle.canon_context.specs.Core.{Parts, guest_of, moment_of}
 use Rattle.canon_context.specs.Host.{HostSteps}

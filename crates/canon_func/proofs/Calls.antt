@@ -12,8 +12,8 @@ use Rattle.canon_memory.specs.declared.event.Event.{Event}
 use Rattle.canon_memory.specs.declared.event.Event.TheVariants as event
 use Rattle.canon_memory.specs.Guest.{Moment}
 use Rattle.canon_ledger.specs.Ledger.{enter}
-use Rattle.canon_leaves.proofs.Leaves.{leaves_same}
-use Rattle.canon_leaves.specs.Parts.{LeavesTake}
+use Rattle.canon_resources.proofs.Leaves.{leaves_same}
+use Rattle.canon_resources.specs.Parts.{LeavesTake}
 use Rattle.canon_lowering.proofs.Lowerings.{lawful_second, lowering_marks_append}
 use Rattle.canon_model.specs.Homes.{AnyPointer}
 use Rattle.canon_lowering.specs.Attempt.{LowersArgs}

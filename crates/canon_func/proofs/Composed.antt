@@ -10,8 +10,8 @@ use Rattle.canon_memory.specs.declared.event.Event.TheVariants as event
 use Rattle.canon_memory.specs.Guest.{Goes, HasCause, Moment, OnAnswer, Seen, moment}
 use Rattle.canon_memory.specs.Journal.{post_events, trap_event}
 use Rattle.canon_ledger.specs.Ledger.{LedgerState, enter, leave}
-use Rattle.canon_leaves.proofs.Leaves.{stops_at_once}
-use Rattle.canon_leaves.specs.Parts.{LeavesTake}
+use Rattle.canon_resources.proofs.Leaves.{stops_at_once}
+use Rattle.canon_resources.specs.Parts.{LeavesTake}
 use Rattle.canon_lowering.proofs.Lowerings.{goes_none, goes_then}
 use Rattle.canon_lowering.specs.Attempt.{LowersArgs}
 use Rattle.canon_lowering.specs.Lowering.{Answer, done, events_of, marks_of}

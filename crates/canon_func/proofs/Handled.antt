@@ -3,8 +3,8 @@ use Rattle.std.proofs.Common.{Err, List, None, Ok, Result, Some, [], ap, inl, in
 use Rattle.std.proofs.lemmas.List.{append-nil}
 use Rattle.canon_ledger.specs.Ledger.{Done, LedgerState}
 use Rattle.canon_ledger.specs.declared.fault.ResourceFault.{ResourceFault}
-use Rattle.canon_leaves.proofs.Leaves.{leaves_excluded, leaves_stop_then}
-use Rattle.canon_leaves.specs.Parts.{LeavesStop}
+use Rattle.canon_resources.proofs.Leaves.{leaves_excluded, leaves_stop_then}
+use Rattle.canon_resources.specs.Parts.{LeavesStop}
 use Rattle.canon_func.specs.Call.{LiftsReturned, StopsReturned, scope_exit}
 use Rattle.canon_func.specs.Passing.{ReturnedValues}
 use Rattle.canon_func.specs.Stores.{Callee}

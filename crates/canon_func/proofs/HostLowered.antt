@@ -17,7 +17,7 @@ use Rattle.canon_context.specs.declared.fault.Fault.{Fault}
 use Rattle.canon_context.specs.declared.fault.Fault.TheVariants as fault
 use Rattle.canon_context.specs.declared.host.HostStop.{HostStop}
 use Rattle.canon_context.specs.declared.host.HostStop.TheVariants as stop
-use Rattle.canon_leaves.specs.Parts.{PassedResource}
+use Rattle.canon_resources.specs.Parts.{PassedResource}
 use Rattle.canon_value_parts.specs.Args.{IsNoArea, LowersResults}
 use Rattle.canon_value_parts.specs.Resources.{EndsAs, UsesLedger, all_passes}
 use Rattle.canon_val.specs.Value.{HaveTrees}

@@ -6,7 +6,7 @@ use Rattle.canon_ledger.specs.Handles.{Handles, OpenScope, StepAnswer, can_leave
 use Rattle.canon_ledger.specs.Ledger.{LedgerState, plainly}
 use Rattle.canon_ledger.specs.declared.fault.ResourceFault.{ResourceFault}
 use Rattle.canon_ledger.specs.declared.fault.ResourceFault.TheVariants as fault
-use Rattle.canon_leaves.specs.Parts.{LeafTakes, LeavesLift, lift_parts, lifted_parts, refusal_of}
+use Rattle.canon_resources.specs.Parts.{LeafTakes, LeavesLift, lift_parts, lifted_parts, refusal_of}
 use Rattle.canon_model.specs.Leaves.{Leaf}
 use Rattle.canon_resources.specs.Held.{Any}
 use Rattle.canon_types.specs.Instance.{Instance}

@@ -15,7 +15,7 @@ use Rattle.canon_types.specs.Instance.{Instance}
 use Rattle.canon_types.specs.Table.{TypeTable, tuple_members}
 use Rattle.canon_types.specs.declared.types.TypeFunc.{TypeFunc}
 use Rattle.canon_ledger.specs.Ledger.{LedgerState}
-use Rattle.canon_leaves.specs.Parts.{LeavesStop, LeavesTake, PassedResource, lower_parts}
+use Rattle.canon_resources.specs.Parts.{LeavesStop, LeavesTake, PassedResource, lower_parts}
 use Rattle.canon_lowering.proofs.Lowerings.{none_answered}
 use Rattle.canon_lowering.proofs.Attempts.{attempt_bare, bare_asked}
 use Rattle.canon_lowering.specs.Attempt.{Aim, Attempt, LowersArgs, args_in}

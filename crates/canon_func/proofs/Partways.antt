@@ -7,9 +7,9 @@ use Rattle.canon_ledger.specs.Handles.{top_scope}
 use Rattle.canon_ledger.specs.Ledger.{Done, ExitScope, Leave, LedgerState, LedgerStep, Partway, Through, do_step, enter, leave, numbered}
 use Rattle.canon_ledger.specs.declared.fault.ResourceFault.{ResourceFault}
 use Rattle.canon_ledger.proofs.LedgerLemmas.{compose_parts}
-use Rattle.canon_leaves.proofs.Through.{leaves_partway, leaves_through, partway_first}
-use Rattle.canon_leaves.specs.Parts.{Part}
-use Rattle.canon_leaves.specs.Steps.{leaves_steps}
+use Rattle.canon_resources.proofs.Through.{leaves_partway, leaves_through, partway_first}
+use Rattle.canon_resources.specs.Parts.{Part}
+use Rattle.canon_resources.specs.Steps.{leaves_steps}
 use Rattle.canon_lowering.specs.Lowering.{Answer, Trap}
 use Rattle.canon_context.specs.declared.fault.Fault.TheVariants as fault
 use Rattle.canon_context.specs.Faults.{stop_of}

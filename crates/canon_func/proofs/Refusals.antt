@@ -10,7 +10,7 @@ use Rattle.canon_memory.specs.Guest.{Moment, Seen}
 use Rattle.canon_ledger.specs.Ledger.{enter}
 use Rattle.canon_ledger.specs.declared.fault.ResourceFault.{ResourceFault}
 use Rattle.canon_ledger.specs.declared.fault.ResourceFault.TheVariants as resource
-use Rattle.canon_leaves.specs.Parts.{LeavesStop, refusal_of}
+use Rattle.canon_resources.specs.Parts.{LeavesStop, refusal_of}
 use Rattle.canon_lowering.specs.Attempt.{LowersArgs}
 use Rattle.canon_lowering.specs.Lowering.{Accepted, AllLawful, Answer, BeginsWith, Calm, CauseOf, Ending, Meets, Trap, done, refused, short, events_of, marks_of}
 use Rattle.canon_value_parts.specs.Resources.{told_fault}
@@ -27,7 +27,7 @@ use Rattle.canon_func.specs.Steps.{EndsFor, TrapsLate}
 use Rattle.canon_func.specs.Stores.{Callee}
 use Rattle.canon_func.specs.declared.error.Error.TheVariants as error
 use Rattle.canon_func.proofs.Turns.{counts_first, goes_advance}
-use Rattle.canon_leaves.proofs.Leaves.{leaves_excluded}
+use Rattle.canon_resources.proofs.Leaves.{leaves_excluded}
 use Rattle.canon_func.specs.Passed.{BlamesRightly, Unfit}
 use Rattle.canon_func.proofs.Prefixes.{asks_answers, each_answer, ends_in_answer, ends_in_trap, grows_request, last_lawful, none_trapped, prefix_requests}
 use Rattle.canon_lowering.specs.Stages.{bare}

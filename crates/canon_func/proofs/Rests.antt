@@ -9,7 +9,7 @@ use Rattle.canon_memory.specs.Counts.{Rose}
 use Rattle.canon_memory.specs.Guest.{Moment}
 use Rattle.canon_memory.specs.Journal.{trap_event}
 use Rattle.canon_ledger.specs.Ledger.{LedgerState, leave}
-use Rattle.canon_leaves.specs.Parts.{LeavesStop}
+use Rattle.canon_resources.specs.Parts.{LeavesStop}
 use Rattle.canon_context.specs.Faults.{stop_of}
 use Rattle.canon_context.specs.declared.fault.Fault.{Fault}
 use Rattle.canon_context.specs.declared.fault.Fault.TheVariants as fault

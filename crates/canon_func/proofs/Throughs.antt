@@ -7,9 +7,9 @@ use Rattle.canon_lowering.specs.Lowering.{Answer, Trap}
 use Rattle.canon_ledger.specs.Handles.{can_leave, top_scope}
 use Rattle.canon_ledger.specs.Ledger.{Done, ExitScope, Leave, LedgerState, LedgerStep, Through, do_step, enter, leave, leaving, numbered}
 use Rattle.canon_ledger.proofs.LedgerLemmas.{compose}
-use Rattle.canon_leaves.proofs.Through.{leaves_through}
-use Rattle.canon_leaves.specs.Parts.{LeavesTake, Part}
-use Rattle.canon_leaves.specs.Steps.{leaves_steps}
+use Rattle.canon_resources.proofs.Through.{leaves_through}
+use Rattle.canon_resources.specs.Parts.{LeavesTake, Part}
+use Rattle.canon_resources.specs.Steps.{leaves_steps}
 use Rattle.canon_func.proofs.Leaving.{call_ended_leaves}
 use Rattle.canon_host.specs.Forms.{IsLawful}
 use Rattle.canon_host.specs.HostSide.{Answering, Giving, HostSide}

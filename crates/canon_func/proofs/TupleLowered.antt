@@ -6,7 +6,7 @@ use Rattle.canon_context.proofs.Moves.{GuestLaws, moved_by}
 use Rattle.canon_context.specs.Core.{Parts, encoding_by, guest_of, moment_of, stage_of}
 use Rattle.canon_context.specs.declared.fault.Fault.{Fault}
 use Rattle.canon_context.specs.declared.fault.Fault.TheVariants as fault
-use Rattle.canon_leaves.specs.Parts.{LeavesStop, LeavesTake, Part}
+use Rattle.canon_resources.specs.Parts.{LeavesStop, LeavesTake, Part}
 use Rattle.canon_ledger.specs.declared.fault.ResourceFault.TheVariants as resource
 use Rattle.canon_lower_parts.proofs.Attempts.{ends_done}
 use Rattle.canon_lower_parts.specs.Blames.{IsElsewhere, IsLargeFault}

@@ -13,8 +13,8 @@ use Rattle.canon_memory.specs.declared.event.Event.{Event}
 use Rattle.canon_memory.specs.Guest.{Goes, Moment, Seen}
 use Rattle.canon_ledger.specs.Ledger.{LedgerState}
 use Rattle.canon_ledger.specs.declared.fault.ResourceFault.TheVariants as resource
-use Rattle.canon_leaves.proofs.Leaves.{leaves_excluded}
-use Rattle.canon_leaves.specs.Parts.{Part}
+use Rattle.canon_resources.proofs.Leaves.{leaves_excluded}
+use Rattle.canon_resources.specs.Parts.{Part}
 use Rattle.canon_reading.specs.Reading.{AreTaken, Lifts, Reading}
 use Rattle.canon_reading.specs.Spots.{flat_in}
 use Rattle.canon_lower_parts.proofs.Attempts.{ends_done}

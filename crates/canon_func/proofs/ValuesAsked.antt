@@ -14,9 +14,9 @@ use Rattle.canon_memory.specs.declared.event.Event.{Event}
 use Rattle.canon_memory.specs.Guest.{Moment, Seen}
 use Rattle.canon_ledger.specs.Ledger.{LedgerState}
 use Rattle.canon_ledger.specs.declared.fault.ResourceFault.TheVariants as resource
-use Rattle.canon_leaves.proofs.Leaves.{leaves_excluded}
-use Rattle.canon_leaves.proofs.Lifts.{lifts_take}
-use Rattle.canon_leaves.specs.Parts.{LeavesStop, LeavesTake, Part, PassedResource, lift_parts}
+use Rattle.canon_resources.proofs.Leaves.{leaves_excluded}
+use Rattle.canon_resources.proofs.Lifts.{lifts_take}
+use Rattle.canon_resources.specs.Parts.{LeavesStop, LeavesTake, Part, PassedResource, lift_parts}
 use Rattle.canon_lowering.proofs.Lowerings.{none_answered}
 use Rattle.canon_lowering.specs.Lowering.{AllLawful, Answer, CauseOf, Ending, Trap, marks_of}
 use Rattle.canon_lowering.specs.Storing.{narrow}

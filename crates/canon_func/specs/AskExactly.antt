@@ -8,7 +8,7 @@ use Rattle.canon_func.specs.Stores.{Callee}
 use Rattle.canon_host.specs.Forms.{HostFuncForm, RustTypes, TypedAnswering, over_types, over_values}
 use Rattle.canon_host.specs.TypedAsks.{IsTreeLifted}
 use Rattle.canon_host.specs.declared.asked.Asked.{Asked}
-use Rattle.canon_leaves.specs.Parts.{LeavesTake}
+use Rattle.canon_resources.specs.Parts.{LeavesTake}
 use Rattle.canon_ledger.specs.Ledger.{LedgerState}
 use Rattle.canon_reading.specs.Spots.{flat_in}
 use Rattle.canon_reading.specs.Ways.{AreLiftedBy}

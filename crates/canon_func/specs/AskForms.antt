@@ -3,7 +3,7 @@ use Rattle.std.specs.Prelude.{IfSome, List, None, Option, Result, Vec, ℕ, ◌�
 use Rattle.std.specs.declared.alloc.Global.{Global}
 use Rattle.canon_ledger.specs.Ledger.{LedgerState}
 use Rattle.canon_memory.specs.Guest.{Moment}
-use Rattle.canon_leaves.specs.Parts.{Part}
+use Rattle.canon_resources.specs.Parts.{Part}
 use Rattle.canon_lowering.specs.Lowering.{Answer, Trap}
 use Rattle.canon_context.specs.declared.fault.Fault.{Fault}
 use Rattle.canon_context.specs.declared.fault.Fault.TheVariants as fault

@@ -12,7 +12,7 @@ use Rattle.canon_model.specs.Shape.{Shape, of_places, product}
 use Rattle.canon_model.specs.Tree.{Tree}
 use Rattle.canon_memory.specs.Guest.{Moment}
 use Rattle.canon_ledger.specs.Ledger.{LedgerState}
-use Rattle.canon_leaves.specs.Parts.{LeavesTake, Part}
+use Rattle.canon_resources.specs.Parts.{LeavesTake, Part}
 use Rattle.canon_reading.specs.Reading.{Lifts, Reading, Setting}
 use Rattle.canon_reading.specs.Spots.{flat_in}
 use Rattle.canon_lower_parts.specs.Lowers.{EndsBy, HandlesCross}

@@ -10,7 +10,7 @@ use Rattle.canon_model.specs.Shape.{Members}
 use Rattle.canon_model.specs.Tree.{Trees}
 use Rattle.canon_memory.specs.Guest.{Moment}
 use Rattle.canon_ledger.specs.Ledger.{LedgerState}
-use Rattle.canon_leaves.specs.Parts.{LeavesLift, LeavesTake, Part, lift_parts, lower_parts}
+use Rattle.canon_resources.specs.Parts.{LeavesLift, LeavesTake, Part, lift_parts, lower_parts}
 use Rattle.canon_lowering.specs.Attempt.{LowersMembers, StoresMembers}
 use Rattle.canon_lowering.specs.Lowering.{Answer, Ending, Trap}
 use Rattle.canon_lowering.specs.Storing.{narrow}

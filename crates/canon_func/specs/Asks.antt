@@ -7,7 +7,7 @@ use Rattle.canon_handles.specs.declared.handle.TypedResource.TheVariants.{Compon
 use Rattle.canon_handles.specs.declared.handle.TypedResourceIndex.TheVariants.{Component as ComponentIndex}
 use Rattle.canon_ledger.specs.Ledger.{Done, Drop, LedgerState, LedgerStep, New, Rep, do_step}
 use Rattle.canon_ledger.specs.declared.fault.ResourceFault.{ResourceFault}
-use Rattle.canon_leaves.specs.Parts.{refusal_of, table_for}
+use Rattle.canon_resources.specs.Parts.{refusal_of, table_for}
 use Rattle.canon_lowering.specs.Lowering.{Answer, Trap}
 use Rattle.canon_types.specs.Instance.{Instance}
 use Rattle.canon_types.specs.declared.types.TypeFunc.{TypeFunc}

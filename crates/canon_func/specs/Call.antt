@@ -25,7 +25,7 @@ use Rattle.canon_ledger.specs.Handles.{can_leave, top_scope}
 use Rattle.canon_ledger.specs.Ledger.{Done, LedgerState, enter, leave, validate_scope_exit}
 use Rattle.canon_ledger.specs.declared.fault.ResourceFault.{ResourceFault}
 use Rattle.canon_resources.specs.Held.{Any}
-use Rattle.canon_leaves.specs.Parts.{LeavesLift, LeavesStop, LeavesTake, Part, lift_parts, lower_parts, refusal_of}
+use Rattle.canon_resources.specs.Parts.{LeavesLift, LeavesStop, LeavesTake, Part, lift_parts, lower_parts, refusal_of}
 use Rattle.canon_value_parts.specs.Args.{AsksTuple}
 use Rattle.canon_value_parts.specs.Fails.{AreSmall, BlamesMembers}
 use Rattle.canon_value_parts.specs.Lifts.{AreResults}

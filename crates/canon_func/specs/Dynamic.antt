@@ -10,7 +10,7 @@ use Rattle.canon_model.specs.Text.{Encoding}
 use Rattle.canon_model.specs.Tree.{Trees}
 use Rattle.canon_model.proofs.Faults.{fault_excludes}
 use Rattle.canon_model.proofs.Reached.{reach_is_the_cost}
-use Rattle.canon_leaves.proofs.Lifts.{lifts_take}
+use Rattle.canon_resources.proofs.Lifts.{lifts_take}
 use Rattle.canon_lowering.specs.Storing.{narrow}
 use Rattle.canon_context.specs.declared.fault.Fault.TheVariants as fault
 use Rattle.canon_value_parts.proofs.Values.{failure_excludes}

@@ -10,8 +10,8 @@ use Rattle.canon_model.specs.Tree.{Tree, Trees}
 use Rattle.canon_memory.specs.declared.event.Event.{Event}
 use Rattle.canon_ledger.specs.Handles.{top_scope}
 use Rattle.canon_ledger.specs.Ledger.{Enter, ExitScope, Leave, LedgerState, LedgerStep, Partway, Through, do_step, enter, leave}
-use Rattle.canon_leaves.specs.Parts.{Part}
-use Rattle.canon_leaves.specs.Steps.{leaves_steps}
+use Rattle.canon_resources.specs.Parts.{Part}
+use Rattle.canon_resources.specs.Steps.{leaves_steps}
 use Rattle.canon_lowering.specs.Attempt.{value_place}
 use Rattle.canon_lowering.specs.Lowering.{AllLawful, AllTidy, Answer, Calm, Trap, blocks_of, refused}
 use Rattle.canon_lowering.specs.Storing.{narrow}

@@ -4,7 +4,7 @@ use Rattle.canon_model.specs.Reach as reach
 use Rattle.canon_model.specs.Reach.{Kind}
 use Rattle.canon_model.specs.Tree.{Trees}
 use Rattle.canon_ledger.specs.Ledger.{LedgerState}
-use Rattle.canon_leaves.specs.Parts.{LeavesTake}
+use Rattle.canon_resources.specs.Parts.{LeavesTake}
 use Rattle.canon_context.specs.declared.fault.Fault.{Fault}
 use Rattle.canon_context.specs.declared.fault.Fault.TheVariants as fault
 use Rattle.canon_func.specs.Call.{result_words}

@@ -18,7 +18,7 @@ use Rattle.canon_lowering.specs.Attempt.{LowersArgs}
 use Rattle.canon_lowering.specs.Lowering.{AllLawful, Answer, Ending, Trap, done, events_of, marks_of, refused, short}
 use Rattle.canon_value_parts.specs.Fails.{AreSmall, BlamesMembers}
 use Rattle.canon_ledger.specs.Ledger.{LedgerState, leave}
-use Rattle.canon_leaves.specs.Parts.{LeavesStop, LeavesTake, refusal_of}
+use Rattle.canon_resources.specs.Parts.{LeavesStop, LeavesTake, refusal_of}
 use Rattle.canon_value_parts.specs.Args.{LowersParams}
 use Rattle.canon_value_parts.specs.Lifts.{LiftsResults}
 use Rattle.canon_value_parts.specs.Resources.{Crosses, QuietBut, all_passes, told_fault}

@@ -2,7 +2,7 @@
 use Rattle.std.specs.Prelude.{Bool, List, None, Option, Some, false, length, slice_get, ℕ, ◌<◌, ◌≡◌}
 use Rattle.canon_model.specs.Shape.{Members, no_members}
 use Rattle.canon_model.specs.Text.{Encoding, utf8}
-use Rattle.canon_indices.specs.declared.options.CanonicalOptions.{CanonicalOptions}
+use Rattle.canon_abi.specs.declared.options.CanonicalOptions.{CanonicalOptions}
 use Rattle.canon_types.specs.declared.types.TypeFunc.{TypeFunc}
 use Rattle.canon_types.specs.Instance.{Instance}
 use Rattle.canon_types.specs.Table.{TypeTable, param_members, result_members}

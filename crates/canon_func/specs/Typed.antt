@@ -14,7 +14,7 @@ use Rattle.canon_types.specs.declared.types.InterfaceType.{InterfaceType}
 use Rattle.canon_types.specs.declared.types.InterfaceType.TheVariants as ty
 use Rattle.canon_types.specs.declared.types.TypeFunc.{TypeFunc}
 use Rattle.canon_ledger.specs.Ledger.{LedgerState}
-use Rattle.canon_leaves.specs.Parts.{LeavesTake, Part}
+use Rattle.canon_resources.specs.Parts.{LeavesTake, Part}
 use Rattle.canon_context.specs.declared.component.Export.{Export}
 use Rattle.canon_context.specs.declared.fault.Fault.{Fault}
 use Rattle.canon_reading.specs.Reading.{Lifts, Reading, Setting}

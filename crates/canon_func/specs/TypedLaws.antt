@@ -5,7 +5,7 @@ use Rattle.canon_args.specs.Areas.{passed_taken}
 use Rattle.canon_args.specs.Params.{AreSmallIn, BlamesIn}
 use Rattle.canon_context.specs.declared.fault.Fault.{Fault}
 use Rattle.canon_context.specs.declared.fault.Fault.TheVariants as fault
-use Rattle.canon_leaves.specs.Parts.{Part}
+use Rattle.canon_resources.specs.Parts.{Part}
 use Rattle.canon_reading.specs.Reading.{AreTaken, Reading}
 use Rattle.canon_reading.specs.Spots.{flat_in}
 use Rattle.canon_lower_parts.proofs.Blamed.{large_fault}

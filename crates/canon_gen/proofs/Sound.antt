@@ -1,7 +1,7 @@
 -- With its call the common script stays one.
 use Rattle.std.proofs.Common.{◌≡◌, ◌≤◌, ◌*◌, ℕ, List, [], ◌∷◌, Some, arith, length, subst, sym}
 use Rattle.std.proofs.lemmas.List.Elements.{All-cons, All-nil}
-use Rattle.canon_indices.specs.declared.options.StringEncoding.{StringEncoding}
+use Rattle.canon_abi.specs.declared.options.StringEncoding.{StringEncoding}
 use Rattle.canon_script.specs.Script.{IsWellFormed, ItemStands, Play, ScriptItem, call_item, final_memory, max_memory, max_work, times_entered}
 use Rattle.canon_gen.proofs.Common.{common_memory, common_posts}
 use Rattle.canon_gen.specs.Made.{call_made, common, encoding_made, with_call}

@@ -1,8 +1,8 @@
 -- What is printed of the session of the script that a number makes.
 use Rattle.std.specs.Prelude.{ℕ, ◌≡◌, Bool, List, Some, [], ◌∷◌, ◌++◌, codes, false, if◌then◌else◌, sum_by, true}
 use Rattle.std.specs.Fmt.{decimal}
-use Rattle.canon_indices.specs.declared.options.StringEncoding.{StringEncoding}
-use Rattle.canon_indices.specs.declared.options.StringEncoding.TheVariants as encoding
+use Rattle.canon_abi.specs.declared.options.StringEncoding.{StringEncoding}
+use Rattle.canon_abi.specs.declared.options.StringEncoding.TheVariants as encoding
 use Rattle.canon_memory.specs.declared.event.Event.{Event}
 use Rattle.canon_memory.specs.declared.event.Event.TheVariants as event
 use Rattle.canon_val.specs.declared.val.Val.{Val}

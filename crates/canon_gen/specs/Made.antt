@@ -1,8 +1,8 @@
 -- The script that a number makes.
 use Rattle.std.specs.Prelude.{ℕ, ◌%◌, ◌==◌, List, [], ◌∷◌, ◌++◌, Option, codes, false, if◌then◌else◌, option_and_then, option_map}
 use Rattle.serde_json.specs.Read.{read}
-use Rattle.canon_indices.specs.declared.options.StringEncoding.{StringEncoding}
-use Rattle.canon_indices.specs.declared.options.StringEncoding.TheVariants as encoding
+use Rattle.canon_abi.specs.declared.options.StringEncoding.{StringEncoding}
+use Rattle.canon_abi.specs.declared.options.StringEncoding.TheVariants as encoding
 use Rattle.canon_model.specs.Image.{le_bytes}
 use Rattle.canon_scripted.specs.declared.actions.Action.{Action}
 use Rattle.canon_scripted.specs.declared.actions.Action.TheVariants as action

@@ -10,7 +10,7 @@ ghost use Rattle.canon_handles.specs.Table.{max_handle, empty_table, entry_at, e
 
 use crate::counter::HandleCounter;
 use crate::error::HandleError;
-use canon_indices::OutOfMemory;
+use canon_abi::OutOfMemory;
 use std::alloc::Global;
 use std::collections::BTreeMap;
 use std::marker::Model;

@@ -13,7 +13,7 @@ use crate::end::{readable, writable};
 use crate::error::HandleError;
 use crate::handle::{Entry, TransmitLocalState};
 use crate::handle_table::HandleTable;
-use canon_indices::TypeFutureTableIndex;
+use canon_abi::TypeFutureTableIndex;
 
 impl HandleTable {
     /// A new read end of a future, of the future type `ty`.

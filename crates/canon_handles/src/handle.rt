@@ -4,7 +4,7 @@ ghost use Rattle.std.specs.Prelude.{◌≡◌};
 ghost use Rattle.canon_handles.specs.Calls.{raw_index, rep_as};
 
 use crate::error::HandleError;
-use canon_indices::{TypeFutureTableIndex, TypeResourceTableIndex, TypeStreamTableIndex};
+use canon_abi::{TypeFutureTableIndex, TypeResourceTableIndex, TypeStreamTableIndex};
 
 /// The scope of a call in which borrow handles are made, by its number among the open scopes.
 #[derive(Clone, Copy, Debug, PartialEq, Eq)]

@@ -10,7 +10,7 @@ use crate::counter::HandleCounter;
 use crate::entry_table::EntryTable;
 use crate::error::HandleError;
 use crate::handle::{Entry, TypedResource};
-use canon_indices::OutOfMemory;
+use canon_abi::OutOfMemory;
 use std::alloc::Global;
 use std::marker::Model;
 

@@ -13,7 +13,7 @@ use crate::end::{readable, writable};
 use crate::error::HandleError;
 use crate::handle::{Entry, TransmitLocalState};
 use crate::handle_table::HandleTable;
-use canon_indices::TypeStreamTableIndex;
+use canon_abi::TypeStreamTableIndex;
 
 impl HandleTable {
     /// A new read end of a stream, of the stream type `ty`.

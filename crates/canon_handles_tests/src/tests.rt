@@ -8,7 +8,7 @@ use canon_handles::{
     HandleCounter, HandleError, HandleTable, RemovedResource, Scope, ThreadHandleTable,
     TransmitLocalState, TypedResource, TypedResourceIndex, Waitable,
 };
-use canon_indices::{TypeFutureTableIndex, TypeResourceTableIndex, TypeStreamTableIndex};
+use canon_abi::{TypeFutureTableIndex, TypeResourceTableIndex, TypeStreamTableIndex};
 use std::test::Fail;
 
 // A resource of type 3, and its index 1.

@@ -14,7 +14,7 @@ use Rattle.canon_host.specs.Serves.{Ends, IsResultPlace}
 use Rattle.canon_host.specs.ServesTyped.{CallsTyped, LiftsTyped, LowersTyped}
 use Rattle.canon_host.specs.TypedAsks.{AnswersAreGiven, AskAnswered, AskThrough, ServedIsAnswered, WasCalled, given_parts, given_steps}
 use Rattle.canon_host.specs.declared.asked.Asked.{Asked}
-use Rattle.canon_leaves.specs.Parts.{LeavesTake, Part}
+use Rattle.canon_resources.specs.Parts.{LeavesTake, Part}
 use Rattle.canon_ledger.specs.Handles.{top_scope}
 use Rattle.canon_ledger.specs.Ledger.{ExitScope, LedgerState, Through, do_step, enter, leave}
 use Rattle.canon_reading.specs.Reading.{AreTaken, Reading}

@@ -12,9 +12,9 @@ use Rattle.canon_host.specs.Serves.{ConcludesBy, Ends}
 use Rattle.canon_host.specs.ServesTyped.{CallsTyped, LiftsTyped, LowersTyped}
 use Rattle.canon_host.specs.TypedAsks.{RefusedIsPartway, ServedIsThrough, WasCalled, asked_parts, asked_steps, given_parts, given_steps, param_words}
 use Rattle.canon_host.specs.declared.asked.Asked.{Asked}
-use Rattle.canon_leaves.proofs.Through.{leaves_partway, leaves_through}
-use Rattle.canon_leaves.specs.Parts.{LeavesStop, LeavesTake, Part}
-use Rattle.canon_leaves.specs.Steps.{leaves_steps}
+use Rattle.canon_resources.proofs.Through.{leaves_partway, leaves_through}
+use Rattle.canon_resources.specs.Parts.{LeavesStop, LeavesTake, Part}
+use Rattle.canon_resources.specs.Steps.{leaves_steps}
 use Rattle.canon_ledger.proofs.LedgerLemmas.{compose, compose_parts}
 use Rattle.canon_ledger.specs.Books.{DidSurely}
 use Rattle.canon_ledger.specs.Handles.{top_scope}

@@ -4,8 +4,8 @@ use Rattle.canon_context.specs.Core.{Parts}
 use Rattle.canon_context.specs.Host.{Closure, IsOutside, Returns, StaticClosure, StaticReturns}
 use Rattle.canon_context.specs.declared.host.HostStop.{HostStop}
 use Rattle.canon_context.specs.declared.host.HostView.{HostView}
-use Rattle.canon_indices.specs.declared.options.CanonicalOptions.{CanonicalOptions}
-use Rattle.canon_leaves.specs.Parts.{Part}
+use Rattle.canon_abi.specs.declared.options.CanonicalOptions.{CanonicalOptions}
+use Rattle.canon_resources.specs.Parts.{Part}
 use Rattle.canon_ledger.specs.Ledger.{LedgerState}
 use Rattle.canon_ledger.specs.Reached.{ledger_in}
 use Rattle.canon_reading.specs.Apart.{IsApart}

@@ -13,7 +13,7 @@ use Rattle.canon_context.specs.Host.{StaticClosure, StaticGave}
 use Rattle.canon_host.specs.declared.asked.Asked.{Asked}
 use Rattle.canon_host.specs.declared.error.HostError.{HostError}
 use Rattle.canon_host.specs.declared.error.HostError.TheVariants as error
-use Rattle.canon_leaves.specs.Parts.{Part}
+use Rattle.canon_resources.specs.Parts.{Part}
 use Rattle.canon_reading.specs.Reading.{Lifts, Reading, setting_in}
 use Rattle.canon_reading.specs.Spots.{flat_in}
 use Rattle.canon_memory.specs.Guest.{GuestIn, Seen}

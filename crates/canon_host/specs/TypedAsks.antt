@@ -12,8 +12,8 @@ use Rattle.canon_host.specs.Serves.{IsResultPlace, stopped}
 use Rattle.canon_host.specs.ServesTyped.{CallsTyped, LiftsTyped, ServesTyped}
 use Rattle.canon_host.specs.declared.asked.Asked.{Asked}
 use Rattle.canon_host.specs.declared.error.HostError.{HostError}
-use Rattle.canon_leaves.specs.Parts.{LeavesTake, Part}
-use Rattle.canon_leaves.specs.Steps.{leaves_steps}
+use Rattle.canon_resources.specs.Parts.{LeavesTake, Part}
+use Rattle.canon_resources.specs.Steps.{leaves_steps}
 use Rattle.canon_ledger.specs.Handles.{top_scope}
 use Rattle.canon_ledger.specs.Ledger.{Enter, ExitScope, Leave, LedgerState, LedgerStep, Partway, Through, do_step, enter, leave}
 use Rattle.canon_reading.specs.Reading.{Reading, setting_in}

@@ -3,7 +3,7 @@
 ghost use Rattle.std.specs.Prelude.{◌≡◌, ◌<◌, ◌+◌, ◌-◌, ◌^◌, OnOk, length, map, slice_get, Some, ◌++◌, ◌∷◌, []};
 
 use canon_handles::TypedResourceIndex;
-use canon_indices::OutOfMemory;
+use canon_abi::OutOfMemory;
 use std::alloc::Global;
 use std::marker::Model;
 

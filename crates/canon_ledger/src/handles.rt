@@ -13,7 +13,7 @@ use canon_handles::{
     HandleCounter, HandleError, HandleTable, RemovedResource, Scope, TypedResource,
     TypedResourceIndex,
 };
-use canon_indices::OutOfMemory;
+use canon_abi::OutOfMemory;
 
 /// The handle tables of a store, the host's first and then that of each instance, their counter,
 /// and the open scopes, the current one last.

@@ -3,7 +3,7 @@
 ghost use Rattle.std.specs.Prelude.{◌≡◌, ◌≤◌, ◌<◌, OnOk, length};
 
 use crate::fault::ResourceFault;
-use canon_indices::{OutOfMemory, RuntimeInstance};
+use canon_abi::{OutOfMemory, RuntimeInstance};
 use std::alloc::Global;
 use std::marker::Model;
 

@@ -18,7 +18,7 @@ use crate::index::HostResourceIndex;
 use canon_handles::{
     CurrentScope, HandleCounter, HandleTable, Scope, TypedResource, TypedResourceIndex,
 };
-use canon_indices::{OutOfMemory, RuntimeInstance};
+use canon_abi::{OutOfMemory, RuntimeInstance};
 use std::alloc::Global;
 use std::marker::Model;
 

@@ -1,7 +1,7 @@
 //! Worked examples, and each public call once. One function owns each ledger and lends it to another, which tells whether each of its steps
 //! answers as it should.
 
-use canon_indices::{RuntimeInstance, StoreId};
+use canon_abi::{RuntimeInstance, StoreId};
 use canon_ledger::{
     HostResourceData, HostResourceIndex, HostResourceTables, KnownTypes, Ledger, ResourceFault,
     ResourceTables,

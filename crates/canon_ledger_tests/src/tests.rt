@@ -8,7 +8,7 @@ mod laws;
 mod scopes;
 
 use canon_handles::{TypedResource, TypedResourceIndex};
-use canon_indices::RuntimeInstance;
+use canon_abi::RuntimeInstance;
 use canon_ledger::{
     HostResourceData, HostResourceIndex, HostResourceTables, KnownTypes, Ledger, ResourceFault,
     ResourceTables, TableSlot, resource_drop_ret,

@@ -14,7 +14,7 @@ use Rattle.canon_context.specs.Told.{IsPlace}
 use Rattle.canon_context.specs.declared.fault.At.{At as Place}
 use Rattle.canon_context.specs.declared.fault.At.TheVariants as place
 use Rattle.canon_context.specs.declared.fault.Fault.TheVariants as fault
-use Rattle.canon_leaves.proofs.Leaves.{stops_at_once}
+use Rattle.canon_resources.proofs.Leaves.{stops_at_once}
 use Rattle.canon_ledger.specs.Ledger.{LedgerState}
 use Rattle.canon_model.specs.Flat.{flat_bits}
 use Rattle.canon_model.specs.Reach as reach

@@ -3,13 +3,13 @@ use Rattle.std.proofs.Common.{◌≡◌, ◌+◌, ◌-◌, ◌∙◌, IfErr, IfO
 use Rattle.canon_context.specs.Component.{encoding_at, encoding_in}
 use Rattle.canon_context.specs.declared.fault.Fault.{Fault}
 use Rattle.canon_context.specs.declared.host.MemoryView.{MemoryView}
-use Rattle.canon_indices.specs.Options.{encoding_of}
+use Rattle.canon_abi.specs.Options.{encoding_of}
 use Rattle.canon_lowering.specs.Storing.{narrow}
 use Rattle.canon_model.specs.Memory.{bytes_at}
 use Rattle.canon_model.specs.Text.{Encoding, text_bytes}
 use Rattle.canon_string.proofs.TextLoading.{read_there}
 use Rattle.canon_text.specs.declared.cow.CowStr.{CowStr}
-use Rattle.canon_indices.specs.declared.options.CanonicalOptions.{CanonicalOptions}
+use Rattle.canon_abi.specs.declared.options.CanonicalOptions.{CanonicalOptions}
 use Rattle.canon_lift.specs.Views.{IsDecodedText, TextLost, text_in}
 use Rattle.canon_lift.specs.declared.wasm_str.WasmStr.{WasmStr}
 

@@ -9,7 +9,7 @@ ghost use Rattle.canon_lowering.specs.Storing.{narrow};
 
 use crate::WasmList;
 use canon_context::MemoryView;
-use canon_indices::OutOfMemory;
+use canon_abi::OutOfMemory;
 use canon_lift_parts::numbers;
 use std::alloc::Global;
 

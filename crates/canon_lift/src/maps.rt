@@ -21,7 +21,7 @@ use crate::Lift;
 use crate::wasm_list::test_range;
 use canon_bytes::load_u32;
 use canon_context::{At, Fault, LiftContext};
-use canon_indices::OutOfMemory;
+use canon_abi::OutOfMemory;
 use canon_lift_parts::{word_at, word_u32};
 use canon_memory::ValRaw;
 use canon_types::InterfaceType;

@@ -2,7 +2,7 @@
 
 ghost use Rattle.std.specs.Prelude.{◌≡◌, ◌↔◌, ◌%◌, IfErr, IfOk, IsTrue, false, length, refl};
 ghost use Rattle.canon_context.specs.Component.{encoding_at};
-ghost use Rattle.canon_indices.specs.Options.{encoding_of};
+ghost use Rattle.canon_abi.specs.Options.{encoding_of};
 ghost use Rattle.canon_reading.specs.Scopes.{plain_kept};
 ghost use Rattle.canon_model.specs.Text.{in_utf16, text_align, text_bytes};
 ghost use Rattle.canon_model.specs.Tree.{text_length};

@@ -6,10 +6,10 @@ use Rattle.canon_context.specs.Lifter.{IsAfterSteps}
 use Rattle.canon_context.specs.Told.{LiftBlames}
 use Rattle.canon_context.specs.declared.fault.At.{At as Place}
 use Rattle.canon_context.specs.declared.fault.Fault.{Fault}
-use Rattle.canon_leaves.proofs.Leaves.{leaves_one, leaves_stop_one}
-use Rattle.canon_leaves.proofs.Through.{leaves_partway, leaves_through}
-use Rattle.canon_leaves.specs.Parts.{LeafLifts, LeafTakes, LeavesStop, Part, Stops, lift_parts, refusal_of}
-use Rattle.canon_leaves.specs.Steps.{leaves_steps}
+use Rattle.canon_resources.proofs.Leaves.{leaves_one, leaves_stop_one}
+use Rattle.canon_resources.proofs.Through.{leaves_partway, leaves_through}
+use Rattle.canon_resources.specs.Parts.{LeafLifts, LeafTakes, LeavesStop, Part, Stops, lift_parts, refusal_of}
+use Rattle.canon_resources.specs.Steps.{leaves_steps}
 use Rattle.canon_ledger.specs.Ledger.{LedgerState}
 use Rattle.canon_ledger.specs.declared.fault.ResourceFault.{ResourceFault}
 use Rattle.canon_ledger.specs.declared.fault.ResourceFault.TheVariants as resource

@@ -3,9 +3,9 @@ use Rattle.std.proofs.Common.{◌≡◌, ◌<◌, Bool, Err, Ok, Option, Result,
 use Rattle.canon_context.specs.Faults.{resource_fault}
 use Rattle.canon_context.specs.Lifter.{IsAfterSteps}
 use Rattle.canon_context.specs.declared.fault.Fault.{Fault}
-use Rattle.canon_leaves.proofs.Leaves.{leaves_stop_one}
-use Rattle.canon_leaves.proofs.Moves.{moves_one}
-use Rattle.canon_leaves.specs.Parts.{LeafMoves, LeavesStop, do_part, lend, refusal_of, table_for, take}
+use Rattle.canon_resources.proofs.Leaves.{leaves_stop_one}
+use Rattle.canon_resources.proofs.Moves.{moves_one}
+use Rattle.canon_resources.specs.Parts.{LeafMoves, LeavesStop, do_part, lend, refusal_of, table_for, take}
 use Rattle.canon_ledger.specs.Books.{DidSurely}
 use Rattle.canon_ledger.specs.Handles.{top_scope}
 use Rattle.canon_ledger.specs.Ledger.{Did, Done, LedgerState, resource_lift_borrow, resource_lift_own}

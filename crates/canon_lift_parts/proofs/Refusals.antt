@@ -5,8 +5,8 @@ use Rattle.canon_context.specs.Told.{LiftBlames, place_of}
 use Rattle.canon_context.specs.declared.fault.At.{At as Place}
 use Rattle.canon_context.specs.declared.fault.Fault.{Fault}
 use Rattle.canon_context.specs.declared.fault.Fault.TheVariants as fault
-use Rattle.canon_leaves.proofs.Leaves.{leaves_stop_first, leaves_stop_then, stops_at_once}
-use Rattle.canon_leaves.specs.Parts.{LeavesStop, LeavesTake, Part}
+use Rattle.canon_resources.proofs.Leaves.{leaves_stop_first, leaves_stop_then, stops_at_once}
+use Rattle.canon_resources.specs.Parts.{LeavesStop, LeavesTake, Part}
 use Rattle.canon_ledger.specs.Ledger.{LedgerState}
 use Rattle.canon_ledger.specs.declared.fault.ResourceFault.{ResourceFault}
 use Rattle.canon_model.specs.Reach as reach

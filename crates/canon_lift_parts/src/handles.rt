@@ -4,16 +4,15 @@ ghost use Rattle.std.specs.Prelude.{◌≡◌, false, true};
 ghost use Rattle.canon_context.specs.Core.{component_types};
 ghost use Rattle.canon_context.specs.Faults.{resource_fault};
 ghost use Rattle.canon_context.specs.Lifter.{IsAfterSteps, IsOneOrigin};
-ghost use Rattle.canon_leaves.specs.Parts.{LeafLifts};
+ghost use Rattle.canon_resources.specs.Parts.{LeafLifts};
 ghost use Rattle.canon_model.specs.Leaves.{leaf};
 ghost use Rattle.canon_types.specs.Table.{HasResource, Knows};
 ghost use Rattle.canon_typed.specs.Types.{IsHandleType};
 ghost use Rattle.canon_reading.specs.Handles.{HandleLifts, leaf_of};
 
 use canon_context::{Fault, LiftContext, Lifter, Source};
-use canon_leaves::{lift_borrow, lift_own};
+use canon_resources::{lift_borrow, lift_own, ResourceAny};
 use canon_ledger::{Ledger, ResourceFault};
-use canon_resources::ResourceAny;
 use canon_types::{InstanceType, InterfaceType, TypeResourceTableIndex};
 use std::alloc::Global;
 

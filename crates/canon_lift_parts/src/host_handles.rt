@@ -3,7 +3,7 @@
 ghost use Rattle.std.specs.Prelude.{◌≡◌, Bool, Some, true, false, ℕ};
 ghost use Rattle.canon_context.specs.Core.{component_types};
 ghost use Rattle.canon_context.specs.Lifter.{IsAfterSteps, IsOneOrigin};
-ghost use Rattle.canon_leaves.specs.Parts.{LeafMoves};
+ghost use Rattle.canon_resources.specs.Parts.{LeafMoves};
 ghost use Rattle.canon_model.specs.Leaves.{leaf};
 ghost use Rattle.canon_resources.specs.Types.{as_host};
 ghost use Rattle.canon_types.specs.Resource.{as_host_dynamic, resource_type_at};
@@ -16,11 +16,8 @@ ghost use Rattle.canon_reading.specs.Ways.{rep_parts};
 use crate::handles::{Handle, refused};
 use canon_context::{Fault, LiftContext, Lifter, Source};
 use canon_handles::TypedResourceIndex;
-use canon_leaves::{lend_at, table_for, take_at};
+use canon_resources::{HostResource, HostResourceType, HostType, lend_at, Resource, ResourceDynamic, ResourceType, table_for, take_at};
 use canon_ledger::{Ledger, ResourceFault};
-use canon_resources::{
-    HostResource, HostResourceType, HostType, Resource, ResourceDynamic, ResourceType,
-};
 use canon_types::{InstanceType, InterfaceType};
 use std::alloc::Global;
 

@@ -7,7 +7,7 @@ ghost use Rattle.canon_lowering.specs.Storing.{narrow};
 ghost use Rattle.canon_model.specs.Memory.{num};
 
 use canon_bytes::{load_u8, load_u16, load_u32, load_u64};
-use canon_indices::OutOfMemory;
+use canon_abi::OutOfMemory;
 use std::alloc::Global;
 
 /// An integer whose lowest byte stands first.

@@ -2,7 +2,7 @@
 
 ghost use Rattle.std.specs.Prelude.{◌≡◌, ◌≤◌, ◌+◌, ◌*◌, List, false, flat_map, length};
 ghost use Rattle.canon_context.specs.Core.{component_types};
-ghost use Rattle.canon_leaves.specs.Parts.{Part};
+ghost use Rattle.canon_resources.specs.Parts.{Part};
 ghost use Rattle.canon_lower_parts.specs.Given.{IsGiven};
 ghost use Rattle.canon_lower_parts.specs.Stores.{TypedMembersStore, TypedStores};
 ghost use Rattle.canon_lower_parts.specs.Words.{TypedLowers};

@@ -2,7 +2,7 @@
 
 ghost use Rattle.std.specs.Prelude.{◌≡◌, ◌≤◌, ◌<◌, ◌+◌, ◌∷◌, List, [], ⊤, false, length, refl};
 ghost use Rattle.canon_context.specs.Core.{component_types};
-ghost use Rattle.canon_leaves.specs.Parts.{Part};
+ghost use Rattle.canon_resources.specs.Parts.{Part};
 ghost use Rattle.canon_lower_parts.specs.Gives.{row_gives};
 ghost use Rattle.canon_lower_parts.specs.Stores.{TypedMembersStore, TypedStores};
 ghost use Rattle.canon_lower_parts.specs.Tuples.{member_type, members_after, types_from, types_of_tuple};

@@ -6,8 +6,8 @@ use Rattle.canon_context.proofs.Moves.{GuestLaws}
 use Rattle.canon_context.specs.Core.{Parts, stage_of}
 use Rattle.canon_context.specs.declared.fault.Fault.{Fault}
 use Rattle.canon_context.specs.declared.fault.Fault.TheVariants as fault
-use Rattle.canon_leaves.proofs.Leaves.{leaves_stop_first, leaves_stop_then, leaves_then, stops_at_once}
-use Rattle.canon_leaves.specs.Parts.{LeavesStop, LeavesTake, Part}
+use Rattle.canon_resources.proofs.Leaves.{leaves_stop_first, leaves_stop_then, leaves_then, stops_at_once}
+use Rattle.canon_resources.specs.Parts.{LeavesStop, LeavesTake, Part}
 use Rattle.canon_ledger.specs.Ledger.{LedgerState}
 use Rattle.canon_value_parts.proofs.Passing.{handles_then, no_stop}
 use Rattle.canon_lower_parts.specs.Blames.{IsElsewhere}

@@ -4,7 +4,7 @@ use Rattle.std.proofs.Math.Nat.{mod-eq_of_lt}
 use Rattle.canon_context.proofs.Moves.{GuestLaws}
 use Rattle.canon_context.specs.Core.{Parts, encoding_by, stage_of}
 use Rattle.canon_context.specs.declared.fault.Fault.{Fault}
-use Rattle.canon_leaves.specs.Parts.{Part}
+use Rattle.canon_resources.specs.Parts.{Part}
 use Rattle.canon_lowering.proofs.AimedCases.{CaseIs, tag_written, variant_stored}
 use Rattle.canon_lowering.specs.Copies.{case_members, case_tree, payload_trees}
 use Rattle.canon_model.proofs.Layouts.{tag-le-size}

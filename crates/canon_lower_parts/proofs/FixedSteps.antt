@@ -5,7 +5,7 @@ use Rattle.canon_model.specs.Homes.{host_texts}
 use Rattle.canon_context.proofs.Moves.{GuestLaws}
 use Rattle.canon_context.specs.Core.{Parts, component_types, encoding_by, stage_of}
 use Rattle.canon_context.specs.declared.fault.Fault.{Fault}
-use Rattle.canon_leaves.specs.Parts.{Part}
+use Rattle.canon_resources.specs.Parts.{Part}
 use Rattle.canon_lowering.proofs.AimedAt as aimed
 use Rattle.canon_lowering.specs.Copies.{copies}
 use Rattle.canon_model.specs.Layout.{size}

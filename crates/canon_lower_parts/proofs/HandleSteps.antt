@@ -7,8 +7,8 @@ use Rattle.canon_context.proofs.Moves.{GuestLaws}
 use Rattle.canon_context.specs.Core.{Parts, encoding_by, stage_of}
 use Rattle.canon_context.specs.Faults.{faulted, resource_fault}
 use Rattle.canon_context.specs.declared.fault.Fault.{Fault}
-use Rattle.canon_leaves.proofs.Leaves.{leaves_one, leaves_stop_one}
-use Rattle.canon_leaves.specs.Parts.{LeafMoves, Part, refusal_of}
+use Rattle.canon_resources.proofs.Leaves.{leaves_one, leaves_stop_one}
+use Rattle.canon_resources.specs.Parts.{LeafMoves, Part, refusal_of}
 use Rattle.canon_ledger.specs.declared.fault.ResourceFault.{ResourceFault}
 use Rattle.canon_ledger.specs.declared.fault.ResourceFault.TheVariants as resource
 use Rattle.canon_lower_parts.proofs.TooLarge.{handle_small}

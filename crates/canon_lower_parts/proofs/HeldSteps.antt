@@ -1,8 +1,8 @@
 -- Resources that the host holds, on their way through the ledger.
 use Rattle.std.proofs.Common.{◌≡◌, ◌∙◌, ◌∷◌, ◌⊎◌, Bool, Err, List, None, Ok, Option, Result, [], ap, false, if◌then◌else◌, inl, inr, refl, subst, sym, true, zero, ℕ}
 use Rattle.canon_handles.specs.Step.{and_then}
-use Rattle.canon_leaves.proofs.Moves.{moves_both, moves_one, leaf_stopped}
-use Rattle.canon_leaves.specs.Parts.{LeafMoves, Part, Stops, TakesParts, borrow_parts, do_part, host_own, is_defined_here, is_of_type, lend_host, lend_inserted, lower_parts, own_in, passed, refusal_of, refuse, table_for, tell}
+use Rattle.canon_resources.proofs.Moves.{moves_both, moves_one, leaf_stopped}
+use Rattle.canon_resources.specs.Parts.{LeafMoves, Part, Stops, TakesParts, borrow_parts, do_part, host_own, is_defined_here, is_of_type, lend_host, lend_inserted, lower_parts, own_in, passed, refusal_of, refuse, table_for, tell}
 use Rattle.canon_handles.specs.declared.handle.TypedResource.TheVariants.{Component, Host}
 use Rattle.canon_ledger.specs.Handles as handles
 use Rattle.canon_ledger.specs.Handles.{StepAnswer, host_table, top_scope}

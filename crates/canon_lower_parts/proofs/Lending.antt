@@ -13,7 +13,7 @@ use Rattle.canon_handles.specs.declared.handle.TypedResource.{TypedResource}
 use Rattle.canon_handles.specs.declared.handle.TypedResource.TheVariants.{Component, Host}
 use Rattle.canon_handles.specs.declared.handle.TypedResourceIndex.{TypedResourceIndex}
 use Rattle.canon_handles.specs.declared.handle.TypedResourceIndex.TheVariants.{Host as HostIndex}
-use Rattle.canon_leaves.specs.Parts.{LeafMoves, Part, Stops, TakesParts, borrow_in, borrow_parts, do_part, is_defined_here, is_of_type, lend_host, lower_parts, passed, refusal_of, refuse, table_for}
+use Rattle.canon_resources.specs.Parts.{LeafMoves, Part, Stops, TakesParts, borrow_in, borrow_parts, do_part, is_defined_here, is_of_type, lend_host, lower_parts, passed, refusal_of, refuse, table_for}
 use Rattle.canon_ledger.specs.Handles as handles
 use Rattle.canon_ledger.specs.Handles.{Handles, Lender, StepAnswer, borrow_added, finished, host_table, lent, table_at, top_scope}
 use Rattle.canon_ledger.specs.Index.{GivenIndex}

@@ -5,7 +5,7 @@ use Rattle.canon_context.proofs.Moves.{GuestLaws}
 use Rattle.canon_context.specs.Core.{Parts, component_types}
 use Rattle.canon_context.specs.Quiet.{has_block}
 use Rattle.canon_context.specs.declared.fault.Fault.{Fault}
-use Rattle.canon_leaves.specs.Parts.{Part}
+use Rattle.canon_resources.specs.Parts.{Part}
 use Rattle.canon_lowering.proofs.AimedPairs.{copies_row}
 use Rattle.canon_lowering.specs.Copies.{copies}
 use Rattle.canon_model.specs.Homes.{host_texts}

@@ -7,7 +7,7 @@ use Rattle.canon_context.proofs.Moves.{GuestLaws}
 use Rattle.canon_context.specs.Core.{Parts, encoding_by, stage_of}
 use Rattle.canon_context.specs.Quiet.{has_block, have_block}
 use Rattle.canon_context.specs.declared.fault.Fault.{Fault}
-use Rattle.canon_leaves.specs.Parts.{Part}
+use Rattle.canon_resources.specs.Parts.{Part}
 use Rattle.canon_lowering.proofs.AimedAt as aimed
 use Rattle.canon_lowering.proofs.Attempts.{attempt_none}
 use Rattle.canon_lowering.proofs.Copying.{begins-same}

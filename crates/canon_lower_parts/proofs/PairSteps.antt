@@ -3,7 +3,7 @@ use Rattle.std.proofs.Common.{◌≡◌, ◌≤◌, ◌+◌, ◌++◌, Err, List
 use Rattle.canon_context.proofs.Moves.{GuestLaws}
 use Rattle.canon_context.specs.Core.{Parts}
 use Rattle.canon_context.specs.declared.fault.Fault.{Fault}
-use Rattle.canon_leaves.specs.Parts.{Part}
+use Rattle.canon_resources.specs.Parts.{Part}
 use Rattle.canon_model.proofs.Layouts.{members_end-le, members_end-le-size}
 use Rattle.canon_model.specs.Layout.{begins, ends, offset, size}
 use Rattle.canon_model.specs.Shape.{Members, Shape, member, no_members, of_places, tuple, unnamed_members}

@@ -8,7 +8,7 @@ use Rattle.canon_context.proofs.Moves.{GuestLaws}
 use Rattle.canon_context.specs.Asks.{SameButHandles}
 use Rattle.canon_context.specs.Core.{Parts, component_types}
 use Rattle.canon_context.specs.declared.fault.Fault.{Fault}
-use Rattle.canon_leaves.specs.Parts.{Part}
+use Rattle.canon_resources.specs.Parts.{Part}
 use Rattle.canon_lowering.proofs.Copying.{begins-same, ends-same}
 use Rattle.canon_lowering.specs.Copies.{copies}
 use Rattle.canon_memory.specs.Guest.{GuestIn, Seen}

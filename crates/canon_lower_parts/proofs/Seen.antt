@@ -1,7 +1,7 @@
 -- Values behind references.
 use Rattle.std.proofs.Common.{Bor, Bool, Err, List, None, Ok, Option, Result, Some, false, option_copied, true}
 use Rattle.std.specs.Result.{result_copied}
-use Rattle.canon_leaves.specs.Parts.{Part}
+use Rattle.canon_resources.specs.Parts.{Part}
 use Rattle.canon_model.specs.Shape.{Shape}
 use Rattle.canon_model.specs.Tree.{Tree}
 use Rattle.canon_types.specs.Instance.{Instance}

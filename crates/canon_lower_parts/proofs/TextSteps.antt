@@ -9,7 +9,7 @@ use Rattle.canon_context.specs.declared.fault.Fault.TheVariants as fault
 use Rattle.canon_lowering.proofs.Attempts.{attempt_as}
 use Rattle.canon_lowering.specs.Attempt.{LowersValue, value_words}
 use Rattle.canon_lowering.specs.Lowering.{Ending, done, refused}
-use Rattle.canon_leaves.specs.Parts.{Part}
+use Rattle.canon_resources.specs.Parts.{Part}
 use Rattle.canon_model.specs.Homes.{host_texts}
 use Rattle.canon_model.specs.Layout.{size}
 use Rattle.canon_model.specs.Shape.{Shape, string}

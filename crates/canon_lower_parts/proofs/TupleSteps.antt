@@ -4,7 +4,7 @@ use Rattle.canon_context.proofs.Moves.{GuestLaws}
 use Rattle.canon_context.specs.Asks.{SameButHandles}
 use Rattle.canon_context.specs.Core.{Parts, component_types}
 use Rattle.canon_context.specs.declared.fault.Fault.{Fault}
-use Rattle.canon_leaves.specs.Parts.{Part}
+use Rattle.canon_resources.specs.Parts.{Part}
 use Rattle.canon_lower_parts.proofs.MemberSteps.{members_end as members_stop, members_more, members_nothing, product_stores}
 use Rattle.canon_lower_parts.proofs.TupleTypes.{IsNextType, next_of, none_after, tuple_seen}
 use Rattle.canon_lower_parts.specs.Gives.{product_gives, row_gives}

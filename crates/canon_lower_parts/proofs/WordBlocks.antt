@@ -4,7 +4,7 @@ use Rattle.canon_context.proofs.Moves.{GuestLaws}
 use Rattle.canon_context.specs.Core.{Parts, encoding_by, stage_of}
 use Rattle.canon_context.specs.Quiet.{has_block}
 use Rattle.canon_context.specs.declared.fault.Fault.{Fault}
-use Rattle.canon_leaves.specs.Parts.{Part}
+use Rattle.canon_resources.specs.Parts.{Part}
 use Rattle.canon_lower_parts.proofs.Attempts.{ends_early, lower_not_false}
 use Rattle.canon_lower_parts.specs.Places.{TypedPlaces, block_words, without_value}
 use Rattle.canon_lower_parts.specs.Words.{TypedLowers}

@@ -5,7 +5,7 @@ use Rattle.canon_context.proofs.Moves.{GuestLaws}
 use Rattle.canon_context.specs.Core.{Parts, component_types, encoding_by, stage_of}
 use Rattle.canon_context.specs.Quiet.{has_block, have_block}
 use Rattle.canon_context.specs.declared.fault.Fault.{Fault}
-use Rattle.canon_leaves.specs.Parts.{Part}
+use Rattle.canon_resources.specs.Parts.{Part}
 use Rattle.canon_lower_parts.proofs.Attempts.{AttemptKept, typed_map}
 use Rattle.canon_lower_parts.proofs.TooLarge.{fixed_large}
 use Rattle.canon_lower_parts.proofs.Items.{lower_each_count, row_trees}

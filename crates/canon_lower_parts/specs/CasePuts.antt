@@ -10,7 +10,7 @@ use Rattle.canon_types.specs.Table.{Knows, KnowsPayload, TypeTable, all_shapes, 
 use Rattle.canon_types.specs.declared.types.InterfaceType.{InterfaceType}
 use Rattle.canon_typed.specs.Meaning.{FirstAnd, NoTrees}
 use Rattle.canon_typed.specs.Types.{IsPayloadOf}
-use Rattle.canon_leaves.specs.Parts.{Part}
+use Rattle.canon_resources.specs.Parts.{Part}
 use Rattle.canon_lower_parts.specs.Stores.{IsPut}
 
 -- the shape of a payload, unless its Rust type is the unit

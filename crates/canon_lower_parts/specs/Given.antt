@@ -2,7 +2,7 @@
 use Rattle.std.proofs.Common.{◌++◌, ◌≡◌, ◌∷◌, Bool, Err, List, None, Ok, Option, Some, [], ap, false, inl, inr, refl, subst, sym, true, ℕ}
 use Rattle.std.specs.HashMap.{HashMap}
 use Rattle.std.specs.Prelude.{⊤, ◌⊎◌, flat_map}
-use Rattle.canon_leaves.specs.Parts.{Part, lower_parts, passed}
+use Rattle.canon_resources.specs.Parts.{Part, lower_parts, passed}
 use Rattle.canon_lower_parts.specs.Gives.{case_shape, item_shape, map_gives, no_handles, option_gives, pair_gives, payload_gives, product_gives, result_gives, row_gives}
 use Rattle.canon_lower_parts.specs.Handles.{handle_gives, held_gives, held_parts}
 use Rattle.canon_model.specs.Leaves.{Leaf, case_leaves, leaves, members_leaves}

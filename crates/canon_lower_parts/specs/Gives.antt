@@ -1,7 +1,7 @@
 -- What the handles in a typed value do to the ledger, in order.
 use Rattle.std.specs.HashMap.{HashMap}
 use Rattle.std.specs.Prelude.{Bool, Err, List, None, Ok, Option, Result, Some, [], false, flat_map, true, ℕ, ◌++◌, ◌∷◌}
-use Rattle.canon_leaves.specs.Parts.{Part}
+use Rattle.canon_resources.specs.Parts.{Part}
 use Rattle.canon_model.specs.Layout.{payload_shape}
 use Rattle.canon_model.specs.Shape.{Members, Shape, fixed, list, member, product, variant}
 use Rattle.canon_types.specs.Instance.{Instance}

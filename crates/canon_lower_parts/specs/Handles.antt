@@ -2,7 +2,7 @@
 use Rattle.std.specs.Prelude.{Bool, Err, IfErr, IfOk, List, None, Ok, Result, [], false, if◌then◌else◌, true, ℕ, ◌<◌, ◌^◌, ◌≡◌, ◌≢◌, ◌⊎◌, ◌∷◌}
 use Rattle.canon_context.specs.Core.{Parts}
 use Rattle.canon_context.specs.declared.fault.Fault.{Fault}
-use Rattle.canon_leaves.specs.Parts.{Part, borrow_in, host_own, is_defined_here, is_of_type, lend_inserted, lower_parts, own_in, passed, passed_parts, refuse, table_for, tell}
+use Rattle.canon_resources.specs.Parts.{Part, borrow_in, host_own, is_defined_here, is_of_type, lend_inserted, lower_parts, own_in, passed, passed_parts, refuse, table_for, tell}
 use Rattle.canon_ledger.specs.Index.{GivenIndex}
 use Rattle.canon_ledger.specs.Ledger.{LedgerState, given, host_resource_lower_own}
 use Rattle.canon_ledger.specs.declared.fault.ResourceFault.TheVariants as resource

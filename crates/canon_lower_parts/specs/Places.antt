@@ -4,7 +4,7 @@ use Rattle.canon_context.specs.Asks.{AsksFor}
 use Rattle.canon_context.specs.Core.{Parts, encoding_by}
 use Rattle.canon_context.specs.declared.fault.Fault.{Fault}
 use Rattle.canon_context.specs.declared.fault.Fault.TheVariants as fault
-use Rattle.canon_leaves.specs.Parts.{Part}
+use Rattle.canon_resources.specs.Parts.{Part}
 use Rattle.canon_lowering.specs.Attempt.{items_call, value_words}
 use Rattle.canon_lowering.specs.Storing.{IsPair}
 use Rattle.canon_memory.specs.Guest.{GuestIn, Seen}

@@ -4,7 +4,7 @@ use Rattle.std.specs.Prelude.{◌≡◌, ◌%◌, ◌^◌, List, Result, [], fal
 use Rattle.canon_context.specs.Core.{Parts, encoding_by}
 use Rattle.canon_context.specs.Quiet.{has_block, have_block}
 use Rattle.canon_context.specs.declared.fault.Fault.{Fault}
-use Rattle.canon_leaves.specs.Parts.{Part}
+use Rattle.canon_resources.specs.Parts.{Part}
 use Rattle.canon_lowering.specs.Attempt.{members_at, members_span, value_at, value_place}
 use Rattle.canon_lowering.specs.Steps.{Writes}
 use Rattle.canon_lowering.specs.Storing.{narrow}

@@ -3,7 +3,7 @@ use Rattle.std.specs.Prelude.{List, Result, [], false, ℕ, ◌≡◌, slice_ind
 use Rattle.canon_context.specs.Core.{Parts, encoding_by}
 use Rattle.canon_context.specs.Quiet.{has_block, have_block}
 use Rattle.canon_context.specs.declared.fault.Fault.{Fault}
-use Rattle.canon_leaves.specs.Parts.{Part}
+use Rattle.canon_resources.specs.Parts.{Part}
 use Rattle.canon_lower_parts.specs.Blames.{HasLarge, HaveLarge}
 use Rattle.canon_lower_parts.specs.Lowers.{TypedAttempt}
 use Rattle.canon_lowering.specs.Attempt.{members_words, value_words}

@@ -2,8 +2,8 @@
 
 ghost use Rattle.std.specs.Prelude.{◌≡◌, ◌≤◌, ◌+◌, false, is_ok, length, refl, true, ℕ};
 ghost use Rattle.canon_context.specs.Core.{SameButLedger, component_types};
-ghost use Rattle.canon_leaves.specs.Parts as parts;
-ghost use Rattle.canon_leaves.specs.Parts.{LeafMoves};
+ghost use Rattle.canon_resources.specs.Parts as parts;
+ghost use Rattle.canon_resources.specs.Parts.{LeafMoves};
 ghost use Rattle.canon_lower_parts.specs.Handles.{GivesNumber, HeldAfter, StateAfter, held_gives, held_parts};
 ghost use Rattle.canon_lower_parts.specs.Stores.{TypedStores};
 ghost use Rattle.canon_lower_parts.specs.Words.{TypedLowers};

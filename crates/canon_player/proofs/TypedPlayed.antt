@@ -17,7 +17,7 @@ use Rattle.canon_func.specs.Call.{entry_refusal, refused_by}
 use Rattle.canon_func.specs.Passing.{Arguments}
 use Rattle.canon_func.specs.Asks.{Limits}
 use Rattle.canon_func.specs.Stores.{Callee, Named, callee_in, callee_of, type_in}
-use Rattle.canon_indices.specs.declared.error.OutOfMemory.{OutOfMemory}
+use Rattle.canon_abi.specs.declared.error.OutOfMemory.{OutOfMemory}
 use Rattle.canon_script.specs.Imports.{HostAnswer}
 use Rattle.canon_script.specs.Script.{typed_item_view}
 use Rattle.canon_script.specs.Typed.{TypedValues, typed_view}

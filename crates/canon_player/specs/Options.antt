@@ -1,7 +1,7 @@
 -- The options of a script's functions, in its component.
 use Rattle.std.specs.Prelude.{Bool, List, None, Option, Some, [], false, if◌then◌else◌, slice_get, ℕ, ◌+◌, ◌∷◌}
-use Rattle.canon_indices.specs.declared.options.CanonicalOptions.{CanonicalOptions}
-use Rattle.canon_indices.specs.declared.options.StringEncoding.{StringEncoding}
+use Rattle.canon_abi.specs.declared.options.CanonicalOptions.{CanonicalOptions}
+use Rattle.canon_abi.specs.declared.options.StringEncoding.{StringEncoding}
 use Rattle.canon_types.specs.Table.{TypeTable}
 use Rattle.canon_types.specs.declared.types.TypeFunc.{TypeFunc}
 

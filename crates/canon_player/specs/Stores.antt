@@ -1,7 +1,7 @@
 -- The store of a script, and how it is kept.
 use Rattle.std.specs.Prelude.{Bool, List, [], length, replicate, slice_get, false, ℕ, ◌+◌, ◌<◌, ◌∷◌, ◌≡◌}
 use Rattle.canon_memory.specs.Guest.{Recorded}
-use Rattle.canon_indices.specs.declared.options.StringEncoding.{StringEncoding}
+use Rattle.canon_abi.specs.declared.options.StringEncoding.{StringEncoding}
 use Rattle.canon_types.specs.Table.{TypeTable}
 use Rattle.canon_scripted.specs.Orders.{AreNarrow}
 use Rattle.canon_scripted.specs.declared.orders.Ordered.{Ordered}

@@ -3,8 +3,8 @@ use Rattle.std.specs.Prelude.{◌≡◌, ◌⊎◌, Err, Ok, Result, Some, [], �
 use Rattle.std.proofs.Common.{inl}
 use Rattle.canon_context.specs.declared.fault.Fault.{Fault}
 use Rattle.canon_context.specs.declared.fault.Fault.TheVariants as fault
-use Rattle.canon_leaves.proofs.Leaves.{leaves_one}
-use Rattle.canon_leaves.specs.Parts.{LeafTakes, LeavesStop, lift_parts, lifted_any, refusal_of}
+use Rattle.canon_resources.proofs.Leaves.{leaves_one}
+use Rattle.canon_resources.specs.Parts.{LeafTakes, LeavesStop, lift_parts, lifted_any, refusal_of}
 use Rattle.canon_ledger.specs.Ledger.{LedgerState}
 use Rattle.canon_ledger.specs.declared.fault.ResourceFault.{ResourceFault}
 use Rattle.canon_model.specs.Layout.{size}

@@ -1,8 +1,8 @@
 -- Resources of the host: what they are lifted from is the representation behind a handle of the guest's.
 use Rattle.std.proofs.Common.{◌≡◌, Bool, Err, Ok, Option, Result, Some, [], ◌∷◌, false, inr, refl, true, ℕ, None}
 use Rattle.canon_context.specs.declared.fault.Fault.{Fault}
-use Rattle.canon_leaves.proofs.Leaves.{leaves_one}
-use Rattle.canon_leaves.specs.Parts.{LeafTakes, LeavesStop}
+use Rattle.canon_resources.proofs.Leaves.{leaves_one}
+use Rattle.canon_resources.specs.Parts.{LeafTakes, LeavesStop}
 use Rattle.canon_ledger.specs.Ledger.{LedgerState}
 use Rattle.canon_model.specs.Leaves.{Leaf, flat_leaves, leaf, reach_leaves}
 use Rattle.canon_model.specs.Shape.{Shape, borrow, own}

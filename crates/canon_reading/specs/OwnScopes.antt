@@ -16,7 +16,7 @@ use Rattle.canon_ledger.specs.Handles as handles
 use Rattle.canon_ledger.specs.Handles.{Handles, OpenScope, host_table, lifted_own, removing_resource, with_table}
 use Rattle.canon_ledger.specs.Ledger as ledger
 use Rattle.canon_ledger.specs.Ledger.{LedgerState}
-use Rattle.canon_leaves.specs.Parts.{LeafTakes, dtor_for, instance_for, lifted_parts, table_for}
+use Rattle.canon_resources.specs.Parts.{LeafTakes, dtor_for, instance_for, lifted_parts, table_for}
 use Rattle.canon_types.specs.Depth.{has_borrow}
 use Rattle.canon_types.specs.Instance.{Instance}
 use Rattle.canon_types.specs.Table.{shape_of}

@@ -1,6 +1,6 @@
 -- The readings of the implementations, by their parts.
 use Rattle.std.specs.Prelude.{◌≡◌, ◌≤◌, ◌<◌, ◌*◌, ◌+◌, ◌%◌, ◌==◌, ◌++◌, ◌||◌, ◌⊎◌, Bool, Err, List, None, Ok, Option, Result, Some, [], ◌∷◌, false, if◌then◌else◌, length, suc, true, zero, ℕ}
-use Rattle.canon_leaves.specs.Parts.{Part}
+use Rattle.canon_resources.specs.Parts.{Part}
 use Rattle.canon_ledger.specs.Ledger.{LedgerState}
 use Rattle.canon_model.specs.Layout.{align, flat, size}
 use Rattle.canon_model.specs.Memory.{Memory}

@@ -22,7 +22,7 @@ use Rattle.canon_reading.specs.Reading.{Reading, Setting}
 use Rattle.canon_reading.specs.Readings.{EachFault, EachReads, ListReads, RestReading, each_reach, first_reading, fixed_reading, list_reading, none_reading, product_reading, each_steps}
 use Rattle.canon_reading.specs.Spots.{Faulty, HasRoom, Represents, Rest, Spot, behind, first_spot, flat_from, flat_in, length_in, spot_members, others, pointer_in, stored, stored_from, leaves_in}
 use Rattle.canon_model.specs.Leaves.{Leaf, flat_leaves, list_at, members_flat_leaves, members_reach_leaves, reach_leaves}
-use Rattle.canon_leaves.specs.Parts.{Part}
+use Rattle.canon_resources.specs.Parts.{Part}
 use Rattle.canon_reading.specs.Ways.{AreLiftedBy, lifted_if, lifted_then}
 
 -- ---- values in a row

@@ -1,7 +1,7 @@
 -- A value without borrowed handles leaves the scopes of the ledger as they are, since its handles do.
 use Rattle.std.proofs.Common.{Bool, List, None, Option, Some, [], ap, false, if◌then◌else◌, refl, subst, suc, sym, true, zero, ℕ, ◌++◌, ◌∙◌, ◌∷◌, ◌≡◌, ◌||◌}
 use Rattle.std.specs.Prelude.{⊤}
-use Rattle.canon_leaves.specs.Parts.{LeafTakes, LeavesTake, Part}
+use Rattle.canon_resources.specs.Parts.{LeafTakes, LeavesTake, Part}
 use Rattle.canon_ledger.specs.Ledger.{LedgerState}
 use Rattle.canon_model.specs.Layout.{payload_shape}
 use Rattle.canon_model.specs.Shape.{Cases, ListKind, Shape, case_for, list, no_cases, of_items, of_pairs, tuple}

@@ -1,8 +1,8 @@
 -- The handles of what is read are taken by their steps, since it is so of the parts.
 use Rattle.std.proofs.Common.{◌≡◌, ◌++◌, ◌==◌, ◌∙◌, Err, List, None, Ok, Some, Bool, [], ◌∷◌, ap, eq-eqb, false, length, refl, subst, sym, true, ℕ}
 use Rattle.std.proofs.lemmas.Bool.{and_from, cond-false, cond-true, le-leb}
-use Rattle.canon_leaves.proofs.Leaves.{leaves_then}
-use Rattle.canon_leaves.specs.Parts.{LeavesTake, Part}
+use Rattle.canon_resources.proofs.Leaves.{leaves_then}
+use Rattle.canon_resources.specs.Parts.{LeavesTake, Part}
 use Rattle.canon_ledger.specs.Ledger.{LedgerState}
 use Rattle.canon_model.specs.Shape.{Members, Shape, member, no_members}
 use Rattle.canon_model.specs.Tree.{Tree}

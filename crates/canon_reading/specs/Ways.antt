@@ -1,6 +1,6 @@
 -- What a handle that is lifted does in the ledger.
 use Rattle.std.specs.Prelude.{◌≡◌, ◌++◌, ◌⊎◌, Bool, List, [], ◌∷◌, if◌then◌else◌, false, true, ⊤, ℕ}
-use Rattle.canon_leaves.specs.Parts.{Part, lend, lift_parts, table_for, take}
+use Rattle.canon_resources.specs.Parts.{Part, lend, lift_parts, table_for, take}
 use Rattle.canon_model.specs.Leaves.{Leaf}
 use Rattle.canon_types.specs.Instance.{Instance}
 

@@ -1,0 +1,4 @@
+pub mod Leaves
+pub mod Lifts
+pub mod Moves
+pub mod Through

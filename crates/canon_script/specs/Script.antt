@@ -6,8 +6,8 @@ use Rattle.serde_json.specs.Data.{Data, Items}
 use Rattle.serde_json.specs.Find.{as_bool, as_object, as_str, get}
 use Rattle.canon_context.specs.declared.component.Import.{Import}
 use Rattle.canon_json.specs.Json.{each, each_of, has_len, items_of, there, u32_of, word_of}
-use Rattle.canon_indices.specs.declared.options.StringEncoding.{StringEncoding}
-use Rattle.canon_indices.specs.declared.options.StringEncoding.TheVariants as encoding
+use Rattle.canon_abi.specs.declared.options.StringEncoding.{StringEncoding}
+use Rattle.canon_abi.specs.declared.options.StringEncoding.TheVariants as encoding
 use Rattle.canon_types.specs.Table.{TypeTable}
 use Rattle.canon_types.specs.declared.types.ResourceKind.{ResourceKind}
 use Rattle.canon_types.specs.declared.types.ResourceKind.TheVariants as resource

@@ -15,7 +15,7 @@ use crate::fields::{number_or, u32_in, word_in};
 use crate::script::{CallItem, DropItem, Item, NewItem, TypedItem, TypedParams};
 use crate::typed_params::typed_params;
 use crate::values::Values;
-use canon_indices::TypeFuncIndex;
+use canon_abi::TypeFuncIndex;
 use canon_json::{Reader, ScriptError, bool_or, each_of, has_len, there};
 use canon_scripted::Ordered;
 use canon_types::{ComponentTypes, InterfaceType, ResourceKind, TypeResourceTableIndex};

@@ -3,8 +3,8 @@ use Rattle.std.proofs.Common.{Bool, List, [], ap, append-nil, drop, length, subs
 use Rattle.std.proofs.Math.ListN.{drop_of_length-le}
 use Rattle.std.specs.Prelude.{unwrap_or}
 use Rattle.serde_json.specs.Data.{Data}
-use Rattle.canon_indices.specs.declared.options.CanonicalOptions.{CanonicalOptions}
-use Rattle.canon_indices.specs.declared.options.StringEncoding.{StringEncoding}
+use Rattle.canon_abi.specs.declared.options.CanonicalOptions.{CanonicalOptions}
+use Rattle.canon_abi.specs.declared.options.StringEncoding.{StringEncoding}
 use Rattle.canon_types.specs.Table.{TypeTable}
 use Rattle.canon_context.specs.Component.{IsComponent}
 use Rattle.canon_context.specs.declared.component.Component.{Component}

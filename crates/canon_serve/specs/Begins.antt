@@ -2,8 +2,8 @@
 use Rattle.std.specs.Prelude.{Bool, IsUtf8, List, None, Option, Some, [], false, if◌then◌else◌, replicate, slice_get, ℕ, ◌+◌, ◌∷◌, ◌≡◌}
 use Rattle.serde_json.specs.Data.{Data}
 use Rattle.serde_json.specs.Read.{read}
-use Rattle.canon_indices.specs.declared.options.CanonicalOptions.{CanonicalOptions}
-use Rattle.canon_indices.specs.declared.options.StringEncoding.{StringEncoding}
+use Rattle.canon_abi.specs.declared.options.CanonicalOptions.{CanonicalOptions}
+use Rattle.canon_abi.specs.declared.options.StringEncoding.{StringEncoding}
 use Rattle.canon_types.specs.Table.{TypeTable}
 use Rattle.canon_types.specs.declared.types.TypeFunc.{TypeFunc}
 use Rattle.canon_ledger.specs.Ledger.{new_ledger}

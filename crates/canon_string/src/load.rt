@@ -1,7 +1,7 @@
 //! Texts in memory, in each encoding.
 
 ghost use Rattle.std.specs.Prelude.{◌≡◌, ◌≤◌, ◌<◌, ◌+◌, ◌*◌, ◌^◌, IfErr, IfOk, string_bytes};
-ghost use Rattle.canon_indices.specs.Options.{encoding_of};
+ghost use Rattle.canon_abi.specs.Options.{encoding_of};
 ghost use Rattle.canon_lowering.specs.Storing.{narrow};
 ghost use Rattle.canon_model.specs.Memory.{bytes_at};
 ghost use Rattle.canon_model.specs.Reach.{IsGood, PointerFault, TextFault, text_reach};

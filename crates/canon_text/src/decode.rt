@@ -12,7 +12,7 @@ use crate::latin1::latin1_to_utf8;
 use crate::units::make_piece;
 use crate::utf8::text_of;
 use crate::utf16::utf16_to_utf8;
-use canon_indices::OutOfMemory;
+use canon_abi::OutOfMemory;
 use std::alloc::Global;
 
 // How many bytes a pass writes at a time.

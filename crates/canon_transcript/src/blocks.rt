@@ -4,7 +4,7 @@ ghost use Rattle.std.specs.Prelude.{◌≡◌, ◌++◌, IfOk, OnOk, string_byte
 ghost use Rattle.std.specs.List.{position};
 ghost use Rattle.canon_transcript.specs.Blocks as spec;
 
-use canon_indices::OutOfMemory;
+use canon_abi::OutOfMemory;
 use canon_memory::Event;
 use std::alloc::{AllocError, Global};
 

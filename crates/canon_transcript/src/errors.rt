@@ -5,7 +5,7 @@ ghost use Rattle.canon_transcript.specs.Text as spec;
 
 use canon_context::{At, Fault};
 use canon_func::Error;
-use canon_indices::OutOfMemory;
+use canon_abi::OutOfMemory;
 use canon_ledger::ResourceFault;
 use std::alloc::{AllocError, Global};
 

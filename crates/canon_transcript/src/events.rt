@@ -8,7 +8,7 @@ ghost use Rattle.canon_transcript.specs.Text as spec;
 use crate::Served;
 use crate::blocks::{Block, blocks_left, follow};
 use crate::values::print_unnumbered;
-use canon_indices::OutOfMemory;
+use canon_abi::OutOfMemory;
 use canon_memory::{Event, Events, Words};
 use std::alloc::{AllocError, Global};
 

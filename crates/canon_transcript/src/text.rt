@@ -7,7 +7,7 @@ use crate::errors::print_error;
 use crate::events::print_events;
 use crate::values::print_values;
 use crate::{Answer, Head, Record, Transcript};
-use canon_indices::OutOfMemory;
+use canon_abi::OutOfMemory;
 use std::alloc::{AllocError, Global};
 
 /// The text of a transcript. The resources among the results have the numbers from 0 on. Answers OutOfMemory alone.

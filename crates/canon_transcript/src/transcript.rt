@@ -4,7 +4,7 @@ ghost use Rattle.std.specs.Prelude.{◌≡◌, List, [], ◌∷◌, ◌++◌, On
 ghost use Rattle.canon_transcript.specs.declared.transcript.Record.{Record};
 
 use canon_func::Error;
-use canon_indices::OutOfMemory;
+use canon_abi::OutOfMemory;
 use canon_memory::Events;
 use canon_val::Val;
 use std::alloc::Global;

@@ -3,7 +3,7 @@
 ghost use Rattle.std.specs.Prelude.{[], if◌then◌else◌, ◌≡◌, ◌++◌, IfOk, OnOk, codes, string_bytes};
 ghost use Rattle.canon_transcript.specs.Text as spec;
 
-use canon_indices::OutOfMemory;
+use canon_abi::OutOfMemory;
 use canon_val::Val;
 use std::alloc::{AllocError, Global};
 

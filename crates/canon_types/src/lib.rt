@@ -10,7 +10,7 @@ mod types;
 pub use canon_abi::{
     CanonicalAbiInfo, DiscriminantSize, FlagsSize, MAX_FLAT_PARAMS, MAX_FLAT_RESULTS, VariantInfo,
 };
-pub use canon_indices::{
+pub use canon_abi::{
     CanonicalOptions, ExportIndex, OptionsIndex, OutOfMemory, RuntimeInstance, StoreId,
     StringEncoding, TypeEnumIndex, TypeFixedLengthListIndex, TypeFlagsIndex, TypeFuncIndex,
     TypeFutureTableIndex, TypeListIndex, TypeMapIndex, TypeOptionIndex, TypeRecordIndex,

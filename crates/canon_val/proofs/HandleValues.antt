@@ -2,7 +2,7 @@
 use Rattle.std.proofs.Common.{Bool, true, false, nat_eq, ◌&&◌, ◌==◌, refl, ap, ap₂, rules, [], ◌∙◌, ◌∷◌, ◌≡◌, pos, sym, ℕ}
 use Rattle.std.specs.Prelude.{◌↔◌}
 use Rattle.std.specs.Cmp.Lexicographic.{pointwise}
-use Rattle.canon_leaves.specs.Parts.{same_type}
+use Rattle.canon_resources.specs.Parts.{same_type}
 use Rattle.canon_ledger.specs.Index.{GivenIndex}
 use Rattle.canon_resources.specs.Held.{Any}
 use Rattle.canon_resources.specs.declared.any.ResourceAnyHandle.{ResourceAnyHandle}

@@ -4,7 +4,7 @@ use Rattle.std.specs.Cmp.Lexicographic.{pointwise}
 use Rattle.std.specs.Ordering.{int_eq}
 use Rattle.std.specs.declared.alloc.Global.{Global}
 use Rattle.canon_model.specs.Shape.{Name}
-use Rattle.canon_leaves.specs.Parts.{same_type}
+use Rattle.canon_resources.specs.Parts.{same_type}
 use Rattle.canon_resources.specs.Held.{Any}
 use Rattle.canon_resources.specs.declared.any.ResourceAnyHandle.{ResourceAnyHandle}
 use Rattle.canon_resources.specs.declared.any.ResourceAnyHandle.TheVariants as handle

@@ -5,7 +5,7 @@ ghost use Rattle.canon_val.specs.Equal.{data_of, pair_data, payload_data};
 ghost use Rattle.canon_val.specs.Value.{names_in, values_in};
 
 use crate::Val;
-use canon_indices::OutOfMemory;
+use canon_abi::OutOfMemory;
 use std::alloc::Global;
 
 impl Val {

@@ -1,7 +1,7 @@
 //! When two resources are equal: where they are of one type, and have one handle or one representation.
 
 ghost use Rattle.std.specs.Prelude.{◌≡◌};
-ghost use Rattle.canon_leaves.specs.Parts.{same_type};
+ghost use Rattle.canon_resources.specs.Parts.{same_type};
 ghost use Rattle.canon_val.specs.Equal.{same_handle, same_resource};
 
 use canon_resources::{ResourceAny, ResourceType};

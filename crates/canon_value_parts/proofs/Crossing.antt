@@ -5,7 +5,7 @@ use Rattle.canon_context.specs.declared.fault.Fault.{Fault}
 use Rattle.canon_context.specs.declared.fault.Fault.TheVariants as fault
 use Rattle.canon_ledger.specs.Ledger.{LedgerState}
 use Rattle.canon_ledger.specs.declared.fault.ResourceFault.TheVariants as resource
-use Rattle.canon_leaves.specs.Parts.{LeavesStop, PassedResource, lower_parts}
+use Rattle.canon_resources.specs.Parts.{LeavesStop, PassedResource, lower_parts}
 use Rattle.canon_lowering.specs.Lowering.{Ending, refused}
 use Rattle.canon_model.specs.Text.{Encoding}
 use Rattle.canon_types.specs.Instance.{Instance}

@@ -6,9 +6,9 @@ use Rattle.canon_context.specs.Told.{LiftBlames, ToldAt}
 use Rattle.canon_context.specs.declared.fault.At.{At}
 use Rattle.canon_context.specs.declared.fault.Fault.{Fault}
 use Rattle.canon_context.specs.declared.fault.Fault.TheVariants as fault
-use Rattle.canon_leaves.proofs.Leaves.{leaves_stop_one}
-use Rattle.canon_leaves.proofs.Lifts.{lifts_one}
-use Rattle.canon_leaves.specs.Parts.{LeafLifts, LeavesLift, lift_parts, refusal_of}
+use Rattle.canon_resources.proofs.Leaves.{leaves_stop_one}
+use Rattle.canon_resources.proofs.Lifts.{lifts_one}
+use Rattle.canon_resources.specs.Parts.{LeafLifts, LeavesLift, lift_parts, refusal_of}
 use Rattle.canon_ledger.specs.Ledger.{LedgerState}
 use Rattle.canon_ledger.specs.declared.fault.ResourceFault.{ResourceFault}
 use Rattle.canon_ledger.specs.declared.fault.ResourceFault.TheVariants as resource

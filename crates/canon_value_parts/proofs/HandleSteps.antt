@@ -10,7 +10,7 @@ use Rattle.canon_context.specs.declared.fault.Fault.{Fault}
 use Rattle.canon_context.specs.declared.fault.Fault.TheVariants as fault
 use Rattle.canon_ledger.specs.Ledger.{LedgerState}
 use Rattle.canon_ledger.specs.declared.fault.ResourceFault.{ResourceFault}
-use Rattle.canon_leaves.specs.Parts.{PassedResource, passed}
+use Rattle.canon_resources.specs.Parts.{PassedResource, passed}
 use Rattle.canon_lowering.proofs.AimedAt.{borrow_stored, own_stored}
 use Rattle.canon_lowering.proofs.AimedWords.{borrow_words, own_words}
 use Rattle.canon_lowering.proofs.Attempts.{attempt_refused}

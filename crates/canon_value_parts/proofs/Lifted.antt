@@ -7,9 +7,9 @@ use Rattle.canon_context.proofs.Told.{handed_to}
 use Rattle.canon_context.specs.Told.{IsNoRefusal}
 use Rattle.canon_context.specs.declared.fault.Fault.{Fault}
 use Rattle.canon_context.specs.declared.fault.Fault.TheVariants as fault
-use Rattle.canon_leaves.proofs.Leaves.{leaves_stop_first, leaves_stop_then, stops_at_once}
-use Rattle.canon_leaves.proofs.Lifts.{lifts_none, lifts_take, lifts_then}
-use Rattle.canon_leaves.specs.Parts.{LeavesLift, LeavesStop, Part, lift_parts}
+use Rattle.canon_resources.proofs.Leaves.{leaves_stop_first, leaves_stop_then, stops_at_once}
+use Rattle.canon_resources.proofs.Lifts.{lifts_none, lifts_take, lifts_then}
+use Rattle.canon_resources.specs.Parts.{LeavesLift, LeavesStop, Part, lift_parts}
 use Rattle.canon_ledger.specs.Ledger.{LedgerState}
 use Rattle.canon_ledger.specs.declared.fault.ResourceFault.{ResourceFault}
 use Rattle.canon_model.specs.Leaves.{Leaf}

@@ -3,10 +3,10 @@ use Rattle.std.proofs.Common.{Err, List, Ok, Result, map}
 use Rattle.canon_context.proofs.LedgerSteps.{partway_after, through_after}
 use Rattle.canon_context.specs.Lifter.{IsAfterSteps}
 use Rattle.canon_context.specs.declared.fault.Fault.{Fault}
-use Rattle.canon_leaves.proofs.Lifts.{lifts_take}
-use Rattle.canon_leaves.proofs.Through.{leaves_partway, leaves_through}
-use Rattle.canon_leaves.specs.Parts.{lift_parts}
-use Rattle.canon_leaves.specs.Steps.{leaves_steps}
+use Rattle.canon_resources.proofs.Lifts.{lifts_take}
+use Rattle.canon_resources.proofs.Through.{leaves_partway, leaves_through}
+use Rattle.canon_resources.specs.Parts.{lift_parts}
+use Rattle.canon_resources.specs.Steps.{leaves_steps}
 use Rattle.canon_ledger.specs.Ledger.{LedgerState}
 use Rattle.canon_model.specs.Leaves.{Leaf}
 use Rattle.canon_resources.specs.Held.{Any}

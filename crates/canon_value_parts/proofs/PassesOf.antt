@@ -11,7 +11,7 @@ use Rattle.std.proofs.lemmas.List.{drop_all, length-map}
 use Rattle.std.proofs.lemmas.Bool.Decides.{Decides-eqb}
 use Rattle.std.proofs.lemmas.Slice.Eq.{slice_eq-Decides}
 use Rattle.canon_context.specs.Quiet.{cases_have_handle, has_handle, have_handle}
-use Rattle.canon_leaves.specs.Parts.{PassedResource, passed}
+use Rattle.canon_resources.specs.Parts.{PassedResource, passed}
 use Rattle.canon_lowering.specs.Copies.{case_members, copies, pairs_of}
 use Rattle.canon_model.specs.Layout.{member_shape}
 use Rattle.canon_model.specs.Shape as shape

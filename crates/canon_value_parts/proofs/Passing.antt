@@ -8,8 +8,8 @@ use Rattle.canon_context.specs.declared.fault.Fault.{Fault}
 use Rattle.canon_context.specs.declared.fault.Fault.TheVariants as fault
 use Rattle.canon_ledger.specs.Ledger.{LedgerState}
 use Rattle.canon_ledger.specs.declared.fault.ResourceFault.{ResourceFault}
-use Rattle.canon_leaves.proofs.Leaves.{leaves_one, leaves_stop_first, leaves_stop_one, leaves_stop_then, leaves_then, stops_at_once}
-use Rattle.canon_leaves.specs.Parts.{LeafMoves, LeavesStop, LeavesTake, Part, PassedResource, lower_parts, refusal_of}
+use Rattle.canon_resources.proofs.Leaves.{leaves_one, leaves_stop_first, leaves_stop_one, leaves_stop_then, leaves_then, stops_at_once}
+use Rattle.canon_resources.specs.Parts.{LeafMoves, LeavesStop, LeavesTake, Part, PassedResource, lower_parts, refusal_of}
 use Rattle.canon_lowering.specs.Lowering.{Ending, Reallocated, refused}
 use Rattle.canon_model.specs.Requests.{Call}
 use Rattle.canon_types.specs.Instance.{Instance}

@@ -5,7 +5,7 @@ use Rattle.canon_context.specs.declared.fault.Fault.{Fault}
 use Rattle.canon_context.specs.declared.fault.Fault.TheVariants as fault
 use Rattle.canon_context.specs.Core.{Parts}
 use Rattle.canon_context.specs.Lowers.{ending_of, fault_ending}
-use Rattle.canon_leaves.specs.Parts.{LeavesLift, LeavesStop, LeavesTake, PassedResource, lift_parts, lower_parts, passed, refusal_of}
+use Rattle.canon_resources.specs.Parts.{LeavesLift, LeavesStop, LeavesTake, PassedResource, lift_parts, lower_parts, passed, refusal_of}
 use Rattle.canon_ledger.specs.Ledger.{LedgerState}
 use Rattle.canon_ledger.specs.declared.fault.ResourceFault.{ResourceFault}
 use Rattle.canon_ledger.specs.declared.fault.ResourceFault.TheVariants as resource

@@ -7,7 +7,7 @@ ghost use Rattle.canon_memory.specs.Realloc.{block};
 ghost use Rattle.canon_model.specs.Layout.{flag_words, flat, size};
 ghost use Rattle.canon_model.specs.Reach.{StoredFault, reach_cost};
 ghost use Rattle.canon_lowering.specs.Storing.{narrow};
-ghost use Rattle.canon_indices.specs.Options.{encoding_of};
+ghost use Rattle.canon_abi.specs.Options.{encoding_of};
 ghost use Rattle.canon_context.specs.Told.{Exactly, IsNoRefusal, LiftBlames};
 ghost use Rattle.canon_value_parts.specs.Loads.{IsLoaded};
 ghost use Rattle.canon_value_parts.specs.Lifts.{LiftsTo};

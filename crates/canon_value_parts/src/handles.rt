@@ -3,18 +3,17 @@
 ghost use Rattle.std.specs.Prelude.{◌≡◌};
 ghost use Rattle.canon_context.specs.Core.{component_types};
 ghost use Rattle.canon_context.specs.Lifter.{IsOneOrigin};
-ghost use Rattle.canon_leaves.specs.Parts.{LeafLifts, passed};
+ghost use Rattle.canon_resources.specs.Parts.{LeafLifts, passed};
 ghost use Rattle.canon_plan.specs.Plan.{type_of_handle};
 ghost use Rattle.canon_types.specs.Table.{HasResource, Knows};
 ghost use Rattle.canon_model.specs.Leaves.{leaf};
 ghost use Rattle.canon_value_parts.specs.Resources.{GivesHandle, TakesHandle, told_fault};
 
 use canon_context::{Fault, LowerContext, Source};
-use canon_leaves::{lift_borrow, lift_own};
+use canon_resources::{lift_borrow, lift_own, ResourceAny};
 use canon_ledger::{Ledger, ResourceFault};
 use canon_memory::Guest;
 use canon_plan::HandleType;
-use canon_resources::ResourceAny;
 use canon_types::InstanceType;
 use canon_val::Val;
 

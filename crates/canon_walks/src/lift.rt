@@ -8,7 +8,7 @@ ghost use Rattle.canon_model.specs.Reach.{FlatFault, ValuesFault, flat_reach, va
 ghost use Rattle.canon_model.specs.Shape.{string};
 ghost use Rattle.canon_model.specs.Text.{Encoding};
 ghost use Rattle.canon_types.specs.Table.{HasTuple, Knows, plain_shape, shape_of, tuple_members};
-ghost use Rattle.canon_indices.specs.Options.{encoding_of};
+ghost use Rattle.canon_abi.specs.Options.{encoding_of};
 ghost use Rattle.canon_plan.specs.NoHandle.{IsScalarType};
 ghost use Rattle.canon_context.specs.Lifter.{IsOneOrigin};
 ghost use Rattle.canon_model.specs.Leaves.{flat_leaves, leaf, members_flat_leaves, values_leaves};

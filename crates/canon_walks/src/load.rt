@@ -10,7 +10,7 @@ ghost use Rattle.canon_model.specs.Reach.{MemberFault, StoredFault, members_reac
 ghost use Rattle.canon_model.specs.Shape.{string};
 ghost use Rattle.canon_types.specs.Depth.{element_shape, variant_cases};
 ghost use Rattle.canon_types.specs.Table.{HasTuple, Knows, shape_of, tuple_members};
-ghost use Rattle.canon_indices.specs.Options.{encoding_of};
+ghost use Rattle.canon_abi.specs.Options.{encoding_of};
 ghost use Rattle.canon_plan.specs.NoHandle.{IsScalarType};
 ghost use Rattle.canon_context.specs.Lifter.{IsOneOrigin};
 ghost use Rattle.canon_plan.specs.Element.{IsKnown, ItemsFault, element_cost, items_reach, list_shape};

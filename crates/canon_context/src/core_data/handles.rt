@@ -11,18 +11,17 @@ ghost use Rattle.canon_ledger.specs.Ledger.{Did, given};
 ghost use Rattle.canon_ledger.specs.Places.{HasType, SamePlaces};
 ghost use Rattle.canon_model.specs.Leaves.{leaf};
 ghost use Rattle.canon_types.specs.Table.{HasResource};
-ghost use Rattle.canon_leaves.specs.Parts as parts;
-ghost use Rattle.canon_leaves.specs.Parts.{LeafLifts, LeafMoves, lower_parts, passed};
+ghost use Rattle.canon_resources.specs.Parts as parts;
+ghost use Rattle.canon_resources.specs.Parts.{LeafLifts, LeafMoves, lower_parts, passed};
 ghost use Rattle.canon_context.specs.Core.{HasKnownType, SameButLedger, table_by, component_types};
 
 use super::Core;
 use canon_handles::{CurrentScope, Scope, TypedResource, TypedResourceIndex};
-use canon_leaves::table_for;
+use canon_resources::{ResourceAny, table_for};
 use canon_ledger::{
     CallContext, HostResourceIndex, HostResourceTables, KnownTypes, ResourceFault, ResourceTables,
     TableSlot,
 };
-use canon_resources::ResourceAny;
 use canon_types::{OutOfMemory, RuntimeInstance, TypeResourceTableIndex};
 
 impl<T, G> Core<T, G> {
@@ -64,7 +63,7 @@ impl<T, G> Core<T, G> {
         let _instances = self.ledger.instances(); // the ledger has 257 tables
     }
 
-    /// Lowers an own handle of the host, as `canon_leaves::lower_own`.
+    /// Lowers an own handle of the host, as `canon_resources::lower_own`.
     pub fn lower_own(
         &mut self,
         resource: ResourceAny,
@@ -76,10 +75,10 @@ impl<T, G> Core<T, G> {
         ensures same { SameButLedger self.old self.new }
     {
         self.place(ty);
-        canon_leaves::lower_own(&mut self.ledger, &self.component.types, resource, ty)
+        canon_resources::lower_own(&mut self.ledger, &self.component.types, resource, ty)
     }
 
-    /// Lowers a borrow, as `canon_leaves::lower_borrow`.
+    /// Lowers a borrow, as `canon_resources::lower_borrow`.
     pub fn lower_borrow(
         &mut self,
         resource: ResourceAny,
@@ -91,10 +90,10 @@ impl<T, G> Core<T, G> {
         ensures same { SameButLedger self.old self.new }
     {
         self.place(ty);
-        canon_leaves::lower_borrow(&mut self.ledger, &self.component.types, resource, ty)
+        canon_resources::lower_borrow(&mut self.ledger, &self.component.types, resource, ty)
     }
 
-    /// Lifts an own handle of a component, as `canon_leaves::lift_own`.
+    /// Lifts an own handle of a component, as `canon_resources::lift_own`.
     pub fn lift_own(
         &mut self,
         index: u32,
@@ -106,10 +105,10 @@ impl<T, G> Core<T, G> {
         ensures same { SameButLedger self.old self.new }
     {
         self.place(ty);
-        canon_leaves::lift_own(&mut self.ledger, &self.component.types, index, ty)
+        canon_resources::lift_own(&mut self.ledger, &self.component.types, index, ty)
     }
 
-    /// Lifts a borrow, as `canon_leaves::lift_borrow`.
+    /// Lifts a borrow, as `canon_resources::lift_borrow`.
     pub fn lift_borrow(
         &mut self,
         index: u32,
@@ -121,7 +120,7 @@ impl<T, G> Core<T, G> {
         ensures same { SameButLedger self.old self.new }
     {
         self.place(ty);
-        canon_leaves::lift_borrow(&mut self.ledger, &self.component.types, index, ty)
+        canon_resources::lift_borrow(&mut self.ledger, &self.component.types, index, ty)
     }
 
     /// Opens a scope, which is then the top one.
@@ -172,7 +171,7 @@ impl<T, G> Core<T, G> {
         ensures places { SamePlaces self.old.ledger self.new.ledger }
         ensures same { SameButLedger self.old self.new }
     {
-        canon_leaves::exit_scope(&mut self.ledger)
+        canon_resources::exit_scope(&mut self.ledger)
     }
 
     // The number of the table that an index is one of.
@@ -209,7 +208,7 @@ impl<T, G> Core<T, G> {
         ensures same { SameButLedger self.old self.new }
     {
         let table = self.table_by(&i);
-        canon_leaves::drop_at(&mut self.ledger, table, i)
+        canon_resources::drop_at(&mut self.ledger, table, i)
     }
 
     /// Removes a handle of the host. Answers the representation of an own handle with the slot of its index, and nothing for a
@@ -222,7 +221,7 @@ impl<T, G> Core<T, G> {
         ensures places { SamePlaces self.old.ledger self.new.ledger }
         ensures same { SameButLedger self.old self.new }
     {
-        canon_leaves::drop_host(&mut self.ledger, idx)
+        canon_resources::drop_host(&mut self.ledger, idx)
     }
 
     /// What the host keeps of an index of its table; nothing where the index has no slot.
@@ -264,7 +263,7 @@ impl<T, G> Core<T, G> {
     {
         self.place(ty);
         let table = table_for(&self.ledger, &self.component.types, ty);
-        canon_leaves::insert_own(
+        canon_resources::insert_own(
             &mut self.ledger,
             table,
             TypedResource::Component { ty, rep },
@@ -284,7 +283,7 @@ impl<T, G> Core<T, G> {
     {
         self.place(ty);
         let table = table_for(&self.ledger, &self.component.types, ty);
-        canon_leaves::insert_borrow(
+        canon_resources::insert_borrow(
             &mut self.ledger,
             table,
             TypedResource::Component { ty, rep },
@@ -304,7 +303,7 @@ impl<T, G> Core<T, G> {
     {
         self.place(ty);
         let table = table_for(&self.ledger, &self.component.types, ty);
-        canon_leaves::take_at(
+        canon_resources::take_at(
             &mut self.ledger,
             table,
             TypedResourceIndex::Component { ty, index },
@@ -324,7 +323,7 @@ impl<T, G> Core<T, G> {
     {
         self.place(ty);
         let table = table_for(&self.ledger, &self.component.types, ty);
-        canon_leaves::lend_at(
+        canon_resources::lend_at(
             &mut self.ledger,
             table,
             TypedResourceIndex::Component { ty, index },
@@ -337,7 +336,7 @@ impl<T, G> Core<T, G> {
         ensures places { SamePlaces self.old.ledger self.new.ledger }
         ensures same { SameButLedger self.old self.new }
     {
-        canon_leaves::take_host(&mut self.ledger, idx)
+        canon_resources::take_host(&mut self.ledger, idx)
     }
 
     // Lends a handle of the host.
@@ -346,7 +345,7 @@ impl<T, G> Core<T, G> {
         ensures places { SamePlaces self.old.ledger self.new.ledger }
         ensures same { SameButLedger self.old self.new }
     {
-        canon_leaves::lend_host(&mut self.ledger, idx)
+        canon_resources::lend_host(&mut self.ledger, idx)
     }
 
     /// Puts an own handle into the host's table, with its destructor and its instance, and answers its index there.
@@ -361,7 +360,7 @@ impl<T, G> Core<T, G> {
         ensures same { SameButLedger self.old self.new }
     {
         let generation = self.ledger.generation();
-        match canon_leaves::insert_host(&mut self.ledger, rep, dtor, instance) {
+        match canon_resources::insert_host(&mut self.ledger, rep, dtor, instance) {
             Ok(index) => Ok(HostResourceIndex::new(index, generation)),
             Err(fault) => Err(fault),
         }
@@ -378,7 +377,7 @@ impl<T, G> Core<T, G> {
     {
         let generation = self.ledger.generation();
         let table = self.ledger.host_table();
-        match canon_leaves::insert_borrow(&mut self.ledger, table, TypedResource::Host(rep)) {
+        match canon_resources::insert_borrow(&mut self.ledger, table, TypedResource::Host(rep)) {
             Ok(index) => Ok(HostResourceIndex::new(index, generation)),
             Err(fault) => Err(fault),
         }

@@ -1,5 +1,5 @@
 use Rattle.std.proofs.Common.{subst, sym}
-use Rattle.canon_leaves.specs.Parts.{LeafMoves}
+use Rattle.canon_resources.specs.Parts.{LeafMoves}
 use Rattle.canon_model.specs.Leaves.{leaf}
 use Rattle.canon_reading.specs.Ways.{rep_parts}
 use Rattle.canon_lift_parts.proofs.HostSteps.{lent_rep, took_rep}

@@ -1,5 +1,5 @@
 use Rattle.std.proofs.Common.{◌≡◌, ◌∙◌, ap, subst, sym, true, ℕ}
-use Rattle.canon_leaves.specs.Parts.{LeafMoves, is_of_type, lower_parts, passed, table_for}
+use Rattle.canon_resources.specs.Parts.{LeafMoves, is_of_type, lower_parts, passed, table_for}
 use Rattle.canon_ledger.specs.Ledger.{Did, resource_new}
 use Rattle.canon_resources.specs.Held.{Any, any}
 use Rattle.canon_resources.specs.declared.any.ResourceAnyHandle.TheVariants as handle

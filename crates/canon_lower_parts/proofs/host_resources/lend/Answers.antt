@@ -1,6 +1,6 @@
 use Rattle.std.proofs.Common.{◌≡◌, ◌∙◌, None, Ok, ap, false, subst, sym, ℕ}
 use Rattle.canon_context.specs.Core.{Parts}
-use Rattle.canon_leaves.specs.Parts.{LeafMoves, is_of_type, lower_parts, passed}
+use Rattle.canon_resources.specs.Parts.{LeafMoves, is_of_type, lower_parts, passed}
 use Rattle.canon_ledger.specs.Ledger.{Did, given, host_resource_lower_own}
 use Rattle.canon_resources.specs.Held.{Any, any}
 use Rattle.canon_resources.specs.declared.any.ResourceAnyHandle.TheVariants as handle

@@ -1,5 +1,5 @@
 use Rattle.std.proofs.Common.{ap, false, true}
-use Rattle.canon_leaves.specs.Parts.{lower_parts, passed}
+use Rattle.canon_resources.specs.Parts.{lower_parts, passed}
 use Rattle.canon_lower_parts.proofs.HandleSteps.{given_number}
 use Rattle.canon_lower_parts.specs.Handles.{handle_gives}
 use Rattle.canon_types.specs.Table.{shape_of}

@@ -9,7 +9,7 @@ use Rattle.canon_model.proofs.Layouts.{members_end-le-size}
 use Rattle.canon_types.specs.declared.types.InterfaceType.{InterfaceType}
 use Rattle.canon_types.specs.declared.types.InterfaceType.TheVariants as ty
 use Rattle.canon_types.specs.Table.{members_of, shape_of, tuple_members}
-use Rattle.canon_indices.specs.Options.{encoding_of}
+use Rattle.canon_abi.specs.Options.{encoding_of}
 use Rattle.canon_context.specs.declared.fault.At.TheVariants as place
 use Rattle.canon_context.specs.declared.fault.Fault.TheVariants as fault
 use Rattle.canon_model.specs.Leaves.{Leaf}

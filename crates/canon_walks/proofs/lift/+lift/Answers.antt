@@ -6,7 +6,7 @@ use Rattle.canon_lowering.specs.Storing.{narrow}
 use Rattle.canon_model.specs.Cost.{val_cost}
 use Rattle.canon_model.specs.Shape.{Shape, member_count}
 use Rattle.canon_types.specs.Table.{shape_of}
-use Rattle.canon_indices.specs.Options.{encoding_of}
+use Rattle.canon_abi.specs.Options.{encoding_of}
 use Rattle.canon_value_parts.specs.Lifts.{ArePartsLifted, LiftsTo, PartsLiftTo}
 use Rattle.canon_plan.specs.CasePlan.{name_charge}
 use Rattle.canon_plan.specs.Plan.{shapes_of, members_from}

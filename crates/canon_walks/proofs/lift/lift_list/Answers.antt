@@ -5,7 +5,7 @@ use Rattle.canon_value_parts.specs.Resources.{LiftsHandles, all_resources}
 use Rattle.std.specs.declared.alloc.Global.{Global}
 use Rattle.canon_lowering.specs.Storing.{narrow}
 use Rattle.canon_model.specs.Reach.{FlatFault, flat_reach}
-use Rattle.canon_indices.specs.Options.{encoding_of}
+use Rattle.canon_abi.specs.Options.{encoding_of}
 use Rattle.canon_plan.specs.Element.{ItemsFault, items_reach, list_shape}
 use Rattle.canon_value_parts.specs.Lifts.{ArePartsLifted}
 use Rattle.canon_context.specs.Told.{Exactly, LiftBlames, ToldAt, place_of}

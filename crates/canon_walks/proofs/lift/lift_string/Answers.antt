@@ -1,5 +1,5 @@
 use Rattle.canon_lowering.specs.Storing.{narrow}
-use Rattle.canon_indices.specs.Options.{encoding_of}
+use Rattle.canon_abi.specs.Options.{encoding_of}
 use Rattle.canon_value_parts.proofs.LiftSteps.{string_lifted, string_refused}
 use Rattle.canon_walks.proofs.lift.lift_string.Goals as goal
 

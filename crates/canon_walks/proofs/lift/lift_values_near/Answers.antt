@@ -1,6 +1,6 @@
 use Rattle.std.proofs.Common.{List, Vec, subst, sym}
 use Rattle.std.specs.declared.alloc.Global.{Global}
-use Rattle.canon_indices.specs.Options.{encoding_of}
+use Rattle.canon_abi.specs.Options.{encoding_of}
 use Rattle.canon_lowering.specs.Storing.{narrow}
 use Rattle.canon_model.specs.Leaves.{Leaf}
 use Rattle.canon_types.specs.Table.{tuple_members, types_of}

@@ -6,7 +6,7 @@ use Rattle.canon_model.specs.Reach.{MemberFault, StoredFault, reach_cost}
 use Rattle.canon_model.specs.Shape.{Shape, member_count}
 use Rattle.canon_types.specs.Depth.{depth}
 use Rattle.canon_types.specs.Table.{shape_of}
-use Rattle.canon_indices.specs.Options.{encoding_of}
+use Rattle.canon_abi.specs.Options.{encoding_of}
 use Rattle.canon_context.specs.Told.{Exactly, LiftBlames}
 use Rattle.canon_value_parts.specs.Loads.{IsLoaded, charged_reach}
 use Rattle.canon_value_parts.specs.Plan.{ArePartsLoaded, IsRebuilt}

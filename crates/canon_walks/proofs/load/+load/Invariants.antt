@@ -4,7 +4,7 @@ use Rattle.canon_lowering.specs.Storing.{narrow}
 use Rattle.canon_model.specs.Leaves.{members_reach_leaves}
 use Rattle.canon_types.specs.Depth.{deepest, depth}
 use Rattle.canon_types.specs.Table.{shape_of}
-use Rattle.canon_indices.specs.Options.{encoding_of}
+use Rattle.canon_abi.specs.Options.{encoding_of}
 use Rattle.canon_plan.specs.Element.{list_shape}
 use Rattle.canon_plan.specs.Plan.{shapes_of, members_from}
 use Rattle.canon_value_parts.proofs.Lifted.{IsTaking}

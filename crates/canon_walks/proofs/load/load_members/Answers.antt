@@ -3,7 +3,7 @@ use Rattle.std.specs.declared.alloc.Global.{Global}
 use Rattle.canon_lowering.specs.Storing.{narrow}
 use Rattle.canon_model.specs.Reach.{MemberFault, members_reach}
 use Rattle.canon_types.specs.Table.{tuple_members, types_of}
-use Rattle.canon_indices.specs.Options.{encoding_of}
+use Rattle.canon_abi.specs.Options.{encoding_of}
 use Rattle.canon_context.specs.Told.{Exactly, LiftBlames}
 use Rattle.canon_value_parts.specs.Loads.{AreCharged, AreLoaded, charged_reach}
 use Rattle.canon_val.specs.declared.val.Val.{Val}

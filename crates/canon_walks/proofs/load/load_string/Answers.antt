@@ -1,5 +1,5 @@
 use Rattle.std.proofs.Common.{◌∙◌}
-use Rattle.canon_indices.specs.Options.{encoding_of}
+use Rattle.canon_abi.specs.Options.{encoding_of}
 use Rattle.canon_value_parts.proofs.LoadedBytes.{string_loaded, string_refused}
 use Rattle.canon_walks.proofs.load.load_string.Goals as goal
 

@@ -1,5 +1,5 @@
 use Rattle.std.proofs.Common.{◌+◌, ◌∷◌, [], Err, Ok, refl, set, subst, sym}
-use Rattle.canon_leaves.specs.Parts.{passed}
+use Rattle.canon_resources.specs.Parts.{passed}
 use Rattle.canon_plan.specs.Plan.{shape_of_handle}
 use Rattle.canon_context.specs.Core.{Parts}
 use Rattle.canon_context.specs.declared.fault.Fault.{Fault}

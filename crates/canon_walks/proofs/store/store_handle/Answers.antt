@@ -2,7 +2,7 @@ use Rattle.std.proofs.Common.{◌≡◌, ◌%◌, ◌^◌, ◌∙◌, ◌∷◌,
 use Rattle.canon_lowering.specs.Steps.{Writes}
 use Rattle.canon_memory.specs.Memory.{written_over}
 use Rattle.canon_memory.specs.Realloc.{block}
-use Rattle.canon_leaves.specs.Parts.{passed}
+use Rattle.canon_resources.specs.Parts.{passed}
 use Rattle.canon_plan.specs.Plan.{shape_of_handle}
 use Rattle.canon_context.specs.Core.{Parts}
 use Rattle.canon_context.specs.declared.fault.Fault.{Fault}

@@ -1,6 +1,6 @@
 use Rattle.std.proofs.Common.{Bool, Ok, ap, refl, subst, sym, true, ◌∙◌, ◌≡◌}
 use Rattle.canon_ledger.specs.Ledger.{Did}
-use Rattle.canon_leaves.specs.Parts.{do_part, is_defined_here}
+use Rattle.canon_resources.specs.Parts.{do_part, is_defined_here}
 use Rattle.canon_context.specs.Faults.{part_for}
 use Rattle.canon_context.specs.declared.component.Component.{Component}
 use Rattle.canon_context.proofs.context.LowerContext.guest_resource_lower_borrow.Goals as goal

@@ -8,9 +8,9 @@ use Rattle.canon_types.specs.Table.{Knows, shape_of}
 use Rattle.canon_types.specs.declared.types.InterfaceType.{InterfaceType}
 use Rattle.canon_context.specs.Told.{IsNoRefusal}
 use Rattle.canon_context.specs.declared.fault.Fault.TheVariants as fault
-use Rattle.canon_leaves.specs.Parts.{LeavesLift, LeavesStop}
+use Rattle.canon_resources.specs.Parts.{LeavesLift, LeavesStop}
 use Rattle.canon_model.specs.Leaves.{Leaf, flat_leaves}
-use Rattle.canon_indices.specs.Options.{encoding_of}
+use Rattle.canon_abi.specs.Options.{encoding_of}
 use Rattle.canon_plan.specs.Plan.{shapes_of, members_from}
 use Rattle.canon_context.proofs.Told.{core_on_err}
 use Rattle.canon_value_parts.proofs.LiftLoops.{lift_part_leaves}

@@ -11,11 +11,11 @@ use Rattle.canon_model.specs.Shape.{Members, Shape, member_count, scalar, string
 use Rattle.canon_types.specs.Depth.{deepest, depth, element_shape}
 use Rattle.canon_types.specs.Table.{Knows, shape_of}
 use Rattle.canon_types.specs.declared.types.InterfaceType.{InterfaceType}
-use Rattle.canon_indices.specs.Options.{encoding_of}
+use Rattle.canon_abi.specs.Options.{encoding_of}
 use Rattle.canon_context.specs.Told.{Exactly, IsNoRefusal, LiftBlames, place_of}
 use Rattle.canon_context.specs.declared.fault.At.TheVariants as place
 use Rattle.canon_context.specs.declared.fault.Fault.TheVariants as fault
-use Rattle.canon_leaves.specs.Parts.{LeavesLift, LeavesStop}
+use Rattle.canon_resources.specs.Parts.{LeavesLift, LeavesStop}
 use Rattle.canon_value_parts.specs.Loads.{AreCharged, IsLoaded, charged_reach}
 use Rattle.canon_plan.specs.CasePlan.{name_charge}
 use Rattle.canon_value_parts.specs.Plan.{ArePartsLoaded, IsCaseRebuilt, IsListLoaded}

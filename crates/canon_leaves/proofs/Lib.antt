@@ -1,4 +1,0 @@
-pub mod Leaves
-pub mod Lifts
-pub mod Moves
-pub mod Through

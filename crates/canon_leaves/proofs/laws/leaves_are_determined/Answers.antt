@@ -1,5 +1,0 @@
-use Rattle.canon_leaves.proofs.Leaves.{leaves_same}
-use Rattle.canon_leaves.proofs.laws.leaves_are_determined.Goals as goal
-
-pub returns : goal.returns
-returns c = leaves_same

@@ -1,5 +1,0 @@
-use Rattle.canon_leaves.proofs.Lifts.{lifts_take}
-use Rattle.canon_leaves.proofs.laws.lifts_are_takes.Goals as goal
-
-pub returns : goal.returns
-returns c = lifts_take
