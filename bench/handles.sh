@@ -11,6 +11,7 @@ trap 'rm -rf "$work"' EXIT
 git -C "$top" archive "${1:-HEAD}" crates/canon_model crates/canon_abi crates/canon_handles | tar -x -C "$work"
 cat >"$work/crates.txt" <<'END'
 canon_model:
+canon_abi: canon_model
 canon_handles: canon_abi
 measure: canon_handles
 END
