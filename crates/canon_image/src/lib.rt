@@ -6,5 +6,5 @@ mod read;
 mod write;
 
 pub use canon_image_parts::ImageError;
-pub use read::read_image;
-pub use write::image;
+pub use read::{read_image, read_numbered_image};
+pub use write::{image, image_with_resources};

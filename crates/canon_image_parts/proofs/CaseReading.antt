@@ -13,12 +13,12 @@ use Rattle.canon_types.specs.Keeps.{flags_type, names_of}
 use Rattle.canon_types.specs.Table.{IsDefined, TypeTable}
 use Rattle.canon_types.specs.declared.types.InterfaceType.TheVariants as ty
 use Rattle.canon_types.specs.declared.types.TypeFlags.{TypeFlags}
-use Rattle.canon_plan.specs.NoHandle.{HaveNoHandle, HasNoHandle}
 use Rattle.canon_value_parts.specs.Flags.{flag_names}
 use Rattle.canon_val.specs.declared.val.Val.{Val}
-use Rattle.canon_value_parts.proofs.Cases.{case_no_handle, case_shallow}
+use Rattle.canon_value_parts.proofs.Cases.{case_shallow}
 use Rattle.canon_value_parts.proofs.FlagNames.{names_are}
 use Rattle.canon_image_parts.proofs.Fetching.{number_here}
+use Rattle.canon_image_parts.proofs.Numbering.{numbered_count}
 use Rattle.canon_image_parts.proofs.Reading.{PartsRead, image_have_count}
 use Rattle.canon_image_parts.specs.Read.{ReadsTo}
 use Rattle.canon_image_parts.specs.declared.error.ImageError.TheVariants as error
@@ -30,19 +30,19 @@ tag_here bs at n w d en room small ed =
 
 module _ (s : Shape) (k : VariantKind) (is : s ≡ variant k (variant_cases s)) (bs : List ℕ) (at : ℕ) where
   pub case_cut : (to : ℕ) → length (drop at bs) < tag_size (case_count (variant_cases s)) → ReadsTo bs at to s (Err (error.Truncated at))
-  case_cut to short = subst (λ (x : Shape). ReadsTo bs at to x (Err (error.Truncated at))) (sym is) (0, omega arith, inl (refl, short))
+  case_cut to short = subst (λ (x : Shape). ReadsTo bs at to x (Err (error.Truncated at))) (sym is) (0, omega arith, inl (refl, subst (λ n. length (drop at bs) < tag_size n) (sym (numbered_count (variant_cases s))) short))
 
   pub case_none : (to n d : ℕ) → IsField (tag_size (case_count (variant_cases s))) d (drop at bs) (drop (at + n) bs) → case_count (variant_cases s) ≤ d → ReadsTo bs at to s (Err (error.Malformed at))
-  case_none to n d field past = subst (λ (x : Shape). ReadsTo bs at to x (Err (error.Malformed at))) (sym is) (0, omega arith, inl (refl, (d, drop (at + n) bs, field, λ l. omega (arith, l, past))))
+  case_none to n d field past =
+      let many = numbered_count (variant_cases s) in
+      let spelled = subst (λ m. IsField (tag_size m) d (drop at bs) (drop (at + n) bs)) (sym many) field in
+      subst (λ (x : Shape). ReadsTo bs at to x (Err (error.Malformed at))) (sym is) (0, omega arith, inl (refl, (d, drop (at + n) bs, spelled, λ l. omega (arith, l, past, many))))
 
   pub case_falls : (d : ℕ) (ms : Members) → ms ≡ case_members (variant_cases s) d → 4 * deepest ms + 1 < 4 * depth s - 1
   case_falls d ms e = omega (arith, ap deepest e, case_shallow (variant_cases s) d, ap depth is)
 
-  pub payload_no_handle : (d : ℕ) (ms : Members) → ms ≡ case_members (variant_cases s) d → HasNoHandle s → HaveNoHandle ms
-  payload_no_handle d ms e h = subst HaveNoHandle (sym e) (case_no_handle (variant_cases s) d (subst HasNoHandle is h))
-
 pub payload_count : (bs : List ℕ) (from to : ℕ) (ms ns : Members) (vs : List Val) → ms ≡ ns → PartsRead bs from to ms vs → length vs ≡ member_count ns
-payload_count bs from to ms ns vs e (ts, xs, span, images, are) = image_have_count ms vs ts are ∙ ap member_count e
+payload_count bs from to ms ns vs e (ts, xs, span, images, are, numbers) = image_have_count ms vs ts are ∙ ap member_count e
 
 pub flags_many : (t : TypeTable) (i : ℕ) (f : TypeFlags) (n : ℕ) → IsDefined t (ty.Flags i) (flags_type f) → n ≡ length f.names.keys → n ≡ length (flag_names t i)
 flags_many t i f n is e =

@@ -14,7 +14,8 @@ use Rattle.canon_val.specs.declared.val.Val.{Val}
 use Rattle.canon_value_parts.proofs.Values.{failure_excludes}
 use Rattle.canon_value_parts.proofs.OneValue.{tree_one}
 use Rattle.canon_image_parts.proofs.Stopping.{image_good, stops_at_one}
-use Rattle.canon_image_parts.specs.Read.{IsRead, IsSameReading}
+use Rattle.canon_image_parts.specs.Numbered.{numbered_shape, numbered_tree}
+use Rattle.canon_image_parts.specs.Read.{IsNumberedRead, IsRead, IsSameReading}
 use Rattle.canon_image_parts.specs.Stops.{IsFollowed, Stop, StopsAt, malformed, truncated}
 use Rattle.canon_image_parts.specs.Written.{IsImaged, IsSameImage, IsTypeFault}
 use Rattle.canon_image_parts.specs.declared.error.ImageError.{ImageError}
@@ -124,3 +125,37 @@ same_reading s bs (Err (error.Trailing p)) (Err (error.NotOfType e)) h g = absur
 same_reading s bs (Err (error.Trailing p)) (Err (error.Truncated q)) (no_handle, h) (also, g) = absurd (followed_not_stopped s bs p q truncated h g)
 same_reading s bs (Err (error.Trailing p)) (Err (error.Malformed q)) (no_handle, h) (also, g) = absurd (followed_not_stopped s bs p q malformed h g)
 same_reading s bs (Err (error.Trailing p)) (Err (error.Trailing q)) (no_handle, h) (also, g) = ap (λ i. error.Trailing i) (followed_once s bs p q h g)
+
+-- of a value with resources
+pub same_numbered : (s : Shape) (bs : List ℕ) (r q : Result Val ImageError) → IsNumberedRead s bs r → IsNumberedRead s bs q → IsSameReading r q
+same_numbered s bs (Err error.OutOfMemory) q h g = tt
+same_numbered s bs (Err (error.NotOfType e)) q h g = absurd h
+same_numbered s bs (Err error.Resource) q h g = absurd h
+same_numbered s bs (Ok v) (Err error.OutOfMemory) h g = tt
+same_numbered s bs (Ok v) (Ok w) h g = tt
+same_numbered s bs (Ok v) (Err error.Resource) h g = absurd g
+same_numbered s bs (Ok v) (Err (error.NotOfType e)) h g = absurd g
+same_numbered s bs (Ok v) (Err (error.Truncated p)) (t, is, lifted, numbers) g = absurd (stops_not_whole (numbered_shape s) (numbered_tree t) bs p truncated is g)
+same_numbered s bs (Ok v) (Err (error.Malformed p)) (t, is, lifted, numbers) g = absurd (stops_not_whole (numbered_shape s) (numbered_tree t) bs p malformed is g)
+same_numbered s bs (Ok v) (Err (error.Trailing p)) (t, is, lifted, numbers) g = absurd (followed_not_whole (numbered_shape s) (numbered_tree t) bs p is g)
+same_numbered s bs (Err (error.Truncated p)) (Err error.OutOfMemory) h g = tt
+same_numbered s bs (Err (error.Truncated p)) (Ok v) h (t, is, lifted, numbers) = absurd (stops_not_whole (numbered_shape s) (numbered_tree t) bs p truncated is h)
+same_numbered s bs (Err (error.Truncated p)) (Err error.Resource) h g = absurd g
+same_numbered s bs (Err (error.Truncated p)) (Err (error.NotOfType e)) h g = absurd g
+same_numbered s bs (Err (error.Truncated p)) (Err (error.Truncated q)) h g = ap (λ i. error.Truncated i) (stops_at_one (numbered_shape s) bs p q truncated truncated h g).0
+same_numbered s bs (Err (error.Truncated p)) (Err (error.Malformed q)) h g = absurd (ways_differ (stops_at_one (numbered_shape s) bs p q truncated malformed h g).1)
+same_numbered s bs (Err (error.Truncated p)) (Err (error.Trailing q)) h g = absurd (followed_not_stopped (numbered_shape s) bs q p truncated g h)
+same_numbered s bs (Err (error.Malformed p)) (Err error.OutOfMemory) h g = tt
+same_numbered s bs (Err (error.Malformed p)) (Ok v) h (t, is, lifted, numbers) = absurd (stops_not_whole (numbered_shape s) (numbered_tree t) bs p malformed is h)
+same_numbered s bs (Err (error.Malformed p)) (Err error.Resource) h g = absurd g
+same_numbered s bs (Err (error.Malformed p)) (Err (error.NotOfType e)) h g = absurd g
+same_numbered s bs (Err (error.Malformed p)) (Err (error.Truncated q)) h g = absurd (ways_differ (stops_at_one (numbered_shape s) bs q p truncated malformed g h).1)
+same_numbered s bs (Err (error.Malformed p)) (Err (error.Malformed q)) h g = ap (λ i. error.Malformed i) (stops_at_one (numbered_shape s) bs p q malformed malformed h g).0
+same_numbered s bs (Err (error.Malformed p)) (Err (error.Trailing q)) h g = absurd (followed_not_stopped (numbered_shape s) bs q p malformed g h)
+same_numbered s bs (Err (error.Trailing p)) (Err error.OutOfMemory) h g = tt
+same_numbered s bs (Err (error.Trailing p)) (Ok v) h (t, is, lifted, numbers) = absurd (followed_not_whole (numbered_shape s) (numbered_tree t) bs p is h)
+same_numbered s bs (Err (error.Trailing p)) (Err error.Resource) h g = absurd g
+same_numbered s bs (Err (error.Trailing p)) (Err (error.NotOfType e)) h g = absurd g
+same_numbered s bs (Err (error.Trailing p)) (Err (error.Truncated q)) h g = absurd (followed_not_stopped (numbered_shape s) bs p q truncated h g)
+same_numbered s bs (Err (error.Trailing p)) (Err (error.Malformed q)) h g = absurd (followed_not_stopped (numbered_shape s) bs p q malformed h g)
+same_numbered s bs (Err (error.Trailing p)) (Err (error.Trailing q)) h g = ap (λ i. error.Trailing i) (followed_once (numbered_shape s) bs p q h g)

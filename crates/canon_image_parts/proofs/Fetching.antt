@@ -1,5 +1,5 @@
 -- Fields that are read from the bytes at a place.
-use Rattle.std.proofs.Common.{Err, IsUtf8, List, Ok, Option, Some, Result, String, append-nil, ap, ap₂, arith, chars, drop, drop-drop, false, inr, length, length-drop, length-take-le, refl, string_bytes, subst, sym, take, ℕ, ⊎_elim, ◌+◌, ◌++◌, ◌-◌, ◌<◌, ◌^◌, ◌∙◌, ◌≡◌, ◌≤◌, ◌⊎◌}
+use Rattle.std.proofs.Common.{Bool, Err, IsUtf8, List, [], Ok, Some, String, append-nil, ap, ap₂, arith, chars, drop, drop-drop, false, inr, length, length-drop, length-take-le, refl, string_bytes, subst, sym, take, true, ℕ, ⊎_elim, ◌+◌, ◌++◌, ◌-◌, ◌<◌, ◌^◌, ◌∙◌, ◌≡◌, ◌≤◌}
 use Rattle.std.specs.Prelude.{slice_index}
 use Rattle.std.specs.Str.{encode_utf8_all}
 use Rattle.std.specs.declared.alloc.Global.{Global}
@@ -20,7 +20,7 @@ use Rattle.canon_model.specs.Reach as reach
 use Rattle.canon_model.specs.Reach.{StoredFault, no_scalar}
 use Rattle.canon_context.specs.Told.{Exactly, LiftBlames}
 use Rattle.canon_model.specs.Text.{Spells, in_utf8, utf8}
-use Rattle.canon_model.specs.Tree.{Tree, bits, text}
+use Rattle.canon_model.specs.Tree.{Tree, bits, handle, text}
 use Rattle.canon_types.specs.Table.{TypeTable, shape_of}
 use Rattle.canon_types.specs.declared.types.InterfaceType.{InterfaceType}
 use Rattle.canon_types.specs.declared.types.InterfaceType.TheVariants as ty
@@ -31,7 +31,15 @@ use Rattle.canon_val.specs.declared.val.Val.{Val}
 use Rattle.canon_val.specs.declared.val.Val.TheVariants as val
 use Rattle.canon_model.proofs.NumberBytes.{le_number_bytes}
 use Rattle.canon_model.proofs.ImageFields.{length-le_bytes}
+use Rattle.canon_plan.specs.Plan.{shape_of_handle, shaped_handle}
+use Rattle.canon_plan.specs.declared.plan.HandleType.{HandleType}
+use Rattle.canon_resources.specs.Held.{Any}
+use Rattle.canon_value_parts.proofs.ResourcesOf.{flags_have_none, resources_resource, scalar_has_none, text_has_none}
+use Rattle.canon_value_parts.specs.Resources.{resources}
+use Rattle.canon_image_parts.proofs.Numbering.{scalar_plain, stand_none}
 use Rattle.canon_image_parts.proofs.Reading.{first_span}
+use Rattle.canon_image_parts.specs.Numbered.{numbered_shape, stand_in}
+use Rattle.canon_image_parts.specs.declared.error.ImageError.{ImageError}
 use Rattle.canon_image_parts.specs.Read.{NumberReadTo, ReadsTo, Spans}
 use Rattle.canon_image_parts.specs.Stops.{IsSpelling}
 use Rattle.canon_image_parts.specs.declared.error.ImageError.TheVariants as error
@@ -111,13 +119,47 @@ module _ (t : TypeTable) (type : InterfaceType) (k : Scalar) (e : scalar_type ty
   scalar_good v u room small is has least =
       let n = num (narrow bs) at (scalar_size k) in
       let field = number_here bs at (scalar_size k) room small in
+      let plain = scalar_plain k v u has in
+      let image : Image (scalar k) u (le_bytes (scalar_size k) n) = (n, record { fits = field.fits; is = sym (append-nil _) }, is, least_by k n least) in
       subst (λ (s : Shape). ReadsTo bs at (at + scalar_size k) s (Ok v)) (sym here) (
         u,
         le_bytes (scalar_size k) n,
         record { is = field.is; to_is = omega (arith, length-le_bytes (scalar_size k) n); inside = room },
-        (n, record { fits = field.fits; is = sym (append-nil _) }, is, least_by k n least),
+        subst (λ (w : Tree). Image (scalar k) w (le_bytes (scalar_size k) n)) (sym plain.0) image,
         has,
+        stand_none v u (scalar_has_none k v u has) plain.1,
       )
+
+-- ---- a handle
+
+module _ (bs : List ℕ) (from to : ℕ) where
+  handle_so : (owned : Bool) (r n : ℕ) → NumberReadTo bs from to 4 (Ok n) → ReadsTo bs from to (shaped_handle owned r) (Ok (val.Resource (stand_in n)))
+  handle_so true r n (field, em, inside) = (
+    handle n,
+    le_bytes 4 n,
+    record { is = field.is; to_is = omega (arith, em, length-le_bytes 4 n); inside = inside },
+    (n, record { fits = field.fits; is = sym (append-nil _) }, refl, tt),
+    (stand_in n, n, refl, refl),
+    resources_resource (stand_in n),
+  )
+  handle_so false r n (field, em, inside) = (
+    handle n,
+    le_bytes 4 n,
+    record { is = field.is; to_is = omega (arith, em, length-le_bytes 4 n); inside = inside },
+    (n, record { fits = field.fits; is = sym (append-nil _) }, refl, tt),
+    (stand_in n, n, refl, refl),
+    resources_resource (stand_in n),
+  )
+
+  pub handle_read : (h : HandleType) (n : ℕ) (x : Any) → x ≡ stand_in n → NumberReadTo bs from to 4 (Ok n) → ReadsTo bs from to (shape_of_handle h) (Ok (val.Resource x))
+  handle_read h n x e g = subst (λ (y : Any). ReadsTo bs from to (shape_of_handle h) (Ok (val.Resource y))) (sym e) (handle_so h.owned h.resource n g)
+
+  cut_so : (owned : Bool) (r : ℕ) → length (drop from bs) < 4 → ReadsTo bs from to (shaped_handle owned r) (Err (error.Truncated from))
+  cut_so true r short = (0, omega arith, (refl, short))
+  cut_so false r short = (0, omega arith, (refl, short))
+
+  pub handle_cut : (h : HandleType) (e : ImageError) → NumberReadTo bs from to 4 (Err e) → ReadsTo bs from to (shape_of_handle h) (Err e)
+  handle_cut h e (is, short) = subst (λ (x : ImageError). ReadsTo bs from to (shape_of_handle h) (Err x)) (sym is) (cut_so h.owned h.resource short)
 
 -- ---- a text after its count
 
@@ -142,9 +184,13 @@ module _ (bs : List ℕ) (from mid n : ℕ) (count : NumberReadTo bs from mid 8 
         first_span bs from mid 8 n count.0 count.1 (mid + n) xs span,
         (cs, n, refl, spelled.can, record { fits = subst (λ i. i < 256 ^ 8) (sym many) count.0.fits; is = ap₂ (λ i l. le_bytes 8 i ++ l) (sym many) (sym same) }),
         (cs, n, (s, refl, subst (λ l. Spells in_utf8 l cs) (sym is) spelled), refl),
+        text_has_none cs (val.String s) (s, refl, subst (λ l. Spells in_utf8 l cs) (sym is) spelled),
       )
 
 -- ---- flags
+
+flags_none : (names : List Name) (v : Val) (t : Tree) → IsLiftedFrom (flags names) v t → resources v ≡ []
+flags_none names v t (set, bs, of, all, et, marked, order) = flags_have_none set v of
 
 module _ (s : Shape) (names : List Name) (is : s ≡ flags names) (bs : List ℕ) (at : ℕ) where
   pub flags_cut : (to : ℕ) → length (drop at bs) < flags_size (length names) → ReadsTo bs at to s (Err (error.Truncated at))
@@ -162,8 +208,9 @@ module _ (s : Shape) (names : List Name) (is : s ≡ flags names) (bs : List ℕ
         bits (bits_of (length names) n),
         le_bytes (flags_size (length names)) n,
         record { is = field.is; to_is = omega (arith, length-le_bytes (flags_size (length names)) n); inside = room },
-        subst (λ (x : Shape). Image x (bits (bits_of (length names) n)) (le_bytes (flags_size (length names)) n)) (sym is) (n, low, refl, record { fits = field.fits; is = sym (append-nil _) }),
+        subst (λ (x : Shape). Image (numbered_shape x) (bits (bits_of (length names) n)) (le_bytes (flags_size (length names)) n)) (sym is) (n, low, refl, record { fits = field.fits; is = sym (append-nil _) }),
         lifted,
+        flags_none names v (bits (bits_of (length names) n)) (subst (λ (x : Shape). IsLiftedFrom x v (bits (bits_of (length names) n))) is lifted),
       )
 
 pub only_bool : (type : InterfaceType) → scalar_type type ≡ Some bool → type ≡ ty.Bool

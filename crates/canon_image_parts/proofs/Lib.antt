@@ -1,3 +1,4 @@
+pub mod Numbering
 pub mod Stopping
 pub mod Counting
 pub mod Writing
@@ -11,3 +12,4 @@ pub mod CaseReading
 pub mod WholeReading
 pub mod Exact
 pub mod Returning
+pub mod WholeWriting

@@ -1,5 +1,5 @@
 -- Reading stops nowhere in an image, and otherwise at one place and in one way.
-use Rattle.std.proofs.Common.{IsTrue, List, [], append_assoc, ap, arith, inl, inr, length, refl, subst, suc, sym, take, zero, ℕ, ◌+◌, ◌++◌, ◌<◌, ◌^◌, ◌∙◌, ◌∷◌, ◌≡◌}
+use Rattle.std.proofs.Common.{IsTrue, List, [], append_assoc, ap, arith, inl, inr, length, refl, subst, suc, sym, take, zero, ℕ, ◌++◌, ◌<◌, ◌^◌, ◌∙◌, ◌∷◌, ◌≡◌}
 use Rattle.std.specs.Bool.{⊤}
 use Rattle.std.specs.Str.{all_scalars, encode_utf8_all}
 use Rattle.canon_model.proofs.Images.{image_front}

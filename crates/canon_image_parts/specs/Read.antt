@@ -7,6 +7,9 @@ use Rattle.canon_model.specs.Tree.{Tree, Trees}
 use Rattle.canon_plan.specs.NoHandle.{HasNoHandle}
 use Rattle.canon_val.specs.Value.{AreLiftedFrom, EachHas, IsLiftedFrom, PairHas}
 use Rattle.canon_val.specs.declared.val.Val.{Val}
+use Rattle.canon_value_parts.specs.Elements.{by_turns}
+use Rattle.canon_value_parts.specs.Resources.{all_resources, resources}
+use Rattle.canon_image_parts.specs.Numbered.{NumberedImage, StandFor, all_handles, handles_in, numbered_members, numbered_shape, numbered_trees}
 use Rattle.canon_image_parts.specs.Stops.{IsFollowed, MembersStop, RowStops, Stop, StopsAt, malformed, truncated}
 use Rattle.canon_image_parts.specs.declared.error.ImageError.{ImageError}
 use Rattle.canon_image_parts.specs.declared.error.ImageError.TheVariants as error
@@ -21,6 +24,16 @@ IsRead s bs (Err (error.Trailing p)) = HasNoHandle s × IsFollowed s bs p
 IsRead s bs (Err error.OutOfMemory) = ⊤
 IsRead s bs (Err (error.NotOfType e)) = ⊥
 
+-- `read_numbered_image` answers so: of a value with resources, for which borrows of their numbers stand
+abbrev pub IsNumberedRead : Shape → List ℕ → Result Val ImageError → Type 0
+IsNumberedRead s bs (Ok v) = (t : Tree) × NumberedImage s t bs × IsLiftedFrom s v t × StandFor (handles_in t) (resources v)
+IsNumberedRead s bs (Err (error.Truncated p)) = StopsAt (numbered_shape s) bs p truncated
+IsNumberedRead s bs (Err (error.Malformed p)) = StopsAt (numbered_shape s) bs p malformed
+IsNumberedRead s bs (Err (error.Trailing p)) = IsFollowed (numbered_shape s) bs p
+IsNumberedRead s bs (Err error.OutOfMemory) = ⊤
+IsNumberedRead s bs (Err error.Resource) = ⊥
+IsNumberedRead s bs (Err (error.NotOfType e)) = ⊥
+
 -- Two answers to one question are the same, but that one of them may be out of memory; of two values this says only that both are.
 abbrev pub IsSameReading : Result Val ImageError → Result Val ImageError → Type 0
 IsSameReading (Err error.OutOfMemory) q = ⊤
@@ -32,6 +45,9 @@ IsSameReading r q = ⊥
 -- each cause of another answer is that of this one
 abbrev pub IsOnlyReading : Shape → List ℕ → Result Val ImageError → Type 0
 IsOnlyReading s bs result = (other : Result Val ImageError) → IsRead s bs other → IsSameReading result other
+
+abbrev pub IsOnlyNumberedRead : Shape → List ℕ → Result Val ImageError → Type 0
+IsOnlyNumberedRead s bs result = (other : Result Val ImageError) → IsNumberedRead s bs other → IsSameReading result other
 
 -- ---- one after another
 
@@ -50,16 +66,18 @@ pub record Spans (bs : List ℕ) (from to : ℕ) (xs : List ℕ) : Type 0 where
 
 module _ (bs : List ℕ) (from to : ℕ) where
   abbrev pub ReadsTo : Shape → Result Val ImageError → Type 0
-  ReadsTo s (Ok v) = (t : Tree) × (xs : List ℕ) × Spans bs from to xs × Image s t xs × IsLiftedFrom s v t
-  ReadsTo s (Err e) = StopsFrom (StopsAt s (drop from bs)) from e
+  ReadsTo s (Ok v) = (t : Tree) × (xs : List ℕ) × Spans bs from to xs × NumberedImage s t xs × IsLiftedFrom s v t × StandFor (handles_in t) (resources v)
+  ReadsTo s (Err e) = StopsFrom (StopsAt (numbered_shape s) (drop from bs)) from e
 
   abbrev pub PartsReadTo : Members → Result (Vec Val Global) ImageError → Type 0
-  PartsReadTo ms (Ok vs) = (ts : Trees) × (xs : List ℕ) × Spans bs from to xs × MembersImage ms ts xs × AreLiftedFrom ms vs.items ts
-  PartsReadTo ms (Err e) = StopsFrom (MembersStop ms (drop from bs)) from e
+  PartsReadTo ms (Ok vs) =
+      (ts : Trees) × (xs : List ℕ) × Spans bs from to xs × MembersImage (numbered_members ms) (numbered_trees ts) xs × AreLiftedFrom ms vs.items ts × StandFor (all_handles ts) (all_resources vs.items)
+  PartsReadTo ms (Err e) = StopsFrom (MembersStop (numbered_members ms) (drop from bs)) from e
 
   abbrev pub PairsReadTo : Shape → ℕ → Result (Vec (Val × Val) Global) ImageError → Type 0
-  PairsReadTo s n (Ok ps) = (ts : Trees) × (xs : List ℕ) × Spans bs from to xs × EachImage (λ t ys. Image s t ys) ts xs × EachHas (λ p t. PairHas true s p t) ps.items ts × (length ps.items ≡ n)
-  PairsReadTo s n (Err e) = StopsFrom (RowStops (λ t ys. Image s t ys) (λ ys i h. StopsAt s ys i h) n (drop from bs)) from e
+  PairsReadTo s n (Ok ps) = (ts : Trees) × (xs : List ℕ) × Spans bs from to xs × EachImage (λ t ys. Image (numbered_shape s) t ys) (numbered_trees ts) xs × EachHas (λ p t. PairHas true s p t) ps.items ts
+      × (length ps.items ≡ n) × StandFor (all_handles ts) (all_resources (by_turns ps.items))
+  PairsReadTo s n (Err e) = StopsFrom (RowStops (λ t ys. Image (numbered_shape s) t ys) (λ ys i h. StopsAt (numbered_shape s) ys i h) n (drop from bs)) from e
 
   -- a number in k bytes
   abbrev pub NumberReadTo : ℕ → Result ℕ ImageError → Type 0

@@ -6,5 +6,5 @@ mod read;
 mod write;
 
 pub use error::ImageError;
-pub use read::read_whole;
-pub use write::image_of;
+pub use read::{read_numbered, read_whole};
+pub use write::{image_listed, image_of};

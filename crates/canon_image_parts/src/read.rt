@@ -6,17 +6,19 @@ ghost use Rattle.canon_lowering.specs.Storing.{narrow};
 ghost use Rattle.canon_model.specs.Layout.{flags_size};
 ghost use Rattle.canon_model.specs.Memory.{num};
 ghost use Rattle.canon_model.specs.Shape.{bool, list, of_items, string};
-ghost use Rattle.canon_plan.specs.NoHandle.{HaveNoHandle, HasNoHandle, IsScalarType, scalar_type};
+ghost use Rattle.canon_plan.specs.NoHandle.{IsScalarType, scalar_type};
 ghost use Rattle.canon_plan.specs.Element.{IsKnown, IsMap, list_shape};
-ghost use Rattle.canon_plan.specs.Plan.{AreKnown, IsCaseKind, IsVariant, shapes_of};
+ghost use Rattle.canon_plan.specs.Plan.{AreKnown, IsCaseKind, IsVariant, shape_of_handle, shapes_of};
+ghost use Rattle.canon_plan.specs.declared.plan.HandleType.{HandleType};
 ghost use Rattle.canon_types.specs.Depth.{element_shape, variant_cases};
 ghost use Rattle.canon_types.specs.Table.{Knows, shape_of};
 ghost use Rattle.canon_value_parts.specs.Flags.{flag_names};
-ghost use Rattle.canon_image_parts.specs.Read.{IsRead, NumberReadTo, PairsReadTo, PartsReadTo, ReadsTo};
+ghost use Rattle.canon_image_parts.specs.Read.{IsNumberedRead, IsRead, NumberReadTo, PairsReadTo, PartsReadTo, ReadsTo};
 
 use crate::ImageError;
 use canon_bytes::load_tag;
 use canon_plan::{Element, Plan, Slots, case_of, has_no_handle, plan_of, slot_count, slot_of};
+use canon_resources::{ResourceAny, ResourceType};
 use canon_types::{ComponentTypes, InterfaceType, TypeFlagsIndex, TypeMapIndex, VariantInfo};
 use canon_val::Val;
 use canon_value_parts::{Marks, flags_of, load_scalar, rebuild, rebuild_case};
@@ -35,6 +37,19 @@ pub fn read_whole(
     if !has_no_handle(types, ty) {
         return Err(ImageError::Resource);
     }
+    read_numbered(alloc, types, ty, bytes)
+}
+
+/// The value whose image these bytes are, with a borrow of its number in the place of each resource (`read_numbered_image` of canon_image).
+pub fn read_numbered(
+    alloc: Global,
+    types: &ComponentTypes,
+    ty: &InterfaceType,
+    bytes: &[u8],
+) -> Result<Val, ImageError>
+    requires known { Knows types.now ty.now }
+    ensures is { IsNumberedRead (shape_of types.now ty.now) bytes.now result }
+{
     let mut at = 0;
     match read_value(alloc, types, ty, bytes, &mut at) {
         Ok(value) => {
@@ -57,7 +72,6 @@ fn read_value(
     at: &mut u64,
 ) -> Result<Val, ImageError>
     requires known { Knows types.now ty.now }
-    requires no_handle { HasNoHandle (shape_of types.now ty.now) }
     requires inside { at.old ≤ length bytes.now }
     ensures reads { ReadsTo bytes.now at.old at.new (shape_of types.now ty.now) result }
 {
@@ -72,7 +86,7 @@ fn read_value(
             },
             Err(error) => Err(error),
         },
-        Plan::Handle(_) => unreachable!(),
+        Plan::Handle(_handle) => read_handle(bytes, at),
         Plan::Flags(i) => read_flags(alloc, types, i, bytes, at),
         Plan::Case(info) => read_case(alloc, types, ty, &info, bytes, at),
     }
@@ -88,7 +102,6 @@ fn read_parts(
     at: &mut u64,
 ) -> Result<Vec<Val>, ImageError>
     requires known { AreKnown types.now members.now }
-    requires no_handle { HaveNoHandle (shapes_of types.now members.now) }
     requires inside { at.old ≤ length bytes.now }
     ensures reads { PartsReadTo bytes.now at.old at.new (shapes_of types.now members.now) result }
 {
@@ -120,7 +133,6 @@ fn read_list(
     at: &mut u64,
 ) -> Result<Val, ImageError>
     requires known { IsKnown types.now element.now }
-    requires no_handle { HasNoHandle (list_shape types.now element.now) }
     requires inside { at.old ≤ length bytes.now }
     ensures reads { ReadsTo bytes.now at.old at.new (list_shape types.now element.now) result }
 {
@@ -139,7 +151,6 @@ fn read_items(
     at: &mut u64,
 ) -> Result<Val, ImageError>
     requires known { Knows types.now ty.now }
-    requires no_handle { HasNoHandle (shape_of types.now ty.now) }
     requires inside { at.old ≤ length bytes.now }
     ensures reads { ReadsTo bytes.now at.old at.new (list of_items (shape_of types.now ty.now)) result }
 {
@@ -162,7 +173,6 @@ fn read_map(
 ) -> Result<Val, ImageError>
     requires known { Knows types.now (InterfaceType.Map i) }
     requires map { IsMap (shape_of types.now (InterfaceType.Map i)) }
-    requires no_handle { HasNoHandle (shape_of types.now (InterfaceType.Map i)) }
     requires inside { at.old ≤ length bytes.now }
     ensures reads { ReadsTo bytes.now at.old at.new (shape_of types.now (InterfaceType.Map i)) result }
 {
@@ -186,7 +196,6 @@ fn read_pairs(
     at: &mut u64,
 ) -> Result<Vec<(Val, Val)>, ImageError>
     requires known { Knows types.now (InterfaceType.Map i) }
-    requires no_handle { HasNoHandle (shape_of types.now (InterfaceType.Map i)) }
     requires inside { at.old ≤ length bytes.now }
     ensures reads { PairsReadTo bytes.now at.old at.new (element_shape (shape_of types.now (InterfaceType.Map i))) count result }
 {
@@ -225,7 +234,6 @@ fn read_case(
     requires kind { IsCaseKind ty.now (shape_of types.now ty.now) }
     requires variant { IsVariant (shape_of types.now ty.now) }
     requires info { HasInfo info.now (variant_cases (shape_of types.now ty.now)) }
-    requires no_handle { HasNoHandle (shape_of types.now ty.now) }
     requires inside { at.old ≤ length bytes.now }
     ensures reads { ReadsTo bytes.now at.old at.new (shape_of types.now ty.now) result }
 {
@@ -283,6 +291,20 @@ fn is_spelled(ty: &InterfaceType, byte: u8) -> bool
     match ty {
         InterfaceType::Bool => byte < 2,
         _ => true,
+    }
+}
+
+/// A handle: the number of its resource.
+fn read_handle(bytes: &[u8], at: &mut u64) -> Result<Val, ImageError>
+    requires inside { at.old ≤ length bytes.now }
+    ensures reads { (h : HandleType) → ReadsTo bytes.now at.old at.new (shape_of_handle h) result }
+{
+    match read_number(bytes, at) {
+        Ok(number) => {
+            let resource = ResourceAny::new_borrow(number, ResourceType::host_dynamic(0));
+            Ok(Val::Resource(resource))
+        }
+        Err(error) => Err(error),
     }
 }
 
@@ -370,6 +392,21 @@ fn read_count(bytes: &[u8], at: &mut u64) -> Result<u64, ImageError>
     count.copy_from_slice(&bytes[start..start + 8]);
     *at += 8;
     Ok(u64::from_le_bytes(count))
+}
+
+/// The number in the next 4 bytes.
+fn read_number(bytes: &[u8], at: &mut u64) -> Result<u32, ImageError>
+    requires inside { at.old ≤ length bytes.now }
+    ensures reads { NumberReadTo bytes.now at.old at.new 4 result }
+{
+    if bytes.len() as u64 - *at < 4 {
+        return Err(ImageError::Truncated(*at));
+    }
+    let start = *at as usize;
+    let mut number = [0u8; 4];
+    number.copy_from_slice(&bytes[start..start + 4]);
+    *at += 4;
+    Ok(u32::from_le_bytes(number))
 }
 
 /// How many elements of at least one byte remain, at most so many.

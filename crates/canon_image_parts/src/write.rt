@@ -1,24 +1,27 @@
 //! The image of a value, written field by field at the end of some bytes.
 
-ghost use Rattle.std.specs.Prelude.{ℕ, [], ◌+◌, ◌++◌, ◌<◌, ◌^◌, ◌≡◌, ◌≤◌, IfErr, OnOk, length, map, slice_index, string_bytes};
+ghost use Rattle.std.specs.Prelude.{ℕ, [], ◌+◌, ◌++◌, ◌∷◌, ◌<◌, ◌^◌, ◌≡◌, ◌≤◌, IfErr, List, OnOk, length, map, slice_index, string_bytes};
 ghost use Rattle.canon_model.specs.Image.{le_bytes};
 ghost use Rattle.canon_model.specs.Layout.{flags_size};
 ghost use Rattle.canon_model.specs.Shape.{list, member_count, of_items, string};
+ghost use Rattle.canon_resources.specs.Held.{Any};
 ghost use Rattle.canon_types.specs.Depth.{element_shape};
 ghost use Rattle.canon_types.specs.Table.{Knows, shape_of};
-ghost use Rattle.canon_plan.specs.NoHandle.{HaveNoHandle, HasNoHandle};
 ghost use Rattle.canon_plan.specs.Element.{IsKnown, IsMap, list_shape};
+ghost use Rattle.canon_plan.specs.Plan.{shape_of_handle};
+ghost use Rattle.canon_plan.specs.declared.plan.HandleType.{HandleType};
 ghost use Rattle.canon_value_parts.specs.Elements.{element_in, list_value};
 ghost use Rattle.canon_value_parts.specs.Flags.{IsFlagsType, flag_names};
 ghost use Rattle.canon_value_parts.specs.View.{AreFew, HaveKnownTypes, viewed_names, viewed_shapes, viewed_values};
 ghost use Rattle.canon_value_parts.specs.Viewed.{IsCaseSeen};
 ghost use Rattle.canon_value_parts.specs.Words.{IsWordOf};
 ghost use Rattle.canon_val.specs.declared.val.Val.TheVariants as val;
-ghost use Rattle.canon_image_parts.specs.Written.{IsImaged, MarksTo, PairsWriteTo, PartsWriteTo, WritesTo};
+ghost use Rattle.canon_image_parts.specs.Written.{IsImaged, IsNumberedImage, MarksTo, PairsWriteTo, PartsWriteTo, WritesTo, sink};
 
 use crate::ImageError;
 use canon_context::Fault;
 use canon_plan::has_no_handle;
+use canon_resources::ResourceAny;
 use canon_types::{ComponentTypes, InterfaceType, TypeFlagsIndex, TypeMapIndex};
 use canon_val::Val;
 use canon_value_parts::{
@@ -39,8 +42,23 @@ pub fn image_of(
     if !has_no_handle(types, ty) {
         return Err(ImageError::Resource);
     }
+    let mut resources = Vec::new(alloc);
+    image_listed(alloc, types, ty, val, &mut resources)
+}
+
+/// The image of a value whose resources are added to a list, where each has its number (`image_with_resources` of canon_image).
+pub fn image_listed(
+    alloc: Global,
+    types: &ComponentTypes,
+    ty: &InterfaceType,
+    val: &Val,
+    resources: &mut Vec<ResourceAny>,
+) -> Result<Vec<u8>, ImageError>
+    requires known { Knows types.now ty.now }
+    ensures is { IsNumberedImage resources.old.items resources.new.items (shape_of types.now ty.now) val.now result }
+{
     let mut bytes = Vec::new(alloc);
-    match write_value(types, ty, val, 0, &mut bytes) {
+    match write_value(types, ty, val, 0, resources, &mut bytes) {
         Ok(_) => Ok(bytes),
         Err(Fault::OutOfMemory) => Err(ImageError::OutOfMemory),
         Err(fault) => Err(ImageError::NotOfType(fault)),
@@ -54,21 +72,28 @@ fn write_value(
     ty: &InterfaceType,
     value: &Val,
     place: u64,
+    resources: &mut Vec<ResourceAny>,
     bytes: &mut Vec<u8>,
 ) -> Result<u64, Fault>
     requires known { Knows types.now ty.now }
-    requires no_handle { HasNoHandle (shape_of types.now ty.now) }
-    ensures writes { WritesTo bytes.old.items bytes.new.items (shape_of types.now ty.now) value.now place result }
+    ensures writes { WritesTo (sink bytes.old.items resources.old.items) (sink bytes.new.items resources.new.items) (shape_of types.now ty.now) value.now place result }
 {
     match view_of(types, ty, value, place) {
         Ok(View::Scalar(word)) => write_scalar(types, ty, value, word, place, bytes),
         Ok(View::Text(text)) => write_text(text, place, bytes),
-        Ok(View::List(list)) => write_list(types, &list, place, bytes),
+        Ok(View::List(elements)) => write_list(types, &elements, place, resources, bytes),
         Ok(View::Members(members)) => {
-            write_parts(types, &members, place, place.saturating_add(1), bytes)
+            write_parts(
+                types,
+                &members,
+                place,
+                place.saturating_add(1),
+                resources,
+                bytes,
+            )
         }
-        Ok(View::Case(case)) => write_case(types, ty, value, &case, place, bytes),
-        Ok(View::Handle(..)) => unreachable!(),
+        Ok(View::Case(case)) => write_case(types, ty, value, &case, place, resources, bytes),
+        Ok(View::Handle(_handle, resource)) => write_handle(resource, place, resources, bytes),
         Ok(View::Flags(names)) => write_names(types, ty, names, place, bytes),
         Err(fault) => Err(fault),
     }
@@ -82,12 +107,12 @@ fn write_parts(
     members: &Members<'_>,
     place: u64,
     first: u64,
+    resources: &mut Vec<ResourceAny>,
     bytes: &mut Vec<u8>,
 ) -> Result<u64, Fault>
     requires known { HaveKnownTypes types.now members.now }
-    requires no_handle { HaveNoHandle (viewed_shapes types.now members.now) }
     requires count { length (viewed_values members.now) ≡ member_count (viewed_shapes types.now members.now) }
-    ensures writes { PartsWriteTo bytes.old.items bytes.new.items place (viewed_shapes types.now members.now) (viewed_names members.now) (viewed_values members.now) first result }
+    ensures writes { PartsWriteTo (sink bytes.old.items resources.old.items) (sink bytes.new.items resources.new.items) place (viewed_shapes types.now members.now) (viewed_names members.now) (viewed_values members.now) first result }
 {
     let mut next = first;
     for k in 0..count_of(members) {
@@ -95,7 +120,7 @@ fn write_parts(
         if !member.is_named {
             return Err(Fault::FieldName(place));
         }
-        match write_value(types, &member.ty, member.value, next, bytes) {
+        match write_value(types, &member.ty, member.value, next, resources, bytes) {
             Ok(after) => next = after,
             Err(fault) => return Err(fault),
         }
@@ -106,17 +131,17 @@ fn write_parts(
 #[cycle(write)]
 fn write_list(
     types: &ComponentTypes,
-    list: &Elements<'_>,
+    elements: &Elements<'_>,
     place: u64,
+    resources: &mut Vec<ResourceAny>,
     bytes: &mut Vec<u8>,
 ) -> Result<u64, Fault>
-    requires known { IsKnown types.now (element_in list.now) }
-    requires no_handle { HasNoHandle (list_shape types.now (element_in list.now)) }
-    ensures writes { WritesTo bytes.old.items bytes.new.items (list_shape types.now (element_in list.now)) (list_value list.now) place result }
+    requires known { IsKnown types.now (element_in elements.now) }
+    ensures writes { WritesTo (sink bytes.old.items resources.old.items) (sink bytes.new.items resources.new.items) (list_shape types.now (element_in elements.now)) (list_value elements.now) place result }
 {
-    match list {
-        Elements::Items(ty, items) => write_items(types, ty, items, place, bytes),
-        Elements::Pairs(i, pairs) => write_map(types, *i, pairs, place, bytes),
+    match elements {
+        Elements::Items(ty, items) => write_items(types, ty, items, place, resources, bytes),
+        Elements::Pairs(i, pairs) => write_map(types, *i, pairs, place, resources, bytes),
     }
 }
 
@@ -127,16 +152,23 @@ fn write_items(
     ty: &InterfaceType,
     items: &Vec<Val>,
     place: u64,
+    resources: &mut Vec<ResourceAny>,
     bytes: &mut Vec<u8>,
 ) -> Result<u64, Fault>
     requires known { Knows types.now ty.now }
-    requires no_handle { HasNoHandle (shape_of types.now ty.now) }
-    ensures writes { WritesTo bytes.old.items bytes.new.items (list of_items (shape_of types.now ty.now)) (val.List items.now) place result }
+    ensures writes { WritesTo (sink bytes.old.items resources.old.items) (sink bytes.new.items resources.new.items) (list of_items (shape_of types.now ty.now)) (val.List items.now) place result }
 {
     match put_number(bytes, items.len() as u64, 8) {
         Ok(()) => {
             let members = Members::Items(*ty, items);
-            write_parts(types, &members, place, place.saturating_add(1), bytes)
+            write_parts(
+                types,
+                &members,
+                place,
+                place.saturating_add(1),
+                resources,
+                bytes,
+            )
         }
         Err(fault) => Err(fault),
     }
@@ -149,15 +181,15 @@ fn write_map(
     i: TypeMapIndex,
     pairs: &Vec<(Val, Val)>,
     place: u64,
+    resources: &mut Vec<ResourceAny>,
     bytes: &mut Vec<u8>,
 ) -> Result<u64, Fault>
     requires known { Knows types.now (InterfaceType.Map i) }
     requires map { IsMap (shape_of types.now (InterfaceType.Map i)) }
-    requires no_handle { HasNoHandle (shape_of types.now (InterfaceType.Map i)) }
-    ensures writes { WritesTo bytes.old.items bytes.new.items (shape_of types.now (InterfaceType.Map i)) (val.Map pairs.now) place result }
+    ensures writes { WritesTo (sink bytes.old.items resources.old.items) (sink bytes.new.items resources.new.items) (shape_of types.now (InterfaceType.Map i)) (val.Map pairs.now) place result }
 {
     match put_number(bytes, pairs.len() as u64, 8) {
-        Ok(()) => write_pairs(types, i, pairs, place.saturating_add(1), bytes),
+        Ok(()) => write_pairs(types, i, pairs, place.saturating_add(1), resources, bytes),
         Err(fault) => Err(fault),
     }
 }
@@ -169,21 +201,21 @@ fn write_pairs(
     i: TypeMapIndex,
     pairs: &Vec<(Val, Val)>,
     first: u64,
+    resources: &mut Vec<ResourceAny>,
     bytes: &mut Vec<u8>,
 ) -> Result<u64, Fault>
     requires known { Knows types.now (InterfaceType.Map i) }
     requires map { IsMap (shape_of types.now (InterfaceType.Map i)) }
-    requires no_handle { HasNoHandle (shape_of types.now (InterfaceType.Map i)) }
-    ensures writes { PairsWriteTo bytes.old.items bytes.new.items (element_shape (shape_of types.now (InterfaceType.Map i))) pairs.now.items first result }
+    ensures writes { PairsWriteTo (sink bytes.old.items resources.old.items) (sink bytes.new.items resources.new.items) (element_shape (shape_of types.now (InterfaceType.Map i))) pairs.now.items first result }
 {
     let map = types.map(i);
     let mut next = first;
     for (key, value) in pairs {
-        match write_value(types, &map.key, key, next, bytes) {
+        match write_value(types, &map.key, key, next, resources, bytes) {
             Ok(after) => next = after,
             Err(fault) => return Err(fault),
         }
-        match write_value(types, &map.value, value, next, bytes) {
+        match write_value(types, &map.value, value, next, resources, bytes) {
             Ok(after) => next = after,
             Err(fault) => return Err(fault),
         }
@@ -199,17 +231,24 @@ fn write_case(
     value: &Val,
     case: &Case<'_>,
     place: u64,
+    resources: &mut Vec<ResourceAny>,
     bytes: &mut Vec<u8>,
 ) -> Result<u64, Fault>
     requires seen { IsCaseSeen types.now (shape_of types.now ty.now) value.now case.now }
-    requires no_handle { HasNoHandle (shape_of types.now ty.now) }
-    ensures writes { WritesTo bytes.old.items bytes.new.items (shape_of types.now ty.now) value.now place result }
+    ensures writes { WritesTo (sink bytes.old.items resources.old.items) (sink bytes.new.items resources.new.items) (shape_of types.now ty.now) value.now place result }
 {
     let _ = ty;
     let _ = value;
     let size = case.info.size.byte_size();
     match put_number(bytes, u64::from(case.tag), size) {
-        Ok(()) => write_parts(types, &case.payload, place, place.saturating_add(1), bytes),
+        Ok(()) => write_parts(
+            types,
+            &case.payload,
+            place,
+            place.saturating_add(1),
+            resources,
+            bytes,
+        ),
         Err(fault) => Err(fault),
     }
 }
@@ -225,7 +264,7 @@ fn write_scalar(
 ) -> Result<u64, Fault>
     requires known { Knows types.now ty.now }
     requires word { IsWordOf ty.now value.now word }
-    ensures writes { WritesTo bytes.old.items bytes.new.items (shape_of types.now ty.now) value.now place result }
+    ensures writes { (xs : List Any) → WritesTo (sink bytes.old.items xs) (sink bytes.new.items xs) (shape_of types.now ty.now) value.now place result }
 {
     let _ = value;
     let size = types.canonical_abi(ty).size32;
@@ -235,9 +274,42 @@ fn write_scalar(
     }
 }
 
+/// Adds the resource of a handle to the list, and its number there to the bytes.
+fn write_handle(
+    resource: ResourceAny,
+    place: u64,
+    resources: &mut Vec<ResourceAny>,
+    bytes: &mut Vec<u8>,
+) -> Result<u64, Fault>
+    ensures writes { (h : HandleType) → WritesTo (sink bytes.old.items resources.old.items) (sink bytes.new.items resources.new.items) (shape_of_handle h) (val.Resource resource) place result }
+{
+    let number = resources.len() as u64;
+    if number > 0xffff_ffff {
+        return Err(Fault::OutOfMemory);
+    }
+    match put_number(bytes, number, 4) {
+        Ok(()) => match keep(resources, resource) {
+            Ok(()) => Ok(place.saturating_add(1)),
+            Err(fault) => Err(fault),
+        },
+        Err(fault) => Err(fault),
+    }
+}
+
+/// Adds a resource to a list.
+fn keep(resources: &mut Vec<ResourceAny>, resource: ResourceAny) -> Result<(), Fault>
+    ensures ok { OnOk result (resources.new.items ≡ resources.old.items ++ resource ∷ []) }
+    ensures err { IfErr result (λ e. e ≡ Fault.OutOfMemory) }
+{
+    match resources.push(resource) {
+        Ok(()) => Ok(()),
+        Err(_) => Err(Fault::OutOfMemory),
+    }
+}
+
 /// Adds the number of a text's bytes, and these.
 fn write_text(text: &String, place: u64, bytes: &mut Vec<u8>) -> Result<u64, Fault>
-    ensures writes { WritesTo bytes.old.items bytes.new.items string (val.String text.now) place result }
+    ensures writes { (xs : List Any) → WritesTo (sink bytes.old.items xs) (sink bytes.new.items xs) string (val.String text.now) place result }
 {
     let spelled = text.as_bytes();
     match put_number(bytes, spelled.len() as u64, 8) {
@@ -259,7 +331,7 @@ fn write_names(
 ) -> Result<u64, Fault>
     requires known { Knows types.now ty.now }
     requires kind { IsFlagsType ty.now }
-    ensures writes { WritesTo bytes.old.items bytes.new.items (shape_of types.now ty.now) (val.Flags set.now) place result }
+    ensures writes { (xs : List Any) → WritesTo (sink bytes.old.items xs) (sink bytes.new.items xs) (shape_of types.now ty.now) (val.Flags set.now) place result }
 {
     match ty {
         InterfaceType::Flags(i) => write_flags(types, *i, set, place, bytes),
@@ -276,7 +348,7 @@ fn write_flags(
     bytes: &mut Vec<u8>,
 ) -> Result<u64, Fault>
     requires known { Knows types.now (InterfaceType.Flags i) }
-    ensures writes { WritesTo bytes.old.items bytes.new.items (shape_of types.now (InterfaceType.Flags i)) (val.Flags set.now) place result }
+    ensures writes { (xs : List Any) → WritesTo (sink bytes.old.items xs) (sink bytes.new.items xs) (shape_of types.now (InterfaceType.Flags i)) (val.Flags set.now) place result }
 {
     let size = types.flags(i).abi.size32 as usize;
     let at = bytes.len();

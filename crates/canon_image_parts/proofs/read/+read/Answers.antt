@@ -1,4 +1,4 @@
-use Rattle.std.proofs.Common.{List, ap, arith, drop, length, subst, sym, ℕ, ◌+◌, ◌-◌, ◌<◌, ◌∙◌, ◌≡◌, ◌≤◌}
+use Rattle.std.proofs.Common.{List, ap, arith, drop, length, subst, sym, ℕ, ◌+◌, ◌<◌, ◌∙◌, ◌≡◌, ◌≤◌}
 use Rattle.canon_lowering.specs.Copies.{case_members}
 use Rattle.canon_lowering.specs.Storing.{narrow}
 use Rattle.canon_model.specs.Layout.{tag_size}
@@ -7,20 +7,19 @@ use Rattle.canon_model.specs.Shape.{Members, Shape, case_count, member_count}
 use Rattle.canon_types.specs.Depth.{depth, element_shape, variant_cases}
 use Rattle.canon_types.specs.Table.{shape_of}
 use Rattle.canon_types.specs.declared.types.InterfaceType.TheVariants as ty
-use Rattle.canon_plan.specs.NoHandle.{HasNoHandle}
 use Rattle.canon_plan.specs.Plan.{shapes_of}
 use Rattle.canon_plan.proofs.Pairs.{key_known, map_shape, value_known}
 use Rattle.canon_val.specs.declared.val.Val.{Val}
-use Rattle.canon_value_parts.proofs.Viewing.{lies_no_handle, lies_depth}
+use Rattle.canon_value_parts.proofs.HandleLifting.{handle_shape}
+use Rattle.canon_value_parts.proofs.Viewing.{lies_depth}
 use Rattle.canon_value_parts.proofs.WalkLoops.{member_shallow}
-use Rattle.canon_value_parts.proofs.Walks.{copies_no_handle, copies_deepest}
-use Rattle.canon_image_parts.proofs.CaseReading.{case_cut, case_falls, case_none, payload_no_handle, payload_count, tag_here}
+use Rattle.canon_value_parts.proofs.Walks.{copies_deepest}
+use Rattle.canon_image_parts.proofs.CaseReading.{case_cut, case_falls, case_none, payload_count, tag_here}
 use Rattle.canon_image_parts.proofs.Fetching.{left_short}
 use Rattle.canon_image_parts.proofs.PairsReading.{PairsAreRead, key_stop, map_read, map_stops, pair_read, pairs_begin, pairs_done, value_stop}
 use Rattle.canon_image_parts.proofs.Reading.{AreRead, PartsRead, all_read, begin_read, image_case_read, image_case_stopped, items_read, items_stop, member_read, whole_count, whole_read, whole_stops}
-use Rattle.canon_image_parts.proofs.PairsWriting.{map_parts}
-use Rattle.canon_image_parts.proofs.Writing.{member_no_handle}
-use Rattle.canon_image_parts.specs.Read.{StopsFrom}
+use Rattle.canon_image_parts.specs.Numbered.{numbered_members}
+use Rattle.canon_image_parts.specs.Read.{ReadsTo, StopsFrom}
 use Rattle.canon_image_parts.specs.Stops.{MembersStop}
 use Rattle.canon_image_parts.proofs.read.+read.Goals as goal
 
@@ -32,7 +31,7 @@ read_parts-read_value-requires t c =
     let ms = shapes_of a.types.now a.members.now in
     let is = c.slot_of-member.ensures in
     let s = shape_of a.types.now c.slot_of-member.result.ty in
-    (omega (arith, member_shallow ms c.loop-k.k is.name s _ is.shapes), (is.known, (member_no_handle ms c.loop-k.k is.name s _ is.shapes c.requires.no_handle, c.loop-k.invariant.read.inside)))
+    (omega (arith, member_shallow ms c.loop-k.k is.name s _ is.shapes), (is.known, c.loop-k.invariant.read.inside))
 
 pub read_parts-loop-k-init : goal.read_parts-loop-k-init
 read_parts-loop-k-init t c =
@@ -62,7 +61,7 @@ pub read_items-read_parts-requires : goal.read_items-read_parts-requires
 read_items-read_parts-requires t c =
     let s = shape_of c.args.types.now c.args.ty.now in
     let n = c.in-Ok.count in
-    (omega (arith, copies_deepest n s), (c.requires.known, (copies_no_handle n s c.requires.no_handle, c.in-Ok.ensures.reads.2)))
+    (omega (arith, copies_deepest n s), (c.requires.known, c.in-Ok.ensures.reads.2))
 
 pub read_items-returns-in-Ok-read_parts : goal.read_items-returns-in-Ok-read_parts
 read_items-returns-in-Ok-read_parts t c =
@@ -91,8 +90,7 @@ read_pairs-read_value-requires t c =
     let types = c.args.types.now in
     let m = c.map-map.result.now in
     let is = map_shape types c.args.i m c.map-map.ensures.entry in
-    let no_handle = map_parts (shape_of types m.key) (shape_of types m.value) (subst (λ (s : Shape). HasNoHandle s) is c.requires.no_handle) in
-    (omega (arith, ap depth is), (key_known types c.args.i m c.map-map.ensures.entry, (no_handle.0, c.loop.invariant.read.inside)))
+    (omega (arith, ap depth is), (key_known types c.args.i m c.map-map.ensures.entry, c.loop.invariant.read.inside))
 
 pub read_pairs-loop-init : goal.read_pairs-loop-init
 read_pairs-loop-init t c =
@@ -130,9 +128,8 @@ read_pairs-read_value-requires-in-loop t c =
     let types = c.args.types.now in
     let m = c.map-map.result.now in
     let is = map_shape types c.args.i m c.map-map.ensures.entry in
-    let no_handle = map_parts (shape_of types m.key) (shape_of types m.value) (subst (λ (s : Shape). HasNoHandle s) is c.requires.no_handle) in
-    let (t1, xs, span, image, lifted) = c.in-Ok-read_value.ensures.reads in
-    (omega (arith, ap depth is), (value_known types c.args.i m c.map-map.ensures.entry, (no_handle.1, span.inside)))
+    let (t1, xs, span, image, lifted, numbers) = c.in-Ok-read_value.ensures.reads in
+    (omega (arith, ap depth is), (value_known types c.args.i m c.map-map.ensures.entry, span.inside))
 
 pub read_pairs-returns-in-Err-read_value : goal.read_pairs-returns-in-Err-read_value
 read_pairs-returns-in-Err-read_value t c =
@@ -193,7 +190,7 @@ read_case-read_parts-requires t c =
     let ms = shapes_of a.types.now c.in-Some.case.payload in
     let inside : a.at.now + c.from-size.result ≤ length a.bytes.now = omega (arith, c.if-bytes-at.false, c.requires.inside) in
     let falls = case_falls s kind is a.bytes.now a.at.now d ms c.in-Some.ensures.shapes in
-    (omega (arith, falls), (c.in-Some.ensures.known, (payload_no_handle s kind is a.bytes.now a.at.now d ms c.in-Some.ensures.shapes c.requires.no_handle, inside)))
+    (omega (arith, falls), (c.in-Some.ensures.known, inside))
 
 pub read_case-rebuild_case-requires-clause-count : goal.read_case-rebuild_case-requires-clause-count
 read_case-rebuild_case-requires-clause-count t c =
@@ -214,7 +211,7 @@ read_case-returns-in-Ok-rebuild_case t c =
     let here = tag_here a.bytes.now a.at.now n w d width room (λ i. omega (arith, c.type_inv.bytes i)) (c.load_tag-tag.ensures ∙ ap (λ (j : ℕ). num (narrow a.bytes.now) a.at.now j) c.requires.info.size) in
     let parts = subst (λ (ms : Members). PartsRead a.bytes.now (a.at.now + n) c.read_parts.new.at ms c.in-Ok.values.items) c.in-Some.ensures.shapes c.in-Ok.ensures.reads in
     record {
-      reads = image_case_read a.bytes.now a.at.now (a.at.now + n) c.read_parts.new.at d s kind c.in-Ok.values.items c.in-Ok-rebuild_case.value is c.in-Some.ensures.there here.0 here.1 parts c.in-Ok-rebuild_case.ensures.ok;
+      reads = image_case_read a.bytes.now a.at.now (a.at.now + n) c.read_parts.new.at d s kind c.in-Ok.values.items c.in-Ok-rebuild_case.value is c.in-Some.ensures.there here.0 here.1 parts c.in-Ok-rebuild_case.ensures.ok c.in-Ok-rebuild_case.ensures.resources;
     }
 
 pub read_case-returns-in-Err : goal.read_case-returns-in-Err
@@ -228,7 +225,7 @@ read_case-returns-in-Err t c =
     let room : a.at.now + n ≤ length a.bytes.now = omega (arith, c.if-bytes-at.false, c.requires.inside) in
     let d = c.load_tag-tag.result in
     let here = tag_here a.bytes.now a.at.now n w d width room (λ i. omega (arith, c.type_inv.bytes i)) (c.load_tag-tag.ensures ∙ ap (λ (j : ℕ). num (narrow a.bytes.now) a.at.now j) c.requires.info.size) in
-    let stops = subst (λ (ms : Members). StopsFrom (MembersStop ms (drop (a.at.now + n) a.bytes.now)) (a.at.now + n) c.in-Err.error) c.in-Some.ensures.shapes c.in-Err.ensures.reads in
+    let stops = subst (λ (ms : Members). StopsFrom (MembersStop (numbered_members ms) (drop (a.at.now + n) a.bytes.now)) (a.at.now + n) c.in-Err.error) c.in-Some.ensures.shapes c.in-Err.ensures.reads in
     record { reads = image_case_stopped a.bytes.now a.at.now (a.at.now + n) c.read_parts.new.at d s kind c.in-Err.error is here.0 here.1 stops }
 
 -- ---- a value
@@ -238,7 +235,7 @@ read_value-read_parts-requires t c =
     let s = shape_of c.args.types.now c.args.ty.now in
     let (known, lies, kind, unnamed) = c.in-Members.ensures in
     let ms = shapes_of c.args.types.now c.in-Members.members in
-    (omega (arith, lies_depth s ms lies), (known, (lies_no_handle s ms lies c.requires.no_handle, c.requires.inside)))
+    (omega (arith, lies_depth s ms lies), (known, c.requires.inside))
 
 pub read_value-rebuild-requires-clause-count : goal.read_value-rebuild-requires-clause-count
 read_value-rebuild-requires-clause-count t c =
@@ -250,10 +247,15 @@ pub read_value-returns-in-Ok-rebuild : goal.read_value-returns-in-Ok-rebuild
 read_value-returns-in-Ok-rebuild t c =
     let a = c.args in
     let (known, lies, kind, unnamed) = c.in-Members.ensures in
-    record { reads = whole_read a.bytes.now a.at.now c.read_parts.new.at (shape_of a.types.now a.ty.now) (shapes_of a.types.now c.in-Members.members) c.in-Ok.values.items c.in-Ok-rebuild.value lies c.in-Ok.ensures.reads c.in-Ok-rebuild.ensures.ok }
+    record { reads = whole_read a.bytes.now a.at.now c.read_parts.new.at (shape_of a.types.now a.ty.now) (shapes_of a.types.now c.in-Members.members) c.in-Ok.values.items c.in-Ok-rebuild.value lies c.in-Ok.ensures.reads c.in-Ok-rebuild.ensures.ok c.in-Ok-rebuild.ensures.resources }
 
 pub read_value-returns-in-Err : goal.read_value-returns-in-Err
 read_value-returns-in-Err t c =
     let a = c.args in
     let (known, lies, kind, unnamed) = c.in-Members.ensures in
     record { reads = whole_stops a.bytes.now a.at.now c.read_parts.new.at (shape_of a.types.now a.ty.now) (shapes_of a.types.now c.in-Members.members) c.in-Err.error lies c.in-Err.ensures.reads }
+
+pub read_value-returns-in-Handle : goal.read_value-returns-in-Handle
+read_value-returns-in-Handle t c =
+    let a = c.args in
+    record { reads = subst (λ (s : Shape). ReadsTo a.bytes.now a.at.now c.read_handle.new.at s c.read_handle.result) (sym (handle_shape a.types.now a.ty.now c.in-Handle._handle c.in-Handle.ensures)) (c.read_handle.ensures.reads c.in-Handle._handle) }

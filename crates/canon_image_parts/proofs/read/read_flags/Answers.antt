@@ -1,4 +1,4 @@
-use Rattle.std.proofs.Common.{Ok, arith, length, refl, subst, sym, ℕ, ◌+◌, ◌-◌, ◌<◌, ◌^◌, ◌∙◌, ◌≡◌, ◌≤◌}
+use Rattle.std.proofs.Common.{Ok, arith, length, refl, subst, sym, ℕ, ◌+◌, ◌<◌, ◌^◌, ◌∙◌, ◌≡◌, ◌≤◌}
 use Rattle.canon_lowering.specs.Storing.{narrow}
 use Rattle.canon_model.specs.Layout.{flags_size}
 use Rattle.canon_model.specs.Memory.{num}

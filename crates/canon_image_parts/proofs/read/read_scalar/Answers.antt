@@ -1,4 +1,4 @@
-use Rattle.std.proofs.Common.{Ok, arith, false, length, refl, subst, sym, ℕ, ◌+◌, ◌-◌, ◌∙◌, ◌≡◌, ◌≤◌}
+use Rattle.std.proofs.Common.{Ok, arith, false, length, refl, subst, sym, ℕ, ◌+◌, ◌∙◌, ◌≡◌, ◌≤◌}
 use Rattle.canon_model.specs.Layout.{scalar_size}
 use Rattle.canon_model.specs.Text.{utf8}
 use Rattle.canon_types.specs.Table.{shape_of}

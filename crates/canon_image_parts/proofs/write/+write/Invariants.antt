@@ -8,6 +8,7 @@ use Rattle.canon_value_parts.specs.Elements.{element_in}
 use Rattle.canon_value_parts.specs.View.{viewed_names, viewed_shapes, viewed_values}
 use Rattle.canon_image_parts.proofs.PairsWriting.{PairsAreWritten}
 use Rattle.canon_image_parts.proofs.Writing.{AreWritten}
+use Rattle.canon_image_parts.specs.Written.{sink}
 use Rattle.canon_image_parts.proofs.write.+write.Given as goal
 
 abbrev pub decreases-write_value : goal.decreases-write_value
@@ -17,7 +18,7 @@ abbrev pub decreases-write_parts : goal.decreases-write_parts
 decreases-write_parts l = 4 * deepest (viewed_shapes l.types.now l.members.now) + 1
 
 abbrev pub decreases-write_list : goal.decreases-write_list
-decreases-write_list l = 4 * depth (list_shape l.types.now (element_in l.list.now)) - 1
+decreases-write_list l = 4 * depth (list_shape l.types.now (element_in l.elements.now)) - 1
 
 abbrev pub decreases-write_items : goal.decreases-write_items
 decreases-write_items l = 4 * depth (shape_of l.types.now l.ty.now) + 2
@@ -33,10 +34,10 @@ decreases-write_case l = 4 * depth (shape_of l.types.now l.ty.now) - 1
 
 abbrev pub invariant-write_parts-loop-k : goal.invariant-write_parts-loop-k
 invariant-write_parts-loop-k l = record {
-  written : AreWritten l.fn.bytes.items l.place (viewed_shapes l.types l.members) (viewed_names l.members) (viewed_values l.members) l.first l.bytes.items l.next l.k;
+  written : AreWritten (sink l.fn.bytes.items l.fn.resources.items) l.place (viewed_shapes l.types l.members) (viewed_names l.members) (viewed_values l.members) l.first (sink l.bytes.items l.resources.items) l.next l.k;
 }
 
 abbrev pub invariant-write_pairs-loop-key : goal.invariant-write_pairs-loop-key
 invariant-write_pairs-loop-key l = record {
-  written : PairsAreWritten l.fn.bytes.items (element_shape (shape_of l.types (ty.Map l.fn.i))) l.fn.pairs.items l.first l.bytes.items l.next l.key-index;
+  written : PairsAreWritten (sink l.fn.bytes.items l.fn.resources.items) (element_shape (shape_of l.types (ty.Map l.fn.i))) l.fn.pairs.items l.first (sink l.bytes.items l.resources.items) l.next l.key-index;
 }

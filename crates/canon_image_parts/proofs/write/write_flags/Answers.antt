@@ -1,4 +1,4 @@
-use Rattle.std.proofs.Common.{List, ap, arith, length, refl, rules, subst, sym, ℕ, ◌+◌, ◌-◌, ◌≡◌}
+use Rattle.std.proofs.Common.{List, ap, arith, length, refl, rules, subst, sym, ℕ, ◌+◌, ◌≡◌}
 use Rattle.canon_model.specs.Layout.{flags_size}
 use Rattle.canon_types.specs.Keeps.{names_of}
 use Rattle.canon_types.specs.Table.{shape_of}
@@ -8,7 +8,7 @@ use Rattle.canon_val.specs.declared.val.Val.TheVariants as val
 use Rattle.canon_value_parts.proofs.FlagNames.{flags_are}
 use Rattle.canon_value_parts.proofs.FlagSteps.{flags_bytes}
 use Rattle.canon_image_parts.proofs.Flagging.{filled, flags_told, whole}
-use Rattle.canon_image_parts.specs.Written.{MarksTo, WritesTo}
+use Rattle.canon_image_parts.specs.Written.{MarksTo, WritesTo, sink}
 use Rattle.canon_image_parts.proofs.write.write_flags.Goals as goal
 use Rattle.canon_image_parts.proofs.write.write_flags.Goals.{After-resize}
 
@@ -28,9 +28,9 @@ returns-in-Ok c =
     let old : c.len-at.result ≡ length a.bytes.now.items = search rules in
     let long : length mid ≡ c.len-at.result + flags_size (length names) = omega (arith, many (goal.at.returns-in-Ok c).After-resize, ap length value, c.in-Ok.ensures.len) in
     record {
-      writes = subst (λ (l : List ℕ). WritesTo a.bytes.now.items l (shape_of a.types.now (ty.Flags a.i)) (val.Flags a.set.now) a.place c.mark_names.result)
+      writes = λ xs. subst (λ (l : List ℕ). WritesTo (sink a.bytes.now.items xs) (sink l xs) (shape_of a.types.now (ty.Flags a.i)) (val.Flags a.set.now) a.place c.mark_names.result)
           (sym (whole c.resize.new.self.len mid after c.deref_mut.result.now value (search rules) (search rules)))
           (flags_told a.bytes.now.items _ mid after c.len-at.result a.place names a.set.now (shape_of a.types.now (ty.Flags a.i)) c.mark_names.result (flags_are a.types.now a.i c.flags.result.now c.flags.ensures.entry)
           (filled a.bytes.now.items mid (c.len-at.result + c.flags.result.now.abi.size32) _ (omega (arith, old)) c.in-Ok.ensures.items) long old (omega arith)
-          (subst (λ (l : List ℕ). MarksTo l after c.len-at.result names (names_of a.set.now.items) a.place c.mark_names.result) value c.mark_names.ensures.marks));
+          (subst (λ (l : List ℕ). MarksTo l after c.len-at.result names (names_of a.set.now.items) a.place c.mark_names.result) value c.mark_names.ensures.marks) xs);
     }

@@ -1,6 +1,7 @@
-use Rattle.std.proofs.Common.{arith, false}
+use Rattle.std.proofs.Common.{arith, false, refl}
 use Rattle.canon_value_parts.proofs.StoreSteps.{scalar_type_bytes}
 use Rattle.canon_image_parts.proofs.Writing.{scalar_written}
+use Rattle.canon_image_parts.specs.Written.{sink}
 use Rattle.canon_image_parts.proofs.write.write_scalar.Goals as goal
 
 pub put_number-requires : goal.put_number-requires
@@ -12,6 +13,6 @@ pub returns-in-Ok : goal.returns-in-Ok
 returns-in-Ok c =
     let a = c.args in
     record {
-      writes = scalar_written a.types.now a.bytes.now.items c.put_number.new.bytes.items a.ty.now a.value.now a.word c.canonical_abi.result.now.size32 a.place c.saturating_add.result (c.canonical_abi.ensures.size false) c.requires.word c.in-Ok.ensures.ok
+      writes = λ xs. scalar_written a.types.now (sink a.bytes.now.items xs) (sink c.put_number.new.bytes.items xs) a.ty.now a.value.now a.word c.canonical_abi.result.now.size32 a.place c.saturating_add.result (c.canonical_abi.ensures.size false) c.requires.word (c.in-Ok.ensures.ok, refl)
           c.saturating_add.ensures;
     }
