@@ -113,9 +113,10 @@ typedef enum {
   CANON_NO_COMMAND = 1,
   CANON_NO_EXPORT,
   CANON_NO_IMAGE, /* the bytes are no image of the parameters */
-  CANON_HANDLES,  /* the types of the parameters or the results reach a handle */
+  CANON_NO_RESOURCE, /* a number among the parameters, or the one that is to be dropped, is of no resource of the store */
   CANON_NO_COMPONENT,
-  CANON_TOO_LONG /* the bytes, by CANON_MAX_BYTES */
+  CANON_TOO_LONG, /* the bytes, by CANON_MAX_BYTES */
+  CANON_TOO_WIDE  /* the type or the representation of a new resource */
 } canon_reason;
 
 /* How many bytes parameters, results of a function of the host, or a component may have. */
@@ -226,6 +227,15 @@ canon_store *canon_store_new(const canon_setup *, canon_why *why);
 /* Calls an export with the image of its parameters. If it answers CANON_OK, `results` is set to the image of the results. */
 canon_status canon_call(canon_store *, uint32_t export_number, const void *params, size_t len, canon_bytes *results, canon_why *why);
 
+/* Resources have numbers, in the order in which they are made and answered, from 0 on: a handle in an image is such a number, of 4 bytes. A number that was given to
+ * a function as an own handle, or was dropped, stays one of a resource that is gone. */
+
+/* Makes a resource of the host, of the type of this number and with this representation, and sets `number` to its number. */
+canon_status canon_resource_new(canon_store *, uint32_t type, uint32_t rep, uint32_t *number, canon_why *why);
+
+/* Drops the resource of a number. Its destructor runs. */
+canon_status canon_resource_drop(canon_store *, uint32_t number, canon_why *why);
+
 /* How many handles live. */
 canon_status canon_live(canon_store *, uint64_t *live);
 
@@ -240,11 +250,12 @@ size_t canon_stack_used(const canon_store *);
 
 /* ---- The same without a stack of its own ---- */
 
-typedef enum { CANON_DO_CALL = 2, CANON_DO_LIVE, CANON_DO_MARKS } canon_what;
+typedef enum { CANON_DO_CALL = 2, CANON_DO_LIVE, CANON_DO_MARKS, CANON_DO_DROP, CANON_DO_NEW } canon_what;
 
 typedef struct {
   canon_what what;
-  uint32_t export_number;
+  uint32_t export_number; /* of CANON_DO_DROP the resource's number, of CANON_DO_NEW its type */
+  uint32_t rep;           /* of CANON_DO_NEW */
   const void *params; /* they have to stay until the next command is asked for */
   size_t len;
 } canon_command;
@@ -252,7 +263,7 @@ typedef struct {
 typedef struct {
   canon_status status;
   canon_why why;
-  const uint8_t *bytes; /* the image of the results, the 8 bytes of a number, or marks */
+  const uint8_t *bytes; /* the image of the results, the 8 bytes of a count or of a new resource's number, or marks */
   size_t len;
 } canon_answer;
 

@@ -178,7 +178,7 @@ static const char *const names[] = {
     [CANON_BORROW_AS_OWN] = "BorrowAsOwn", [CANON_HOST_CONSUMED] = "HostConsumed", [CANON_HOST_DEALLOCATED] = "HostDeallocated",
     [CANON_GENERATION_EXHAUSTED] = "GenerationExhausted", [CANON_BORROWS_REMAIN] = "BorrowsRemain", [CANON_NO_SCOPE] = "NoScope",
     [CANON_LEDGER_OUT_OF_MEMORY] = "OutOfMemory"};
-static const char *const reasons[] = {"", "no such command", "no such export", "no image of the parameters", "a type that reaches a handle", "no component", "too many bytes"};
+static const char *const reasons[] = {"", "no such command", "no such export", "no image of the parameters", "no such resource", "no component", "too many bytes", "a number of more than 32 bits"};
 
 const char *canon_error_name(canon_error error) {
   size_t n = (size_t)error;
@@ -187,7 +187,7 @@ const char *canon_error_name(canon_error error) {
 
 void canon_why_text(const canon_why *why, char *to, size_t room) {
   if (why->reason) {
-    snprintf(to, room, why->reason == CANON_NO_IMAGE ? "%s @%" PRIu64 : "%s", why->reason <= CANON_TOO_LONG ? reasons[why->reason] : "", why->place);
+    snprintf(to, room, why->reason == CANON_NO_IMAGE ? "%s @%" PRIu64 : "%s", why->reason <= CANON_TOO_WIDE ? reasons[why->reason] : "", why->place);
     return;
   }
   char import[32] = "", place[32] = "", more[32] = "";
@@ -329,10 +329,10 @@ static canon_status status_of(const canon_store *s, canon_why *why) {
 }
 
 /* Has this command heard next. */
-static void command(canon_store *s, uint64_t what, uint64_t operand, const void *bytes, size_t len, canon_bytes *results) {
+static void command(canon_store *s, uint64_t what, uint64_t operand, uint64_t second, const void *bytes, size_t len, canon_bytes *results) {
   put_at(s->head, 0, what);
   put_at(s->head, 1, operand);
-  put_at(s->head, 2, 0);
+  put_at(s->head, 2, second);
   put_at(s->head, 3, len);
   says(s, 32, bytes, len);
   s->answered = false;
@@ -348,14 +348,14 @@ static canon_status too_long(canon_why *why) {
 /* Asks a session's program what is next. */
 static void ask_next(canon_store *s) {
   canon_answer last = {CANON_OK, {0}, s->session_results.bytes, s->session_results.len};
-  canon_command next = {CANON_DO_LIVE, 0, NULL, 0};
+  canon_command next = {CANON_DO_LIVE, 0, 0, NULL, 0};
   last.status = status_of(s, &last.why);
   while (!(s->ended = !s->next(s->next_data, &last, &next)) && next.what == CANON_DO_CALL && next.len > CANON_MAX_BYTES) {
     memset(&last, 0, sizeof last);
     last.status = too_long(&last.why);
   }
-  if (s->ended) command(s, 0, 0, NULL, 0, NULL);
-  else command(s, (uint64_t)next.what, next.export_number, next.params, next.what == CANON_DO_CALL ? next.len : 0, &s->session_results);
+  if (s->ended) command(s, 0, 0, 0, NULL, 0, NULL);
+  else command(s, (uint64_t)next.what, next.export_number, next.what == CANON_DO_NEW ? next.rep : 0, next.params, next.what == CANON_DO_CALL ? next.len : 0, &s->session_results);
   s->session_results.len = 0;
 }
 
@@ -507,7 +507,7 @@ canon_store *canon_store_new(const canon_setup *setup, canon_why *why) {
   }
   fiber_begin(&s->library, library_main, s);
   atomic_flag_test_and_set(&s->busy);
-  command(s, 1, setup->watched, setup->component, strlen(setup->component), NULL);
+  command(s, 1, setup->watched, 0, setup->component, strlen(setup->component), NULL);
   canon_status status = carry_out(s, why);
   s->kept.component = NULL;
   atomic_flag_clear(&s->busy);
@@ -516,11 +516,11 @@ canon_store *canon_store_new(const canon_setup *setup, canon_why *why) {
   return NULL;
 }
 
-static canon_status do_command(canon_store *s, uint64_t what, uint64_t operand, const void *bytes, size_t len, canon_bytes *results, canon_why *why) {
+static canon_status do_command(canon_store *s, uint64_t what, uint64_t operand, uint64_t second, const void *bytes, size_t len, canon_bytes *results, canon_why *why) {
   if (why) memset(why, 0, sizeof *why);
   if (len > CANON_MAX_BYTES) return too_long(why);
   if (atomic_flag_test_and_set(&s->busy)) return CANON_BUSY;
-  command(s, what, operand, bytes, len, results);
+  command(s, what, operand, second, bytes, len, results);
   canon_status status = carry_out(s, why);
   s->results = NULL;
   atomic_flag_clear(&s->busy);
@@ -528,25 +528,38 @@ static canon_status do_command(canon_store *s, uint64_t what, uint64_t operand, 
 }
 
 canon_status canon_call(canon_store *s, uint32_t export_number, const void *params, size_t len, canon_bytes *results, canon_why *why) {
-  return do_command(s, CANON_DO_CALL, export_number, params, len, results, why);
+  return do_command(s, CANON_DO_CALL, export_number, 0, params, len, results, why);
 }
 
 canon_status canon_live(canon_store *s, uint64_t *live) {
   canon_bytes bytes = {0};
-  canon_status status = do_command(s, CANON_DO_LIVE, 0, NULL, 0, &bytes, NULL);
+  canon_status status = do_command(s, CANON_DO_LIVE, 0, 0, NULL, 0, &bytes, NULL);
   canon_reader r = canon_read(bytes.bytes, bytes.len);
   *live = canon_get_u64(&r);
   canon_bytes_free(&bytes);
   return status;
 }
 
-canon_status canon_marks(canon_store *s, canon_bytes *marks) { return do_command(s, CANON_DO_MARKS, 0, NULL, 0, marks, NULL); }
+canon_status canon_resource_new(canon_store *s, uint32_t type, uint32_t rep, uint32_t *number, canon_why *why) {
+  canon_bytes bytes = {0};
+  canon_status status = do_command(s, CANON_DO_NEW, type, rep, NULL, 0, &bytes, why);
+  canon_reader r = canon_read(bytes.bytes, bytes.len);
+  *number = (uint32_t)canon_get_u64(&r);
+  canon_bytes_free(&bytes);
+  return status;
+}
+
+canon_status canon_resource_drop(canon_store *s, uint32_t number, canon_why *why) {
+  return do_command(s, CANON_DO_DROP, number, 0, NULL, 0, NULL, why);
+}
+
+canon_status canon_marks(canon_store *s, canon_bytes *marks) { return do_command(s, CANON_DO_MARKS, 0, 0, NULL, 0, marks, NULL); }
 
 bool canon_store_free(canon_store *s) {
   if (!s) return true;
   if (atomic_flag_test_and_set(&s->busy)) return false;
   if (!s->over) {
-    command(s, 0, 0, NULL, 0, NULL);
+    command(s, 0, 0, 0, NULL, 0, NULL);
     fiber_enter(&s->library);
   }
   fiber_free(&s->library);
@@ -561,7 +574,7 @@ bool canon_session(const canon_setup *setup, canon_next *next, void *data) {
   if (!s) return false;
   s->next = next;
   s->next_data = data;
-  command(s, 1, setup->watched, setup->component, strlen(setup->component), &s->session_results);
+  command(s, 1, setup->watched, 0, setup->component, strlen(setup->component), &s->session_results);
   canon_serve(s->channel);
   bool ended = s->ended;
   if (!ended && s->answered) ask_next(s); /* the library ended by itself: nobody took its last answer */

@@ -8,9 +8,9 @@ use Rattle.canon_func.specs.declared.error.Error.TheVariants as error
 use Rattle.canon_relay.specs.Channel.{AddsMessages, Message}
 use Rattle.canon_relay.specs.Relay.{PassesMessages, adds_both, adds_none}
 use Rattle.canon_serve.specs.Begins.{HasComponent, HasNoComponent, IsBegun}
-use Rattle.canon_serve.specs.Carries.{CarriesOutCommand, EngineStore}
-use Rattle.canon_serve.specs.Messages.{HearsCommand, HearsNone, IsStrictPrefix, answer_messages}
-use Rattle.canon_serve.specs.Sessions.{CommandTurn, CutsCommand, EndsAtOnce, EndsSession, EndsUnbegun, GoesOnAfter, IsFirstAnswer, IsFirstTurn, IsSession, IsUnheardEnd, ServesAll, ServesOne, ServesTurn, ServesTurns, ServesUntil, ToldOrCut, command_messages, one_turn_messages}
+use Rattle.canon_serve.specs.Carries.{AnswersShort, CarriesOutCommand, EngineSession, EngineStore, session}
+use Rattle.canon_serve.specs.Messages.{HearsCommand, HearsNothing, IsStrictPrefix, answer_messages}
+use Rattle.canon_serve.specs.Sessions.{CommandTurn, CutsCommand, EndsAtOnce, EndsSession, EndsUnbegun, GoesOnAfter, IsFirstAnswer, IsFirstTurn, IsSession, MayRunShort, ServesAll, ServesOne, ServesTurn, ServesTurns, ServesUntil, ToldOrCut, command_messages, one_turn_messages, unheard_end}
 use Rattle.canon_serve.specs.declared.answer.Answer.{Answer}
 use Rattle.canon_serve.specs.declared.answer.Answer.TheVariants as answer
 use Rattle.canon_serve.specs.declared.answer.Senseless.{Senseless}
@@ -19,6 +19,8 @@ use Rattle.canon_serve.specs.declared.begin.NoStore.{NoStore}
 use Rattle.canon_serve.specs.declared.begin.NoStore.TheVariants as no_store
 use Rattle.canon_serve.specs.declared.command.Command.{Command}
 use Rattle.canon_serve.specs.declared.command.Command.TheVariants as command
+use Rattle.canon_serve.specs.declared.command.Unheard.{Unheard}
+use Rattle.canon_serve.specs.declared.command.Unheard.TheVariants as unheard
 use Rattle.canon_serve.specs.declared.serving.End.{End}
 use Rattle.canon_serve.specs.declared.serving.End.TheVariants as end
 
@@ -35,17 +37,19 @@ goes_on_after (command.Begin all json) not = tt
 goes_on_after (command.Call export params) not = tt
 goes_on_after command.Live not = tt
 goes_on_after command.Marks not = tt
+goes_on_after (command.Drop number) not = tt
+goes_on_after (command.New ty rep) not = tt
 goes_on_after command.Unknown not = tt
 
 module _ {E H : Type 0} (log : E → Option (List Message)) where
-  serves_more : (ts : List CommandTurn) (t : CommandTurn) (s next last : EngineStore E H) → ServesTurns log ts s next → ServesTurn log t next last → ServesTurns log (ts ++ t ∷ []) s last
+  serves_more : (ts : List CommandTurn) (t : CommandTurn) (s next last : EngineSession E H) → ServesTurns log ts s next → ServesTurn log t next last → ServesTurns log (ts ++ t ∷ []) s last
   serves_more [] t s next last here served = (last, subst (λ u. ServesTurn log t u last) here served, refl)
   serves_more (u ∷ ts) t s next last serves served = (serves.0, serves.1, serves_more ts t serves.0 next last serves.2 served)
 
-  pub serves_none : (a : Option (List Message)) (s : EngineStore E H) → ServesAll log a a s s
+  pub serves_none : (a : Option (List Message)) (s : EngineSession E H) → ServesAll log a a s s
   serves_none a s = record { turns = []; serves = refl; passed = adds_none a }
 
-  pub serves_next : (a b c : Option (List Message)) (s next last : EngineStore E H) → ServesAll log a b s next → ServesOne log b c next last → ServesAll log a c s last
+  pub serves_next : (a b c : Option (List Message)) (s next last : EngineSession E H) → ServesAll log a b s next → ServesOne log b c next last → ServesAll log a c s last
   serves_next a b c s next last f g = record {
     turns = f.turns ++ g.0 ∷ [];
     serves = serves_more f.turns g.0 s next last f.serves g.1;
@@ -53,7 +57,7 @@ module _ {E H : Type 0} (log : E → Option (List Message)) where
   }
 
   -- a command that was heard was carried out, and its answer told
-  pub served_one : (a b c : Option (List Message)) (s t : EngineStore E H) (asked : Command) (answered : Answer) → GoesOnAfter asked → PassesMessages a b (HearsCommand asked) → CarriesOutCommand log asked s t answered
+  pub served_one : (a b c : Option (List Message)) (s t : EngineSession E H) (asked : Command) (answered : Answer) → GoesOnAfter asked → PassesMessages a b (HearsCommand asked) → CarriesOutCommand log asked s t answered
       → AddsMessages b c (answer_messages answered) → ServesOne log a c s t
   served_one a b c s t asked answered goes_on heard carried told = (
     record { asked = asked; heard = heard.0; answered = answered },
@@ -61,43 +65,48 @@ module _ {E H : Type 0} (log : E → Option (List Message)) where
     adds_both a b c heard.0 (answer_messages answered) heard.1 told,
   )
 
+  -- memory ran out for its answer
+  may_run_short : (asked : Command) (s t : EngineSession E H) → AnswersShort log asked s t → MayRunShort asked
+  may_run_short (command.Call export params) s t h = tt
+  may_run_short command.Live s t h = tt
+  may_run_short command.Marks s t h = tt
+  may_run_short (command.New ty rep) s t h = tt
+  may_run_short (command.Drop number) s t h = absurd h
+  may_run_short command.End s t h = absurd h
+  may_run_short (command.Begin all json) s t h = absurd h
+  may_run_short command.Unknown s t h = absurd h
+
   -- or it wasn't told whole
-  pub cut_command : (a b c : Option (List Message)) (s t : EngineStore E H) (asked : Command) (why : End) → GoesOnAfter asked → PassesMessages a b (HearsCommand asked) → CutsCommand log why asked s t b c
+  pub cut_command : (a b c : Option (List Message)) (s t : EngineSession E H) (asked : Command) (why : End) → GoesOnAfter asked → PassesMessages a b (HearsCommand asked) → CutsCommand log why asked s t b c
       → PassesMessages a c (EndsSession log why s)
   cut_command a b c s t asked end.Broken goes_on heard cut = (
     heard.0 ++ cut.2.0,
     adds_both a b c heard.0 cut.2.0 heard.1 cut.2.1,
     inr (record { turn = record { asked = asked; heard = heard.0; answered = cut.0 }; next = t; serves = (goes_on, heard.2, cut.1); part = cut.2.0; first = cut.2.2; are = refl }),
   )
-  cut_command a b c s t asked end.OutOfMemory goes_on heard cut = (heard.0, subst (λ l. AddsMessages a l heard.0) (sym cut.1) heard.1, inr (record { asked = asked; goes_on = goes_on; heard = heard.2; next = t; short = cut.0 }))
+  cut_command a b c s t asked end.OutOfMemory goes_on heard cut = (heard.0, subst (λ l. AddsMessages a l heard.0) (sym cut.1) heard.1, inr (asked, may_run_short asked s t cut.0, heard.2))
   cut_command a b c s t asked end.Asked goes_on heard cut = absurd cut
   cut_command a b c s t asked end.NoComponent goes_on heard cut = absurd cut
   cut_command a b c s t asked end.NotInstantiated goes_on heard cut = absurd cut
 
-  pub cut_ends : (a b c : Option (List Message)) (s t : EngineStore E H) (asked : Command) (r : Option End) → GoesOnAfter asked → PassesMessages a b (HearsCommand asked) → IfSome r (λ why. CutsCommand log why asked s t b c)
+  pub cut_ends : (a b c : Option (List Message)) (s t : EngineSession E H) (asked : Command) (r : Option End) → GoesOnAfter asked → PassesMessages a b (HearsCommand asked) → IfSome r (λ why. CutsCommand log why asked s t b c)
       → IfSome r (λ why. PassesMessages a c (EndsSession log why s))
   cut_ends a b c s t asked None goes_on heard cut = cut
   cut_ends a b c s t asked (Some why) goes_on heard cut = cut_command a b c s t asked why goes_on heard cut
 
   -- nothing more was heard
-  pub unheard_last : (a b : Option (List Message)) (s : EngineStore E H) (why : End) → IsUnheardEnd why → PassesMessages a b HearsNone → PassesMessages a b (EndsSession log why s)
-  unheard_last a b s end.Broken is heard = (heard.0, heard.1, inl heard.2)
-  unheard_last a b s end.OutOfMemory is heard = (heard.0, heard.1, inl heard.2)
-  unheard_last a b s end.Asked is heard = absurd is
-  unheard_last a b s end.NoComponent is heard = absurd is
-  unheard_last a b s end.NotInstantiated is heard = absurd is
+  pub unheard_last : (a b : Option (List Message)) (s : EngineSession E H) (why : Unheard) (r : End) → r ≡ unheard_end why → PassesMessages a b (HearsNothing why) → PassesMessages a b (EndsSession log r s)
+  unheard_last a b s unheard.Broken r is heard = subst (λ e. PassesMessages a b (EndsSession log e s)) (sym is) (heard.0, heard.1, inl heard.2)
+  unheard_last a b s unheard.OutOfMemory r is heard = subst (λ e. PassesMessages a b (EndsSession log e s)) (sym is) (heard.0, heard.1, inl heard.2)
 
-  pub serves_until : (a b c : Option (List Message)) (s last : EngineStore E H) (why : End) → ServesAll log a b s last → PassesMessages b c (EndsSession log why last) → ServesUntil log a c s why
+  pub serves_until : (a b c : Option (List Message)) (s last : EngineSession E H) (why : End) → ServesAll log a b s last → PassesMessages b c (EndsSession log why last) → ServesUntil log a c s why
   serves_until a b c s last why f ends = record { last = last; between = b; served = f; ends = ends }
 
 -- ---- the first command
 
-pub unheard_first : (a b : Option (List Message)) (why : End) → IsUnheardEnd why → PassesMessages a b HearsNone → PassesMessages a b (EndsAtOnce why)
-unheard_first a b end.Broken is heard = (heard.0, heard.1, inl heard.2)
-unheard_first a b end.OutOfMemory is heard = (heard.0, heard.1, inl heard.2)
-unheard_first a b end.Asked is heard = absurd is
-unheard_first a b end.NoComponent is heard = absurd is
-unheard_first a b end.NotInstantiated is heard = absurd is
+pub unheard_first : (a b : Option (List Message)) (why : Unheard) (r : End) → r ≡ unheard_end why → PassesMessages a b (HearsNothing why) → PassesMessages a b (EndsAtOnce r)
+unheard_first a b unheard.Broken r is heard = subst (λ e. PassesMessages a b (EndsAtOnce e)) (sym is) (heard.0, heard.1, inl heard.2)
+unheard_first a b unheard.OutOfMemory r is heard = subst (λ e. PassesMessages a b (EndsAtOnce e)) (sym is) (heard.0, heard.1, inl heard.2)
 
 -- it is none that begins a session
 pub other_first : (asked : Command) → ((all : Bool) (json : Vec ℕ Global) → asked ≡ command.Begin all json → ⊥) → IsFirstAnswer asked (answer.Senseless senseless.NoCommand)
@@ -106,6 +115,8 @@ other_first (command.Call export params) not = tt
 other_first command.End not = tt
 other_first command.Live not = tt
 other_first command.Marks not = tt
+other_first (command.Drop number) not = tt
+other_first (command.New ty rep) not = tt
 other_first command.Unknown not = tt
 
 module _ (a b c : Option (List Message)) (asked : Command) (answered : Answer) (heard : PassesMessages a b (HearsCommand asked)) (first : IsFirstAnswer asked answered) where
@@ -148,7 +159,7 @@ unbegun a b c all json no_store.OutOfMemory result heard none not ended =
 
 module _ {E H : Type 0} (log : E → Option (List Message)) (engine : E) (host : H) where
   pub begun_session : (a b c d : Option (List Message)) (all : Bool) (json empty : Vec ℕ Global) (s : EngineStore E H) (why : End) → PassesMessages a b (HearsCommand (command.Begin all json))
-      → IsBegun log engine host all json.items s → empty.items ≡ [] → AddsMessages b c (answer_messages (answer.Done empty)) → ServesUntil log c d s why → IsSession log engine host a d why
+      → IsBegun log engine host all json.items s → empty.items ≡ [] → AddsMessages b c (answer_messages (answer.Done empty)) → ServesUntil log c d (session s []) why → IsSession log engine host a d why
   begun_session a b c d all json empty s why heard begun is_empty told served = inl (record {
     store = s;
     between = c;

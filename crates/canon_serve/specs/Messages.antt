@@ -9,17 +9,21 @@ use Rattle.canon_serve.specs.declared.answer.Senseless.{Senseless}
 use Rattle.canon_serve.specs.declared.answer.Senseless.TheVariants as senseless
 use Rattle.canon_serve.specs.declared.command.Command.{Command}
 use Rattle.canon_serve.specs.declared.command.Command.TheVariants as command
+use Rattle.canon_serve.specs.declared.command.Unheard.{Unheard}
+use Rattle.canon_serve.specs.declared.command.Unheard.TheVariants as unheard
 
 -- ---- a command
 
--- what a command is, by its numbers: what is asked for, its operand, and its bytes
-abbrev pub IsCommand : ℕ → ℕ → List ℕ → Command → Type 0
-IsCommand what operand bytes command.End = what ≡ 0
-IsCommand what operand bytes (command.Begin watches_all json) = (what ≡ 1) × (watches_all ≡ nat_eq operand 1) × (json.items ≡ bytes)
-IsCommand what operand bytes (command.Call export params) = (what ≡ 2) × (export ≡ operand) × (params.items ≡ bytes)
-IsCommand what operand bytes command.Live = what ≡ 3
-IsCommand what operand bytes command.Marks = what ≡ 4
-IsCommand what operand bytes command.Unknown = 5 ≤ what
+-- what a command is, by its numbers: what is asked for, its operands, and its bytes
+abbrev pub IsCommand : ℕ → ℕ → ℕ → List ℕ → Command → Type 0
+IsCommand what operand second bytes command.End = what ≡ 0
+IsCommand what operand second bytes (command.Begin watches_all json) = (what ≡ 1) × (watches_all ≡ nat_eq operand 1) × (json.items ≡ bytes)
+IsCommand what operand second bytes (command.Call export params) = (what ≡ 2) × (export ≡ operand) × (params.items ≡ bytes)
+IsCommand what operand second bytes command.Live = what ≡ 3
+IsCommand what operand second bytes command.Marks = what ≡ 4
+IsCommand what operand second bytes (command.Drop number) = (what ≡ 5) × (number ≡ operand)
+IsCommand what operand second bytes (command.New ty rep) = (what ≡ 6) × (ty ≡ operand) × (rep ≡ second)
+IsCommand what operand second bytes command.Unknown = 7 ≤ what
 
 -- bytes are a message, unless there are none
 abbrev pub heard_bytes : List ℕ → List Message
@@ -38,11 +42,20 @@ pub record HearsCommand (asked : Command) (messages : List Message) : Type 0 whe
   pub sized : length head ≡ 32
   pub count : length bytes ≡ number_at head 24
   pub few : length bytes ≤ 16777216
-  pub is : IsCommand (number_at head 0) (number_at head 8) bytes asked
+  pub is : IsCommand (number_at head 0) (number_at head 8) (number_at head 16) bytes asked
 
 -- no command was heard: nothing, or the first 32 bytes of one that has more
 abbrev pub HearsNone : List Message → Type 0
 HearsNone messages = (messages ≡ []) ⊎ ((head : List ℕ) × (length head ≡ 32) × (0 < number_at head 24) × (messages ≡ heard head ∷ []))
+
+-- no command was heard for want of memory for its bytes: the first 32 bytes of one that has more, at most 16,777,216
+abbrev pub HearsHead : List Message → Type 0
+HearsHead messages = (head : List ℕ) × (length head ≡ 32) × (0 < number_at head 24) × (number_at head 24 ≤ 16777216) × (messages ≡ heard head ∷ [])
+
+-- by why nothing more is heard
+abbrev pub HearsNothing : Unheard → List Message → Type 0
+HearsNothing unheard.Broken messages = HearsNone messages
+HearsNothing unheard.OutOfMemory messages = HearsHead messages
 
 -- these messages are a strict prefix of all: one more would have followed
 abbrev pub IsStrictPrefix : List Message → List Message → Type 0
@@ -54,8 +67,9 @@ abbrev pub senseless_numbers : Senseless → List ℕ
 senseless_numbers senseless.NoCommand = 1 ∷ 0 ∷ []
 senseless_numbers senseless.NoExport = 2 ∷ 0 ∷ []
 senseless_numbers (senseless.NoImage place) = 3 ∷ place ∷ []
-senseless_numbers senseless.HasHandle = 4 ∷ 0 ∷ []
+senseless_numbers senseless.NoResource = 4 ∷ 0 ∷ []
 senseless_numbers senseless.NoComponent = 5 ∷ 0 ∷ []
+senseless_numbers senseless.TooWide = 7 ∷ 0 ∷ []
 
 abbrev pub with_place : List ℕ → List ℕ
 with_place (code ∷ place ∷ []) = 7 ∷ 2 ∷ code ∷ 0 ∷ 0 ∷ place ∷ 0 ∷ []

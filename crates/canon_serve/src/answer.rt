@@ -20,10 +20,12 @@ pub enum Senseless {
     NoExport,
     /// The bytes are no image of the parameters: so many of them are well formed.
     NoImage(u64),
-    /// The parameters or the results reach a handle, of which there is no image.
-    HasHandle,
+    /// The session has no resource of a number among the parameters, or of the one that is to be dropped.
+    NoResource,
     /// The bytes are no component.
     NoComponent,
+    /// The type or the representation of a new resource has more than 32 bits.
+    TooWide,
 }
 
 /// What came of a command.
@@ -61,8 +63,9 @@ fn senseless_numbers(why: Senseless) -> [u64; 2]
         Senseless::NoCommand => [1, 0],
         Senseless::NoExport => [2, 0],
         Senseless::NoImage(place) => [3, place],
-        Senseless::HasHandle => [4, 0],
+        Senseless::NoResource => [4, 0],
         Senseless::NoComponent => [5, 0],
+        Senseless::TooWide => [7, 0],
     }
 }
 

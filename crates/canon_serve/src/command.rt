@@ -1,9 +1,9 @@
 //! What the caller asks for, and how it is heard.
 
-ghost use Rattle.std.specs.Prelude.{◌≡◌, ◌≤◌, ◌<◌, ◌^◌, ◌∷◌, [], IfOk, OnErr, length};
+ghost use Rattle.std.specs.Prelude.{◌≡◌, ◌≤◌, ◌<◌, ◌^◌, ◌∷◌, [], Err, IfErr, IfOk, OnErr, length};
 ghost use Rattle.canon_relay.specs.Channel.{AddsMessages};
 ghost use Rattle.canon_relay.specs.Relay.{PassesMessages, adds_none};
-ghost use Rattle.canon_serve.specs.Messages.{HearsCommand, HearsNone, IsCommand, heard_bytes};
+ghost use Rattle.canon_serve.specs.Messages.{HearsCommand, HearsNothing, IsCommand, heard_bytes};
 
 use canon_relay::{Channel, number_at};
 use std::alloc::Global;
@@ -24,6 +24,10 @@ pub enum Command {
     Live,
     /// Asks for the marks of the answers of `realloc` since the last such command.
     Marks,
+    /// Drops the resource of this number.
+    Drop { number: u64 },
+    /// Makes a resource of the host, of the type of this number and with this representation.
+    New { ty: u64, rep: u64 },
     /// Is none of these.
     Unknown,
 }
@@ -39,19 +43,23 @@ pub(crate) enum Unheard {
 /// Hears a command.
 pub(crate) fn hear_command<P: Channel>(alloc: Global, caller: &mut P) -> Result<Command, Unheard>
     ensures heard { IfOk result (λ asked. PassesMessages (P.log caller.old) (P.log caller.new) (HearsCommand asked)) }
-    ensures none { OnErr result (PassesMessages (P.log caller.old) (P.log caller.new) HearsNone) }
+    ensures none { IfErr result (λ why. PassesMessages (P.log caller.old) (P.log caller.new) (HearsNothing why)) }
 {
     let mut head = [0u8; 32];
     if !caller.hear(&mut head) {
         return Err(Unheard::Broken);
     }
-    let bytes = hear_bytes(alloc, caller, number_at(&head, 24))?;
+    let bytes = match hear_bytes(alloc, caller, number_at(&head, 24)) {
+        Ok(bytes) => bytes,
+        Err(why) => return Err(why),
+    };
     let operand = number_at(&head, 8);
-    Ok(command_of(number_at(&head, 0), operand, bytes))
+    let second = number_at(&head, 16);
+    Ok(command_of(number_at(&head, 0), operand, second, bytes))
 }
 
-fn command_of(what: u64, operand: u64, bytes: Vec<u8>) -> Command
-    ensures { IsCommand what operand bytes.items result }
+fn command_of(what: u64, operand: u64, second: u64, bytes: Vec<u8>) -> Command
+    ensures { IsCommand what operand second bytes.items result }
 {
     match what {
         0 => Command::End,
@@ -65,6 +73,11 @@ fn command_of(what: u64, operand: u64, bytes: Vec<u8>) -> Command
         },
         3 => Command::Live,
         4 => Command::Marks,
+        5 => Command::Drop { number: operand },
+        6 => Command::New {
+            ty: operand,
+            rep: second,
+        },
         _ => Command::Unknown,
     }
 }
@@ -78,6 +91,7 @@ pub(crate) fn hear_bytes<P: Channel>(
     ensures heard { IfOk result (λ bytes. AddsMessages (P.log caller.old) (P.log caller.new) (heard_bytes bytes.items) × (length bytes.items ≡ len) × (len ≤ 16777216)) }
     ensures none { OnErr result (AddsMessages (P.log caller.old) (P.log caller.new) []) }
     ensures some { OnErr result (0 < len) }
+    ensures short { result ≡ Err Unheard.OutOfMemory → len ≤ 16777216 }
 {
     if len == 0 {
         return Ok(Vec::new(alloc));

@@ -2,17 +2,18 @@
 
 ghost use Rattle.std.specs.Prelude.{◌≡◌, IfOk, Ok};
 ghost use Rattle.canon_types.specs.Table.{HasTuple, shape_of};
-ghost use Rattle.canon_image_parts.specs.Written.{IsImaged};
+ghost use Rattle.canon_image_parts.specs.Written.{IsListedImage};
 ghost use Rattle.canon_serve.specs.Images.{IsReadRow};
 
-use canon_image::{ImageError, image, read_image};
+use canon_image::{ImageError, image, image_with_resources, read_image, read_numbered_image};
 use canon_literals::copies_of;
+use canon_resources::ResourceAny;
 use canon_types::{ComponentTypes, InterfaceType, TypeTupleIndex};
 use canon_value::Val;
 use std::alloc::Global;
 
-/// The values whose images stand in a row.
-pub(crate) fn read_values(
+/// The values whose images stand in a row, with a borrow of its number in the place of each resource.
+pub(crate) fn read_numbered_values(
     alloc: Global,
     types: &ComponentTypes,
     tuple: TypeTupleIndex,
@@ -21,7 +22,7 @@ pub(crate) fn read_values(
     requires { HasTuple types.now tuple }
     ensures { IsReadRow (shape_of types.now (InterfaceType.Tuple tuple)) bytes.now result }
 {
-    match read_image(alloc, types, &InterfaceType::Tuple(tuple), bytes) {
+    match read_numbered_image(alloc, types, &InterfaceType::Tuple(tuple), bytes) {
         Ok(Val::Tuple(values)) => Ok(values),
         // No image of a tuple is read as another value.
         Ok(_) => Err(ImageError::OutOfMemory),
@@ -29,7 +30,23 @@ pub(crate) fn read_values(
     }
 }
 
-/// The images of copies of values in a row.
+/// The values of types without handles whose images stand in a row.
+pub(crate) fn read_values(
+    alloc: Global,
+    types: &ComponentTypes,
+    tuple: TypeTupleIndex,
+    bytes: &[u8],
+) -> Result<Vec<Val>, ImageError>
+    requires { HasTuple types.now tuple }
+{
+    match read_image(alloc, types, &InterfaceType::Tuple(tuple), bytes) {
+        Ok(Val::Tuple(values)) => Ok(values),
+        Ok(_) => Err(ImageError::OutOfMemory),
+        Err(error) => Err(error),
+    }
+}
+
+/// The images of copies of values in a row, of types without handles.
 pub(crate) fn image_copies(
     alloc: Global,
     types: &ComponentTypes,
@@ -41,23 +58,30 @@ pub(crate) fn image_copies(
     let Ok(copies) = copies_of(alloc, values) else {
         return Err(ImageError::OutOfMemory);
     };
-    image_values(alloc, types, tuple, copies)
+    image(
+        alloc,
+        types,
+        &InterfaceType::Tuple(tuple),
+        &Val::Tuple(copies),
+    )
 }
 
-/// The images of values in a row.
+/// The images of values in a row, whose resources are added to the list.
 pub(crate) fn image_values(
     alloc: Global,
     types: &ComponentTypes,
     tuple: TypeTupleIndex,
     values: Vec<Val>,
+    list: &mut Vec<ResourceAny>,
 ) -> Result<Vec<u8>, ImageError>
     requires { HasTuple types.now tuple }
-    ensures { IfOk result (λ bytes. IsImaged (shape_of types.now (InterfaceType.Tuple tuple)) (Val.Tuple values) (Ok bytes)) }
+    ensures { IfOk result (λ bytes. IsListedImage list.old.items list.new.items (shape_of types.now (InterfaceType.Tuple tuple)) (Val.Tuple values) bytes.items) }
 {
-    image(
+    image_with_resources(
         alloc,
         types,
         &InterfaceType::Tuple(tuple),
         &Val::Tuple(values),
+        list,
     )
 }

@@ -9,6 +9,7 @@ mod command;
 mod errors;
 mod images;
 mod imports;
+mod resources;
 mod serving;
 mod session;
 

@@ -3,9 +3,9 @@
 ghost use Rattle.std.specs.Prelude.{◌≡◌, IfSome, IsNone};
 ghost use Rattle.canon_relay.specs.Channel.{AddsMessages};
 ghost use Rattle.canon_relay.specs.Relay.{PassesMessages};
-ghost use Rattle.canon_serve.specs.Carries.{CarriesOutCommand};
+ghost use Rattle.canon_serve.specs.Carries.{CarriesOutCommand, session};
 ghost use Rattle.canon_serve.specs.Messages.{answer_messages};
-ghost use Rattle.canon_serve.specs.Sessions.{CutsCommand, EndsSession, EndsUnbegun, IsSession, IsUnheardEnd, ServesOne, ServesUntil, ToldOrCut};
+ghost use Rattle.canon_serve.specs.Sessions.{CutsCommand, EndsSession, EndsUnbegun, IsSession, ServesOne, ServesUntil, ToldOrCut, unheard_end};
 
 use crate::answer::{Answer, Senseless, tell_answer};
 use crate::begin::{NoStore, store_of};
@@ -13,6 +13,7 @@ use crate::command::{Command, Unheard, hear_command};
 use crate::session::{EngineStore, carry_out};
 use canon_func::Error;
 use canon_relay::Channel;
+use canon_resources::ResourceAny;
 use canon_value::Fault;
 use std::alloc::Global;
 
@@ -56,12 +57,13 @@ pub fn serve<E: Channel + Drop, H: Channel + Drop, P: Channel>(
     if !tell_answer(alloc, caller, &answer) {
         return End::Broken;
     }
-    serve_store(alloc, &mut store, caller)
+    let mut list = Vec::new(alloc);
+    serve_store(alloc, &mut store, &mut list, caller)
 }
 
 /// How a session ends in which nothing more was heard.
 fn unheard(why: Unheard) -> End
-    ensures { IsUnheardEnd result }
+    ensures { result ≡ unheard_end why }
 {
     match why {
         Unheard::Broken => End::Broken,
@@ -101,12 +103,13 @@ fn end_unbegun<P: Channel>(alloc: Global, caller: &mut P, why: NoStore) -> End
 fn serve_store<E: Channel, H: Channel, P: Channel>(
     alloc: Global,
     store: &mut EngineStore<E, H>,
+    list: &mut Vec<ResourceAny>,
     caller: &mut P,
 ) -> End
-    ensures { ServesUntil E.log (P.log caller.old) (P.log caller.new) store.old result }
+    ensures { ServesUntil E.log (P.log caller.old) (P.log caller.new) (session store.old list.old.items) result }
 {
     for _ in 0..u64::MAX {
-        if let Some(end) = serve_next(alloc, store, caller) {
+        if let Some(end) = serve_next(alloc, store, list, caller) {
             return end;
         }
     }
@@ -117,10 +120,11 @@ fn serve_store<E: Channel, H: Channel, P: Channel>(
 fn serve_next<E: Channel, H: Channel, P: Channel>(
     alloc: Global,
     store: &mut EngineStore<E, H>,
+    list: &mut Vec<ResourceAny>,
     caller: &mut P,
 ) -> Option<End>
-    ensures one { IsNone result → ServesOne E.log (P.log caller.old) (P.log caller.new) store.old store.new }
-    ensures ends { IfSome result (λ why. PassesMessages (P.log caller.old) (P.log caller.new) (EndsSession E.log why store.old)) }
+    ensures one { IsNone result → ServesOne E.log (P.log caller.old) (P.log caller.new) (session store.old list.old.items) (session store.new list.new.items) }
+    ensures ends { IfSome result (λ why. PassesMessages (P.log caller.old) (P.log caller.new) (EndsSession E.log why (session store.old list.old.items))) }
 {
     let command = match hear_command(alloc, caller) {
         Ok(command) => command,
@@ -128,7 +132,7 @@ fn serve_next<E: Channel, H: Channel, P: Channel>(
     };
     match command {
         Command::End => Some(End::Asked),
-        _ => serve_command(alloc, store, caller, &command),
+        _ => serve_command(alloc, store, list, caller, &command),
     }
 }
 
@@ -136,13 +140,14 @@ fn serve_next<E: Channel, H: Channel, P: Channel>(
 fn serve_command<E: Channel, H: Channel, P: Channel>(
     alloc: Global,
     store: &mut EngineStore<E, H>,
+    list: &mut Vec<ResourceAny>,
     caller: &mut P,
     command: &Command,
 ) -> Option<End>
-    ensures served { IsNone result → (a : Answer) × CarriesOutCommand E.log command.now store.old store.new a × AddsMessages (P.log caller.old) (P.log caller.new) (answer_messages a) }
-    ensures cut { IfSome result (λ why. CutsCommand E.log why command.now store.old store.new (P.log caller.old) (P.log caller.new)) }
+    ensures served { IsNone result → (a : Answer) × CarriesOutCommand E.log command.now (session store.old list.old.items) (session store.new list.new.items) a × AddsMessages (P.log caller.old) (P.log caller.new) (answer_messages a) }
+    ensures cut { IfSome result (λ why. CutsCommand E.log why command.now (session store.old list.old.items) (session store.new list.new.items) (P.log caller.old) (P.log caller.new)) }
 {
-    match carry_out(alloc, store, command) {
+    match carry_out(alloc, store, list, command) {
         Ok(answer) => {
             if tell_answer(alloc, caller, &answer) {
                 None

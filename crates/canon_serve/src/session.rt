@@ -1,42 +1,46 @@
-//! Carries out a command in a store.
+//! Carries out a command in a store, with the list of the resources that were made or answered so far.
 
 ghost use Rattle.std.specs.Prelude.{◌≡◌, ◌⊎◌, IfOk, IfSome, IsNone, IsSome, List, Ok, OnErr, length, map};
 ghost use Rattle.canon_types.specs.Table.{types_of};
 ghost use Rattle.canon_func.specs.Stores.{IsOwned, type_of};
 ghost use Rattle.canon_context.specs.Core.{component_types};
-ghost use Rattle.canon_plan.specs.NoHandle.{has_no_handle};
 ghost use Rattle.canon_relay.specs.Wire.{number_bytes};
-ghost use Rattle.canon_serve.specs.Carries.{AnswersCall, AnswersShort, CalledAt, CalledBy, CallsExport, CallsShort, CarriesOutCommand, HasExport, IsDone, IsReadParams, IsSenseless, TellsCall, export_named, mark_byte, results_tuple_shape, without_marks};
+ghost use Rattle.canon_serve.specs.Carries.{AnswersCall, AnswersShort, ByNumbers, CalledAt, CalledBy, CallsExport, CallsShort, CarriesOutCommand, HasExport, IsDone, IsReadParams, IsSenseless, NumberedShort, TellsCall, are_listed, export_named, mark_byte, results_tuple_shape, session, without_marks};
 
 use crate::answer::{Answer, Senseless};
 use crate::command::Command;
-use crate::images::{image_values, read_values};
+use crate::images::{image_values, read_numbered_values};
 use crate::imports::ChannelImports;
+use crate::resources::{drop_listed, new_resource};
 use canon_func::{Error, Func, Store};
 use canon_image::ImageError;
+use canon_literals::{are_known, with_resources};
 use canon_memory::{AnswerMark, Watched};
-use canon_plan::has_no_handle;
 use canon_relay::{Channel, Relay, put_number};
-use canon_types::{ExportIndex, InterfaceType, OutOfMemory};
+use canon_resources::ResourceAny;
+use canon_types::{ExportIndex, OutOfMemory};
 use canon_value::Val;
 use std::alloc::Global;
 
 /// A store whose code runs in an engine, whose imports are served over a channel, and each of whose answers of `realloc` is tested.
 pub type EngineStore<E, H> = Store<H, Watched<Relay<E>>, ChannelImports>;
 
-/// Carries out a command.
+/// Carries out a command. A number of a resource is its place in the list, at whose end those are added that are made or answered.
 pub fn carry_out<E: Channel, H: Channel>(
     alloc: Global,
     store: &mut EngineStore<E, H>,
+    list: &mut Vec<ResourceAny>,
     command: &Command,
 ) -> Result<Answer, OutOfMemory>
-    ensures done { IfOk result (λ answer. CarriesOutCommand E.log command.now store.old store.new answer) }
-    ensures short { OnErr result (AnswersShort E.log command.now store.old store.new) }
+    ensures done { IfOk result (λ answer. CarriesOutCommand E.log command.now (session store.old list.old.items) (session store.new list.new.items) answer) }
+    ensures short { OnErr result (AnswersShort E.log command.now (session store.old list.old.items) (session store.new list.new.items)) }
 {
     match command {
-        Command::Call { export, params } => call(alloc, store, *export, params),
+        Command::Call { export, params } => call(alloc, store, list, *export, params),
         Command::Live => live(alloc, store),
         Command::Marks => marks(alloc, store),
+        Command::Drop { number } => Ok(drop_listed(alloc, store, list, *number)),
+        Command::New { ty, rep } => new_resource(alloc, store, list, *ty, *rep),
         _ => Ok(Answer::Senseless(Senseless::NoCommand)),
     }
 }
@@ -45,16 +49,17 @@ pub fn carry_out<E: Channel, H: Channel>(
 fn call<E: Channel, H: Channel>(
     alloc: Global,
     store: &mut EngineStore<E, H>,
+    list: &mut Vec<ResourceAny>,
     export: u64,
     params: &[u8],
 ) -> Result<Answer, OutOfMemory>
-    ensures called { IfOk result (λ answer. CalledAt E.log export params.now store.old store.new answer) }
-    ensures short { OnErr result (CallsShort E.log (export_named E.log store.old export) params.now store.old store.new) }
+    ensures called { IfOk result (λ answer. CalledAt E.log export params.now (session store.old list.old.items) (session store.new list.new.items) answer) }
+    ensures short { OnErr result (CallsShort E.log (export_named E.log store.old export) params.now (session store.old list.old.items) (session store.new list.new.items)) }
 {
     let Some(func) = func_of(store, export) else {
         return Ok(Answer::Senseless(Senseless::NoExport));
     };
-    call_func(alloc, store, &func, params)
+    call_func(alloc, store, list, &func, params)
 }
 
 /// The function of an export.
@@ -78,30 +83,40 @@ fn func_of<E: Channel, H: Channel>(store: &EngineStore<E, H>, export: u64) -> Op
 fn call_func<E: Channel, H: Channel>(
     alloc: Global,
     store: &mut EngineStore<E, H>,
+    list: &mut Vec<ResourceAny>,
     func: &Func,
     params: &[u8],
 ) -> Result<Answer, OutOfMemory>
     requires { IsOwned store.old func.now }
-    ensures called { IfOk result (λ answer. IfSome (type_of store.old func.now) (λ t. CalledBy E.log func.now t params.now store.old store.new answer (has_no_handle (results_tuple_shape E.log store.old t)))) }
-    ensures short { OnErr result (CallsShort E.log func.now params.now store.old store.new) }
+    ensures called { IfOk result (λ answer. IfSome (type_of store.old func.now) (λ t. CalledBy E.log func.now t params.now (session store.old list.old.items) (session store.new list.new.items) answer)) }
+    ensures short { OnErr result (CallsShort E.log func.now params.now (session store.old list.old.items) (session store.new list.new.items)) }
 {
-    if !results_have_images(store, func) {
-        return Ok(Answer::Senseless(Senseless::HasHandle));
-    }
     match params_of(alloc, store, func, params) {
-        Ok((params, slots)) => call_with(alloc, store, func, &params, slots),
+        Ok((given, slots)) => call_numbered(alloc, store, list, func, &given, slots),
         Err(error) => senseless(error),
     }
 }
 
-/// Whether the results of a function reach no handle.
-fn results_have_images<E: Channel, H: Channel>(store: &EngineStore<E, H>, func: &Func) -> bool
-    requires { IsOwned store.now func.now }
-    ensures { IfSome (type_of store.now func.now) (λ t. result ≡ has_no_handle (results_tuple_shape E.log store.now t)) }
+/// Calls a function with the resources of the list in the place of the numbers among these parameters.
+fn call_numbered<E: Channel, H: Channel>(
+    alloc: Global,
+    store: &mut EngineStore<E, H>,
+    list: &mut Vec<ResourceAny>,
+    func: &Func,
+    given: &[Val],
+    slots: usize,
+) -> Result<Answer, OutOfMemory>
+    requires owned { IsOwned store.old func.now }
+    requires slots { IfSome (type_of store.old func.now) (λ t. slots ≡ length (types_of (component_types store.old.core) t.results)) }
+    ensures called { IfOk result (λ answer. IfSome (type_of store.old func.now) (λ t. ByNumbers E.log func.now t given.now (session store.old list.old.items) (session store.new list.new.items) answer (are_listed list.old.items given.now))) }
+    ensures short { OnErr result (NumberedShort E.log func.now given.now slots (session store.old list.old.items) (session store.new list.new.items)) }
 {
-    let ty = func.ty(store);
-    let types = store.core().component().types.types();
-    has_no_handle(types, &InterfaceType::Tuple(ty.results))
+    let known = are_known(alloc, given, list.len())?;
+    if !known {
+        return Ok(Answer::Senseless(Senseless::NoResource));
+    }
+    let params = with_resources(alloc, given, list)?;
+    call_with(alloc, store, list, func, &params, slots)
 }
 
 /// The parameters of an image, and how many results there are.
@@ -116,7 +131,7 @@ fn params_of<E: Channel, H: Channel>(
 {
     let ty = func.ty(store);
     let types = store.core().component().types.types();
-    let params = read_values(alloc, types, ty.params, bytes)?;
+    let params = read_numbered_values(alloc, types, ty.params, bytes)?;
     Ok((params, types.tuple(ty.results).types.len()))
 }
 
@@ -127,8 +142,10 @@ fn senseless(error: ImageError) -> Result<Answer, OutOfMemory>
     match error {
         ImageError::Truncated(place) | ImageError::Malformed(place) | ImageError::Trailing(place) =>
             Ok(Answer::Senseless(Senseless::NoImage(place))),
-        ImageError::Resource => Ok(Answer::Senseless(Senseless::HasHandle)),
-        ImageError::NotOfType(_) | ImageError::OutOfMemory => Err(OutOfMemory),
+        // No type is refused, and no value asked for.
+        ImageError::Resource | ImageError::NotOfType(_) | ImageError::OutOfMemory => Err(
+            OutOfMemory,
+        ),
     }
 }
 
@@ -136,18 +153,19 @@ fn senseless(error: ImageError) -> Result<Answer, OutOfMemory>
 fn call_with<E: Channel, H: Channel>(
     alloc: Global,
     store: &mut EngineStore<E, H>,
+    list: &mut Vec<ResourceAny>,
     func: &Func,
     params: &[Val],
     slots: usize,
 ) -> Result<Answer, OutOfMemory>
     requires owned { IsOwned store.old func.now }
     requires slots { IfSome (type_of store.old func.now) (λ t. slots ≡ length (types_of (component_types store.old.core) t.results)) }
-    ensures called { IfOk result (λ answer. IfSome (type_of store.old func.now) (λ t. AnswersCall E.log func.now t params.now store.old store.new answer)) }
-    ensures short { OnErr result ((store.new ≡ store.old) ⊎ ((results : List Val) × CallsExport E.log func.now params.now slots store.old store.new (Ok tt) results)) }
+    ensures called { IfOk result (λ answer. IfSome (type_of store.old func.now) (λ t. AnswersCall E.log func.now t params.now (session store.old list.old.items) (session store.new list.new.items) answer)) }
+    ensures short { OnErr result ((session store.new list.new.items ≡ session store.old list.old.items) ⊎ ((results : List Val) × CallsExport E.log func.now params.now slots store.old store.new (Ok tt) results)) }
 {
     let mut results = slots_of(alloc, slots)?;
     match enter(alloc, store, func, params, &mut results) {
-        Ok(()) => results_of(alloc, store, func, results),
+        Ok(()) => results_of(alloc, store, list, func, results),
         Err(error) => Ok(Answer::Refused(error)),
     }
 }
@@ -177,19 +195,20 @@ fn slots_of(alloc: Global, slots: usize) -> Result<Vec<Val>, OutOfMemory>
     Ok(results)
 }
 
-/// The answer of a call that gave these results.
+/// The answer of a call that gave these results, whose resources are added to the list.
 fn results_of<E: Channel, H: Channel>(
     alloc: Global,
     store: &EngineStore<E, H>,
+    list: &mut Vec<ResourceAny>,
     func: &Func,
     results: Vec<Val>,
 ) -> Result<Answer, OutOfMemory>
     requires { IsOwned store.now func.now }
-    ensures { IfOk result (λ answer. IfSome (type_of store.now func.now) (λ t. TellsCall (results_tuple_shape E.log store.now t) (Ok tt) results.items answer)) }
+    ensures { IfOk result (λ answer. IfSome (type_of store.now func.now) (λ t. TellsCall (results_tuple_shape E.log store.now t) (Ok tt) results.items list.old.items list.new.items answer)) }
 {
     let ty = func.ty(store);
     let types = store.core().component().types.types();
-    match image_values(alloc, types, ty.results, results) {
+    match image_values(alloc, types, ty.results, results, list) {
         Ok(bytes) => Ok(Answer::Done(bytes)),
         Err(_) => Err(OutOfMemory),
     }

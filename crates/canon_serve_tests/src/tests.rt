@@ -67,12 +67,23 @@ fn run(alloc: Global, engine: &[Line], host: &[Line], caller: &[Line]) -> Option
     if dialogue.is_done() { Some(end) } else { None }
 }
 
-/// The same after the component began, each byte of whose memory is watched, and where the caller ends the session after these lines.
+/// The same after the component began, and where the caller ends the session after these lines.
 fn play(alloc: Global, engine: &[Line], host: &[Line], caller: &[Line]) -> Option<End> {
-    let begin = [1, 1, 0, COMPONENT.len() as u64];
+    play_in(alloc, COMPONENT, engine, host, caller)
+}
+
+/// The same of another component, each byte of whose memory is watched.
+fn play_in(
+    alloc: Global,
+    component: &'static str,
+    engine: &[Line],
+    host: &[Line],
+    caller: &[Line],
+) -> Option<End> {
+    let begin = [1, 1, 0, component.len() as u64];
     let begun = [
         Line::Command(begin),
-        Line::SaysBytes(COMPONENT.as_bytes()),
+        Line::SaysBytes(component.as_bytes()),
         DONE,
     ];
     let instantiated = [
@@ -228,8 +239,8 @@ fn a_memory_that_grew_is_lent_again(rt: HostRuntime) {
     assert!(rt; grown(rt.alloc()) == Some(End::Asked));
 }
 
-/// Export 0 makes a resource of representation 5, whose handle is the first of the table, and lives after the call. No export gives a handle to
-/// the caller.
+/// Export 0 makes a resource of representation 5, whose handle is the first of the table, and lives after the call. Export 2 gives it to the
+/// caller, for whom it is number 0.
 fn made(alloc: Global) -> Option<End> {
     let [start, lent] = STARTED;
     let engine = [
@@ -239,6 +250,9 @@ fn made(alloc: Global) -> Option<End> {
         Line::Told(&[1, 0, 0, 0, 0, 64, 1, 1]),
         LENT,
         Line::Replies([0, 0, 0, 1, 9]),
+        Line::Told(&[0, 2, 0, 0, 0, 64, 0]),
+        LENT,
+        Line::Replies([0, 0, 0, 1, 1]),
     ];
     let [call, number] = NUMBER;
     let caller = [
@@ -250,7 +264,8 @@ fn made(alloc: Global) -> Option<End> {
         Line::Answer([7, 0, 0, 0, 0, 0, 0, 8]),
         Line::ToldBytes(&[1, 0, 0, 0, 0, 0, 0, 0]),
         Line::Command([2, 2, 0, 0]),
-        Line::Answer([7, 2, 4, 0, 0, 0, 0, 0]),
+        Line::Answer([7, 0, 0, 0, 0, 0, 0, 4]),
+        Line::ToldBytes(&[0, 0, 0, 0]),
     ];
     play(alloc, &engine, &[], &caller)
 }
@@ -393,6 +408,118 @@ fn no_more_asks_are_served_than_a_call_has(rt: HostRuntime) {
     assert!(rt; asked_thrice(rt.alloc()));
 }
 
+/// Export 0 goes from an own handle of a resource of the host to one, and export 1 takes a borrow. Import 0 drops a handle.
+const LENDING: &str =
+    r#"{"memory": 64, "heap": 0, "turns": 2, "handles": 8, "resources": [{"kind": "dynamic", "id": 3}],
+ "types": [{"own": 0}, {"borrow": 0}], "funcs": [{"params": [0], "results": [0]}, {"params": [1], "results": []}],
+ "imports": [{"builtin": "drop", "resource": 0}]}"#;
+
+/// The caller makes a resource of type 3 and representation 5, whose number is this.
+fn new_number(number: &'static [u8]) -> [Line; 3] {
+    [
+        Line::Command([6, 3, 5, 0]),
+        Line::Answer([7, 0, 0, 0, 0, 0, 0, 8]),
+        Line::ToldBytes(number),
+    ]
+}
+
+/// The caller asks how many handles live.
+fn living(count: &'static [u8]) -> [Line; 3] {
+    [
+        LIVE,
+        Line::Answer([7, 0, 0, 0, 0, 0, 0, 8]),
+        Line::ToldBytes(count),
+    ]
+}
+
+const ZERO: &[u8] = &[0, 0, 0, 0, 0, 0, 0, 0];
+
+const ONE: &[u8] = &[1, 0, 0, 0, 0, 0, 0, 0];
+
+/// The caller calls an export with the number of a resource.
+fn call_with(export: u64, number: &'static [u8]) -> [Line; 2] {
+    [Line::Command([2, export, 0, 4]), Line::SaysBytes(number)]
+}
+
+/// The engine is asked for export 1 with handle 1, which it drops before it returns.
+const BORROWED: [Line; 6] = [
+    Line::Told(&[0, 1, 0, 0, 0, 64, 1, 1]),
+    LENT,
+    Line::Replies([1, 0, 0, 1, 1]),
+    Line::Told(&[1, 0, 0, 0, 0, 64, 1, 0]),
+    LENT,
+    Line::Replies([0, 0, 0, 0, 0]),
+];
+
+/// The engine is asked for export 0 with handle 1, and gives it back.
+const GIVEN_BACK: [Line; 3] = [
+    Line::Told(&[0, 0, 0, 0, 0, 64, 1, 1]),
+    LENT,
+    Line::Replies([0, 0, 0, 1, 1]),
+];
+
+/// A resource is made, lent to a call, given to another, given back as number 1, and dropped.
+fn lent_and_given(alloc: Global) -> Option<End> {
+    let engine = joined(alloc, &BORROWED, &GIVEN_BACK)?;
+    let made = joined(alloc, &new_number(ZERO), &living(ONE))?;
+    let lent = joined(alloc, &call_with(1, &[0, 0, 0, 0]), &[DONE])?;
+    let given = joined(
+        alloc,
+        &call_with(0, &[0, 0, 0, 0]),
+        &[
+            Line::Answer([7, 0, 0, 0, 0, 0, 0, 4]),
+            Line::ToldBytes(&[1, 0, 0, 0]),
+        ],
+    )?;
+    let dropped = joined(alloc, &[Line::Command([5, 1, 0, 0]), DONE], &living(ZERO))?;
+    let caller = joined(alloc, &made, &lent)?;
+    let caller = joined(alloc, &caller, &given)?;
+    let caller = joined(alloc, &caller, &dropped)?;
+    play_in(alloc, LENDING, &engine, &[], &caller)
+}
+
+#[test]
+fn a_resource_is_lent_and_given_and_dropped(rt: HostRuntime) {
+    assert!(rt; lent_and_given(rt.alloc()) == Some(End::Asked));
+}
+
+/// A number that was given away is refused as `HostDeallocated`, since its handle has the place of the one that was given back; one that was
+/// dropped as `UnknownHandle`, by that place, and one that there isn't as senseless. The engine isn't asked for them.
+fn gone(alloc: Global) -> Option<End> {
+    let given = joined(
+        alloc,
+        &call_with(0, &[0, 0, 0, 0]),
+        &[
+            Line::Answer([7, 0, 0, 0, 0, 0, 0, 4]),
+            Line::ToldBytes(&[1, 0, 0, 0]),
+        ],
+    )?;
+    let dropped = [Line::Command([5, 1, 0, 0]), DONE];
+    let [again, number] = call_with(0, &[0, 0, 0, 0]);
+    let [none, other] = call_with(0, &[2, 0, 0, 0]);
+    let refused = [
+        again,
+        number,
+        Line::Answer([7, 1, 49, 0, 0, 0, 0, 0]),
+        Line::Command([5, 1, 0, 0]),
+        Line::Answer([7, 1, 40, 0, 0, 0, 1, 0]),
+        none,
+        other,
+        Line::Answer([7, 2, 4, 0, 0, 0, 0, 0]),
+        Line::Command([5, 2, 0, 0]),
+        Line::Answer([7, 2, 4, 0, 0, 0, 0, 0]),
+    ];
+    let caller = joined(alloc, &new_number(ZERO), &given)?;
+    let caller = joined(alloc, &caller, &dropped)?;
+    let caller = joined(alloc, &caller, &refused)?;
+    play_in(alloc, LENDING, &GIVEN_BACK, &[], &caller)
+}
+
+#[test]
+fn a_resource_that_is_gone_is_refused(rt: HostRuntime) {
+    assert!(rt; gone(rt.alloc()) == Some(End::Asked));
+}
+
 /// Of these commands nothing is done, so that the engine isn't asked, and the session goes on.
 fn senseless(alloc: Global) -> Option<End> {
     let caller = [
@@ -410,7 +537,13 @@ fn senseless(alloc: Global) -> Option<End> {
         Line::Command([1, 0, 0, 2]), // it began already
         Line::SaysBytes(&[123, 125]),
         Line::Answer([7, 2, 1, 0, 0, 0, 0, 0]),
-        Line::Command([5, 0, 0, 0]), // there is no such command
+        Line::Command([5, 0, 0, 0]), // there is no such resource
+        Line::Answer([7, 2, 4, 0, 0, 0, 0, 0]),
+        Line::Command([6, 1 << 32, 0, 0]), // a type has 32 bits
+        Line::Answer([7, 2, 7, 0, 0, 0, 0, 0]),
+        Line::Command([6, 0, 1 << 32, 0]), // and so has a representation
+        Line::Answer([7, 2, 7, 0, 0, 0, 0, 0]),
+        Line::Command([7, 0, 0, 0]), // there is no such command
         Line::Answer([7, 2, 1, 0, 0, 0, 0, 0]),
     ];
     play(alloc, &[], &[], &caller)

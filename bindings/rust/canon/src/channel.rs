@@ -26,6 +26,7 @@ pub(crate) struct Answer {
 pub(crate) struct Command {
     pub what: u64,
     pub operand: u64,
+    pub second: u64,
     pub bytes: Vec<u8>,
 }
 
@@ -213,13 +214,15 @@ impl Session {
         let Command {
             what,
             operand,
+            second,
             bytes,
         } = command.unwrap_or(Command {
             what: 0,
             operand: 0,
+            second: 0,
             bytes: Vec::new(),
         });
-        self.says(&[what, operand, 0, bytes.len() as u64], &bytes);
+        self.says(&[what, operand, second, bytes.len() as u64], &bytes);
     }
 
     /// Gives the library what it hears, and answers how many bytes that was.

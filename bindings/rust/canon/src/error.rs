@@ -12,8 +12,8 @@ pub enum Error {
     NoExport,
     /// The bytes are no image of the parameters: so many of them are well formed.
     NoImage(u64),
-    /// The types of the parameters or the results reach a handle.
-    HasHandle,
+    /// A resource among the parameters, or the one that is to be dropped, isn't one of the store.
+    NoResource,
     /// The bytes are no component.
     NoComponent,
     /// The command makes no sense here.
@@ -148,7 +148,7 @@ impl fmt::Display for Error {
             Error::Refused(refusal) => write!(f, "refused {refusal}"),
             Error::NoExport => f.write_str("senseless, no such export"),
             Error::NoImage(at) => write!(f, "senseless, no image of the parameters @{at}"),
-            Error::HasHandle => f.write_str("senseless, a type that reaches a handle"),
+            Error::NoResource => f.write_str("senseless, no such resource"),
             Error::NoComponent => f.write_str("senseless, no component"),
             Error::NoCommand => f.write_str("senseless, no such command"),
             Error::TooLong => f.write_str("senseless, too many bytes"),

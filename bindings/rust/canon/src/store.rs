@@ -5,7 +5,7 @@ use crate::component::Component;
 use crate::engine::{Engine, Host};
 use crate::error::{Error, Refusal};
 use crate::types::Function;
-use crate::value::{image, read_image, Value};
+use crate::value::{image, read_image, Resource, Value};
 use std::sync::mpsc::{channel, Receiver, Sender};
 use std::thread::{Builder, JoinHandle};
 
@@ -16,6 +16,8 @@ const BEGIN: u64 = 1;
 const CALL: u64 = 2;
 const LIVE: u64 = 3;
 const MARKS: u64 = 4;
+const DROP: u64 = 5;
+const NEW: u64 = 6;
 
 /// What the library found of an answer of `realloc`.
 #[derive(Clone, Copy, Debug, PartialEq, Eq)]
@@ -46,7 +48,7 @@ fn bytes_of(answer: Option<Answer>) -> Result<Vec<u8>, Error> {
         _ => Err(match error {
             2 => Error::NoExport,
             3 => Error::NoImage(place),
-            4 => Error::HasHandle,
+            4 => Error::NoResource,
             5 => Error::NoComponent,
             _ => Error::NoCommand,
         }),
@@ -57,7 +59,24 @@ fn begin(component: &Component) -> Command {
     Command {
         what: BEGIN,
         operand: u64::from(component.watched),
+        second: 0,
         bytes: component.json().into_bytes(),
+    }
+}
+
+fn asks(what: u64, operand: u32, bytes: Vec<u8>) -> Command {
+    Command {
+        what,
+        operand: u64::from(operand),
+        second: 0,
+        bytes,
+    }
+}
+
+fn makes(ty: u32, rep: u32) -> Command {
+    Command {
+        second: u64::from(rep),
+        ..asks(NEW, ty, Vec::new())
     }
 }
 
@@ -84,6 +103,11 @@ fn number_of(bytes: &[u8]) -> Result<u64, Error> {
         .try_into()
         .map(u64::from_le_bytes)
         .map_err(|_| Error::Over)
+}
+
+fn resource_of(bytes: &[u8]) -> Result<Resource, Error> {
+    let number = u32::try_from(number_of(bytes)?).map_err(|_| Error::Over)?;
+    Ok(Resource(number))
 }
 
 fn export(component: &Component, export: u32) -> Result<&Function, Error> {
@@ -137,15 +161,9 @@ impl Store {
         Ok(store)
     }
 
-    fn carry_out(&mut self, what: u64, operand: u64, bytes: Vec<u8>) -> Result<Vec<u8>, Error> {
+    fn carry_out(&mut self, command: Command) -> Result<Vec<u8>, Error> {
         let commands = self.commands.as_ref().ok_or(Error::Over)?;
-        commands
-            .send(checked(Command {
-                what,
-                operand,
-                bytes,
-            })?)
-            .map_err(|_| Error::Over)?;
+        commands.send(checked(command)?).map_err(|_| Error::Over)?;
         bytes_of(self.answers.recv().map_err(|_| Error::Over)?)
     }
 
@@ -161,17 +179,28 @@ impl Store {
 
     /// Calls an export with the image of its parameters, and gives that of its results.
     pub fn call_image(&mut self, number: u32, params: Vec<u8>) -> Result<Vec<u8>, Error> {
-        self.carry_out(CALL, u64::from(number), params)
+        self.carry_out(asks(CALL, number, params))
     }
 
     /// How many handles live.
     pub fn live_handles(&mut self) -> Result<u64, Error> {
-        number_of(&self.carry_out(LIVE, 0, Vec::new())?)
+        number_of(&self.carry_out(asks(LIVE, 0, Vec::new()))?)
     }
 
     /// A mark for each answer of `realloc` since this was asked last.
     pub fn marks(&mut self) -> Result<Vec<Mark>, Error> {
-        Ok(marks_of(&self.carry_out(MARKS, 0, Vec::new())?))
+        Ok(marks_of(&self.carry_out(asks(MARKS, 0, Vec::new()))?))
+    }
+
+    /// Makes a resource of the host, of the type of this number and with this representation.
+    pub fn new_resource(&mut self, ty: u32, rep: u32) -> Result<Resource, Error> {
+        resource_of(&self.carry_out(makes(ty, rep))?)
+    }
+
+    /// Drops a resource. Its destructor runs.
+    pub fn drop_resource(&mut self, resource: Resource) -> Result<(), Error> {
+        self.carry_out(asks(DROP, resource.0, Vec::new()))?;
+        Ok(())
     }
 }
 
@@ -193,6 +222,9 @@ pub enum Do {
     CallImage(u32, Vec<u8>),
     LiveHandles,
     Marks,
+    /// A resource of the host, of the type of this number and with this representation.
+    NewResource(u32, u32),
+    DropResource(Resource),
 }
 
 /// What came of it.
@@ -204,24 +236,22 @@ pub enum Done {
     CalledImage(Vec<u8>),
     LiveHandles(u64),
     Marks(Vec<Mark>),
+    MadeResource(Resource),
+    DroppedResource,
 }
 
 /// The command for what is asked for, or why there is none.
 fn command_of(component: &Component, asked: &Do) -> Result<Command, Error> {
-    let (what, operand, bytes) = match asked {
-        Do::Call(number, params) => (
-            CALL,
-            *number,
-            image(&export(component, *number)?.params, params)?,
-        ),
-        Do::CallImage(number, params) => (CALL, *number, params.clone()),
-        Do::LiveHandles => (LIVE, 0, Vec::new()),
-        Do::Marks => (MARKS, 0, Vec::new()),
-    };
-    checked(Command {
-        what,
-        operand: u64::from(operand),
-        bytes,
+    checked(match asked {
+        Do::Call(number, params) => {
+            let params = image(&export(component, *number)?.params, params)?;
+            asks(CALL, *number, params)
+        }
+        Do::CallImage(number, params) => asks(CALL, *number, params.clone()),
+        Do::LiveHandles => asks(LIVE, 0, Vec::new()),
+        Do::Marks => asks(MARKS, 0, Vec::new()),
+        Do::NewResource(ty, rep) => makes(*ty, *rep),
+        Do::DropResource(resource) => asks(DROP, resource.0, Vec::new()),
     })
 }
 
@@ -234,6 +264,8 @@ fn done_of(component: &Component, asked: Option<&Do>, bytes: Vec<u8>) -> Result<
         Some(Do::CallImage(..)) => Done::CalledImage(bytes),
         Some(Do::LiveHandles) => Done::LiveHandles(number_of(&bytes)?),
         Some(Do::Marks) => Done::Marks(marks_of(&bytes)),
+        Some(Do::NewResource(..)) => Done::MadeResource(resource_of(&bytes)?),
+        Some(Do::DropResource(_)) => Done::DroppedResource,
     })
 }
 
