@@ -26,7 +26,7 @@ use Rattle.canon_host.specs.Asked.{AreEnough, row_words}
 use Rattle.canon_host.specs.Forms.{in_view}
 use Rattle.canon_host.specs.HostSide.{Answering, LoggedEntry, HostSide, host_side}
 use Rattle.canon_host.specs.Imports.{ServesLogged}
-use Rattle.canon_host.specs.Serves.{AnswersBy, ConcludesBy, EndsAsk, IsNoPlace, IsResultPlace, IsTold, Lowers, ServesBy, Steps, Values, left_from, stopped}
+use Rattle.canon_host.specs.Serves.{AnswersBy, ConcludesBy, EndsAsk, IsNoPlace, IsResultPlace, WasToldPlace, Lowers, ServesBy, Steps, Values, left_from, stopped}
 use Rattle.canon_host.specs.declared.asked.Asked.{Asked}
 use Rattle.canon_host.specs.declared.error.HostError.{HostError}
 use Rattle.canon_host.specs.declared.error.HostError.TheVariants as host
@@ -117,9 +117,9 @@ module _ {T G P S : Type 0} (its : AskForm T) (sound : AskSound its) (seen : G �
   left_is : (s : T) (l : LedgerState) (at : ℕ) (left : Parts T G) (e : Left s l at left) → left ≡ record a { guest = left.guest; state = s; ledger = leave e.1.0.ledger }
   left_is s l at left (placed, (ended, ends, told)) = told.same ∙ ap (λ (k : Parts T G). record k { guest = left.guest; ledger = leave ended.ledger }) ends.1
 
-  is_told : (s : T) (l : LedgerState) (at : ℕ) (left : Parts T G) (e : Left s l at left) → IsTold seen moves asked (with_host s (leave e.1.0.ledger)) at (record a { guest = left.guest; state = s; ledger = leave e.1.0.ledger })
+  is_told : (s : T) (l : LedgerState) (at : ℕ) (left : Parts T G) (e : Left s l at left) → WasToldPlace seen moves asked (with_host s (leave e.1.0.ledger)) at (record a { guest = left.guest; state = s; ledger = leave e.1.0.ledger })
   is_told s l at left (placed, (ended, ends, told)) =
-      subst₂ (λ (x y : Parts T G). IsTold seen moves asked x at y) (ap (λ (k : Parts T G). left_from k) ends.1) (left_is s l at left (placed, (ended, ends, told))) told
+      subst₂ (λ (x y : Parts T G). WasToldPlace seen moves asked x at y) (ap (λ (k : Parts T G). left_from k) ends.1) (left_is s l at left (placed, (ended, ends, told))) told
 
   tells_so : (s : T) (l : LedgerState) (at : ℕ) (left : Parts T G) (e : Left s l at left) → IsToldPlace callee asked at (seen a.guest) (seen left.guest)
   tells_so s l at left e = record { near = λ near. ap seen ((is_told s l at left e).near near); far = λ far. (is_told s l at left e).far far }

@@ -33,7 +33,7 @@ use Rattle.canon_val.specs.declared.val.Val.{Val}
 use Rattle.canon_val.specs.declared.val.Val.TheVariants as val
 use Rattle.canon_value_parts.proofs.Values.{have_count}
 use Rattle.canon_host.specs.Asked.{RestStays, row_words}
-use Rattle.canon_host.specs.Serves.{Answers, AnswersBy, AskValues, Calling, CallsFunction, CallsBlank, ConcludesAsk, ConcludesBy, EndingRelation, Ends, EndsAsk, AnswersInRow, IsResultPlace, IsTold, IsUntold, LiftsAsked, LoweringRelation, LowersGiven, Serves, ServesBy, ServesEntered, ServesEnteredBy, Steps, Tells, Values, left_from, blank, value_steps, params_and_results}
+use Rattle.canon_host.specs.Serves.{Answers, AnswersBy, AskValues, Calling, CallsFunction, CallsBlank, ConcludesAsk, ConcludesBy, EndingRelation, Ends, EndsAsk, AnswersInRow, IsResultPlace, WasToldPlace, WasNotTold, LiftsAsked, LoweringRelation, LowersGiven, Serves, ServesBy, ServesEntered, ServesEnteredBy, Steps, TellsPlace, Values, left_from, blank, value_steps, params_and_results}
 use Rattle.canon_host.specs.declared.asked.Asked.{Asked}
 use Rattle.canon_host.specs.declared.error.HostError.{HostError}
 use Rattle.canon_lowering.specs.Stages.{Stage}
@@ -128,9 +128,9 @@ module _ {T G R : Type 0} (E : EndingRelation T G) (L : LoweringRelation T G R) 
 -- the guest was told, or memory was wanting for that
 module _ {T G : Type 0} (seen : G → Seen) (moves : GuestIn G → List Event → GuestIn G → Type 0) (asked : Asked) where
   pub ended_told : (before ended left after : Parts T G) (words : List ℕ) (at : ℕ) (r : Result (Unit {0}) Fault) → IsResultPlace (component_types before) asked before.memory words at → Ends before (Ok tt) ended → left ≡ left_from ended
-      → Tells seen moves asked left at r after → EndsAsk seen moves asked before words (with_place at r) after
-  ended_told before ended left after words at (Ok x) place ends is told = (place, (ended, ends, subst (λ k. IsTold seen moves asked k at after) is told))
-  ended_told before ended left after words at (Err e) place ends is (short, untold) = inr (at, place, inr (ended, ends, short, subst (λ k. IsUntold seen moves asked k after) is untold))
+      → TellsPlace seen moves asked left at r after → EndsAsk seen moves asked before words (with_place at r) after
+  ended_told before ended left after words at (Ok x) place ends is told = (place, (ended, ends, subst (λ k. WasToldPlace seen moves asked k at after) is told))
+  ended_told before ended left after words at (Err e) place ends is (short, untold) = inr (at, place, inr (ended, ends, short, subst (λ k. WasNotTold seen moves asked k after) is untold))
 
 -- a core whose ledger alone differs
 pub with_ledger : {T G : Type 0} (before after : Parts T G) (l : LedgerState) → after ≡ record before { ledger = after.ledger } → after.ledger ≡ l → after ≡ record before { ledger = l }

@@ -10,7 +10,7 @@ use Rattle.canon_context.specs.Host.{StaticClosure}
 use Rattle.canon_context.specs.declared.host.HostStop.{HostStop}
 use Rattle.canon_context.specs.declared.host.HostView.{HostView}
 use Rattle.canon_host.proofs.TypedSteps.{concluded_through, was_called}
-use Rattle.canon_host.specs.Serves.{Ends, IsResultPlace, IsTold, left_from}
+use Rattle.canon_host.specs.Serves.{Ends, IsResultPlace, WasToldPlace, left_from}
 use Rattle.canon_host.specs.ServesTyped.{CallsTyped, LiftsTyped, LowersTyped}
 use Rattle.canon_host.specs.TypedAsks.{AnswersAreGiven, AskAnswered, AskThrough, ServedIsAnswered, WasCalled, given_parts, given_steps}
 use Rattle.canon_host.specs.declared.asked.Asked.{Asked}
@@ -57,7 +57,7 @@ module _ {F T G P R : Type 0} (g : StaticClosure F (HostView T) P (Result R Host
   module _ (asked : Asked) (before after : Parts T G) (words words2 : List ℕ) (params : P) (results : R) (lifted called : Parts T G) (was : WasCalled g f reading walks gives seen moves asked before words params (Ok results) lifted called)
       (last : Through called.ledger (given_steps (given_parts gives asked before results) called.ledger) after.ledger) (called_is : called ≡ record before { state = called.state; ledger = called.ledger })
       (at : ℕ) (place : IsResultPlace (component_types before) asked before.memory words at) (ended : LedgerState) (left : ended ≡ (do_step (ExitScope (top_scope called.ledger.handles)) called.ledger).after)
-      (guest : G) (told : IsTold seen moves asked (record before { state = called.state; ledger = leave ended }) at (record before { guest = guest; state = called.state; ledger = leave ended }))
+      (guest : G) (told : WasToldPlace seen moves asked (record before { state = called.state; ledger = leave ended }) at (record before { guest = guest; state = called.state; ledger = leave ended }))
       (h : LowersTyped seen moves walks gives asked (record before { guest = guest; state = called.state; ledger = leave ended }) at results (Ok tt) after words2) where
     abbrev through : AskThrough g f reading walks gives seen moves asked before after words
     through = record { params = params; results = results; lifted = lifted; called = called; was = was; last = last }
@@ -178,7 +178,7 @@ module _ {F T G P R : Type 0} (g : StaticClosure F (HostView T) P (Result R Host
       (was_called g f reading walks gives seen moves law asked before after words words2 params (Ok told.results) lifted called lifts calls)
       (concluded_through g f reading walks gives seen moves law asked before after words words2 params told.results lifted called lifts calls ends) (called_core asked before lifted called words params told.results lifts calls) at
       (subst (λ (x : Parts T G). IsResultPlace (component_types x) asked x.memory words at) (called_core asked before lifted called words params told.results lifts calls) place) ended.ledger e.0.1 guest
-      (subst₂ (λ (x y : Parts T G). IsTold seen moves asked x at y) (ap (λ (x : Parts T G). left_from x) core) left_is is_told)
+      (subst₂ (λ (x y : Parts T G). WasToldPlace seen moves asked x at y) (ap (λ (x : Parts T G). left_from x) core) left_is is_told)
       (subst (λ (x : Parts T G). LowersTyped seen moves walks gives asked x at told.results (Ok tt) after words2) left_is ends.lowers)
 
 -- ---- the ways of their handles

@@ -62,29 +62,29 @@ results_place types asked at = value_place false (product of_places (result_memb
 
 module _ {T G : Type 0} (seen : G → Seen) (moves : GuestIn G → List Event → GuestIn G → Type 0) (asked : Asked) where
   -- The guest was told of the place for results that don't go in a row. It went by no event.
-  pub record IsTold (before : Parts T G) (at : ℕ) (after : Parts T G) : Type 0 where
+  pub record WasToldPlace (before : Parts T G) (at : ℕ) (after : Parts T G) : Type 0 where
     pub near : members_flat (result_members (component_types before) asked.func) ≤ max_results → after.guest ≡ before.guest
     pub far : max_results < members_flat (result_members (component_types before) asked.func) → IsHeld (seen before.guest) (seen after.guest) (results_place (component_types before) asked at)
     pub went : GoesBy (stage_of seen moves before) (stage_of seen moves after) []
     pub same : after ≡ record before { guest = after.guest }
 
   -- there was no memory to list it
-  pub record IsUntold (before after : Parts T G) : Type 0 where
+  pub record WasNotTold (before after : Parts T G) : Type 0 where
     pub unheld : IsUnheld (seen before.guest) (seen after.guest)
     pub same : after ≡ record before { guest = after.guest }
 
-  abbrev pub Tells : Parts T G → ℕ → Result (Unit {0}) Fault → Parts T G → Type 0
-  Tells before at (Ok done) after = IsTold before at after
-  Tells before at (Err e) after = (e ≡ fault.OutOfMemory) × IsUntold before after
+  abbrev pub TellsPlace : Parts T G → ℕ → Result (Unit {0}) Fault → Parts T G → Type 0
+  TellsPlace before at (Ok done) after = WasToldPlace before at after
+  TellsPlace before at (Err e) after = (e ≡ fault.OutOfMemory) × WasNotTold before after
 
   -- The pointer is tested, the scope ends and is left, and the guest is told of the place. It is told where the results are to be stored.
   abbrev pub EndsAsk : Parts T G → List ℕ → Result ℕ Fault → Parts T G → Type 0
-  EndsAsk before words (Ok at) after = IsResultPlace (component_types before) asked before.memory words at × ((ended : Parts T G) × Ends before (Ok tt) ended × IsTold (left_from ended) at after)
+  EndsAsk before words (Ok at) after = IsResultPlace (component_types before) asked before.memory words at × ((ended : Parts T G) × Ends before (Ok tt) ended × WasToldPlace (left_from ended) at after)
   EndsAsk before words (Err e) after =
       (IsNoPlace (component_types before) asked before.memory words e × (after ≡ before))
       ⊎ ((at : ℕ) × IsResultPlace (component_types before) asked before.memory words at
       × (((x : ResourceFault) × (e ≡ fault.Resource x) × Ends before (Err x) after)
-      ⊎ ((ended : Parts T G) × Ends before (Ok tt) ended × (e ≡ fault.OutOfMemory) × IsUntold (left_from ended) after)))
+      ⊎ ((ended : Parts T G) × Ends before (Ok tt) ended × (e ≡ fault.OutOfMemory) × WasNotTold (left_from ended) after)))
 
 -- How the steps before the results are lowered end: the core before, the words, the address or why there is none, and the core after.
 abbrev pub EndingRelation : Type 0 → Type 0 → Type 1

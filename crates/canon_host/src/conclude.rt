@@ -8,7 +8,7 @@ ghost use Rattle.canon_types.specs.Table.{result_members, tuple_members};
 ghost use Rattle.canon_context.specs.Asks.{SameButHandles};
 ghost use Rattle.canon_context.specs.Core.{component_types};
 ghost use Rattle.canon_host.specs.Asked.{HasWordsEnough, IsAsked, RestStays};
-ghost use Rattle.canon_host.specs.Serves.{ConcludesAsk, EndsAsk, IsNoPlace, IsResultPlace, LowersGiven, Tells};
+ghost use Rattle.canon_host.specs.Serves.{ConcludesAsk, EndsAsk, IsNoPlace, IsResultPlace, LowersGiven, TellsPlace};
 
 use crate::Asked;
 use crate::asked::{first_words, params_words, results_words};
@@ -60,10 +60,10 @@ pub(crate) fn end_ask<T, G: Guest>(
     }
 }
 
-/// Tells the guest of the place for results that don't go in a row.
+/// TellsPlace the guest of the place for results that don't go in a row.
 fn tell_place<T, G: Guest>(core: &mut Core<T, G>, asked: &Asked, at: u64) -> Result<(), Fault>
     requires asked { IsAsked core.old.component asked.now }
-    ensures tells { Tells G.seen G.moves asked.now core.old at result core.new }
+    ensures tells { TellsPlace G.seen G.moves asked.now core.old at result core.new }
     ensures same { core.new ≡ record core.old { guest = core.new.guest } }
 {
     let types = core.component().types.types();
