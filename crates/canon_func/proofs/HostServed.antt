@@ -275,7 +275,8 @@ module _ {T G P S : Type 0} (its : AskForm T) (sound : AskSound its) (seen : G â
           answers = by.answers;
           events = events_of by.answers by.trap;
           goes = told_goes callee asked at (seen a.guest) (seen left.guest) tells a.memory (moment_of seen b) (marks_of by.answers) (events_of by.answers by.trap) by.goes;
-          moves = answered_so {T = Unit {0}} (Err (asked_error index x)) _ _ (told_moves s l at left h.ends (events_of by.answers by.trap)) by.moved;
+          moves = answered_so {T = Unit {0}} (Err (asked_error index x)) (moves (guest_of (record a { guest = left.guest })) (events_of by.answers by.trap) (guest_of b)) (moves (guest_of a) (events_of by.answers by.trap) (guest_of b))
+              (told_moves s l at left h.ends (events_of by.answers by.trap)) by.moved;
           so = (
             by.trap,
             stopped_with by.answers by.trap (asked_error index x) (fault_counted index x none_refused)
