@@ -111,7 +111,7 @@ module _ {T : Type 0} (its : AskForm T) (keeps : KeepsMemory its) (answers_so : 
   given_stands : (results : its.Results) (called : LedgerState) → StopsGiven its answers_so callee fuel asked index words from to answers trap before after e results called → StandsAsked callee index words from to answers
   given_stands results called (inl (f, told, bad, left, quiet)) = quiet_stands quiet
   given_stands results called (inr (at, place, inl (x, told, exit, quiet))) = quiet_stands quiet
-  given_stands results called (inr (at, place, inr (ended, ends, inl (short, left, quiet)))) = quiet_stands quiet
+  given_stands results called (inr (at, place, inr (ended, ends, inl (short, far, unheld, left, quiet)))) = quiet_stands quiet
   given_stands results called (inr (at, place, inr (ended, ends, inr (f, low, held, told, tells, lowers)))) =
       inr (asked, at, is, place, told_stands callee asked at _ from held to answers tells (keeps callee asked at (moment held from.bytes) to results low answers trap _ _ f (told_calm callee asked at from.guest held to.guest tells calm) lowers))
 

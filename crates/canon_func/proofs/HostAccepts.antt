@@ -54,7 +54,7 @@ module _ {T : Type 0} (its : AskForm T) (sound : AskSound its) (lawful : AskLawf
       → StopsGiven its answers_so callee fuel asked index words from to answers trap before after e results called → e ≡ error.Fault fault.OutOfMemory
   given_excluded results called e ok (inl (f, told, (far, bad), left, quiet)) = absurd (area_excludes from.bytes (asked_results callee asked) words _ ok.at f (ok.place far) bad)
   given_excluded results called e ok (inr (at, place, inl (x, told, exit, quiet))) = absurd (not_both called after.ledger ok.ended x exit ok.ends)
-  given_excluded results called e ok (inr (at, place, inr (ended, ends, inl (short, left, quiet)))) = short
+  given_excluded results called e ok (inr (at, place, inr (ended, ends, inl (short, far, unheld, left, quiet)))) = short
   given_excluded results called e ok (inr (at, place, inr (ended, ends, inr (f, low, held, told, tells, lowers)))) =
       let lowerable : its.lowerable callee asked from.bytes results (leave ended) = subst (λ k. its.lowerable callee asked from.bytes results (leave k)) (same_end called ok.ended ended ok.ends ends) ok.lowerable in
       told ∙ told_short index f (lawful.lower_excluded callee asked at (moment held from.bytes) to results low answers trap (leave ended) after.ledger f lowerable lowers kept none)

@@ -21,6 +21,7 @@ use Rattle.canon_context.specs.declared.fault.Fault.TheVariants as fault
 use Rattle.canon_context.specs.declared.component.Export.{Export}
 use Rattle.canon_context.specs.declared.host.HostStop.{HostStop}
 use Rattle.canon_context.specs.declared.host.HostStop.TheVariants as stop
+use Rattle.canon_types.specs.Table.{result_members}
 use Rattle.canon_value_parts.specs.Args.{args_words}
 use Rattle.canon_host.specs.Asked.{AreEnough, row_words}
 use Rattle.canon_host.specs.Forms.{in_view}
@@ -146,7 +147,7 @@ module _ {T G P S : Type 0} (its : AskForm T) (sound : AskSound its) (seen : G �
   concluded_state s l results (Ok x) h = law.state h.left.guest s (leave h.ends.1.0.ledger) h.at results (Ok tt) (lowered_at s l results (Ok tt) h)
   concluded_state s l results (Err e) (inl (inl (none, same), words_same)) = ap (λ (k : Parts T G). k.state) same
   concluded_state s l results (Err e) (inl (inr (at, placed, inl (x, is_x, ends)), words_same)) = ap (λ (k : Parts T G). k.state) ends.1
-  concluded_state s l results (Err e) (inl (inr (at, placed, inr (ended, ends, short, untold)), words_same)) = ap (λ (k : Parts T G). k.state) untold.same ∙ ap (λ (k : Parts T G). k.state) ends.1
+  concluded_state s l results (Err e) (inl (inr (at, placed, inr (ended, ends, short, far, untold)), words_same)) = ap (λ (k : Parts T G). k.state) untold.same ∙ ap (λ (k : Parts T G). k.state) ends.1
   concluded_state s l results (Err e) (inr h) = law.state h.left.guest s (leave h.ends.1.0.ledger) h.at results (Err e) (lowered_at s l results (Err e) h)
 
   -- nor the number of the store
@@ -154,7 +155,7 @@ module _ {T G P S : Type 0} (its : AskForm T) (sound : AskSound its) (seen : G �
   concluded_id s l results (Ok x) h = law.id h.left.guest s (leave h.ends.1.0.ledger) h.at results (Ok tt) (lowered_at s l results (Ok tt) h)
   concluded_id s l results (Err e) (inl (inl (none, same), words_same)) = ap (λ (k : Parts T G). k.id) same
   concluded_id s l results (Err e) (inl (inr (at, placed, inl (x, is_x, ends)), words_same)) = ap (λ (k : Parts T G). k.id) ends.1
-  concluded_id s l results (Err e) (inl (inr (at, placed, inr (ended, ends, short, untold)), words_same)) = ap (λ (k : Parts T G). k.id) untold.same ∙ ap (λ (k : Parts T G). k.id) ends.1
+  concluded_id s l results (Err e) (inl (inr (at, placed, inr (ended, ends, short, far, untold)), words_same)) = ap (λ (k : Parts T G). k.id) untold.same ∙ ap (λ (k : Parts T G). k.id) ends.1
   concluded_id s l results (Err e) (inr h) = law.id h.left.guest s (leave h.ends.1.0.ledger) h.at results (Err e) (lowered_at s l results (Err e) h)
 
   -- it was served
@@ -244,10 +245,11 @@ module _ {T G P S : Type 0} (its : AskForm T) (sound : AskSound its) (seen : G �
     stopped_given s l results x none_refused from (inl (inr (at, placed, inl (r, is_r, ends)), words_same)) =
         quiet s b.ledger (asked_error index x) (fault_counted index x none_refused) ends.1 (no_rise index x (moment_of seen a) (moment_of seen b) (λ trap. let w = sym is_r ∙ trap in cc))
         (from [] None (inr (at, place at placed, inl (r, ap (asked_error index) is_r, exit_is l b.ledger (Err r) ends.0, nothing_asked s b.ledger ends.1))))
-    stopped_given s l results x none_refused from (inl (inr (at, placed, inr (ended, ends, short, untold)), words_same)) =
+    stopped_given s l results x none_refused from (inl (inr (at, placed, inr (ended, ends, short, far, untold)), words_same)) =
         let is_short : asked_error index x ≡ error.Fault fault.OutOfMemory = ap (asked_error index) short in
         let core_is : b ≡ record a { guest = b.guest; state = s; ledger = leave ended.ledger } = untold.same ∙ ap (λ (k : Parts T G). record k { guest = b.guest; ledger = leave ended.ledger }) ends.1 in
         let unheld = subst (λ (k : Parts T G). IsUnheld (seen k.guest) (seen b.guest)) ends.1 untold.unheld in
+        let there = subst (λ (k : Parts T G). max_results < members_flat (result_members (component_types k) asked.func)) (ap (λ (k : Parts T G). left_from k) ends.1) far in
         let memory_is : b.memory ≡ a.memory = ap (λ (k : Parts T G). k.memory) core_is in
         let left_there : b.ledger ≡ leave ended.ledger = ap (λ (k : Parts T G). k.ledger) core_is in
         record {
@@ -258,7 +260,7 @@ module _ {T G P S : Type 0} (its : AskForm T) (sound : AskSound its) (seen : G �
           so = (
             None,
             stopped_with [] None (asked_error index x) (fault_counted index x none_refused) (ap (λ (k : Parts T G). k.id) core_is)
-                (from [] None (inr (at, place at placed, inr (ended.ledger, exit_is l ended.ledger (Ok tt) ends.0, inl (is_short, left_there, (refl, refl, memory_is)))))),
+                (from [] None (inr (at, place at placed, inr (ended.ledger, exit_is l ended.ledger (Ok tt) ends.0, inl (is_short, there, unheld, left_there, (refl, refl, memory_is)))))),
             refl,
             tt,
             subst (λ e. RisesAt e (moment_of seen a) (moment_of seen b)) (sym is_short) tt,

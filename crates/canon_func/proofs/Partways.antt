@@ -85,7 +85,7 @@ module _ {T : Type 0} (its : AskForm T) (sound : AskSound its) (lawful : AskLawf
   given_partway results called (inl (f, told, bad, left, quiet)) = inl left
   given_partway results called (inr (at, place, inl (x, told, refused, quiet))) =
       inr (inl (x, ap (λ (d : Done (Unit {0})). (numbered (λ _. 0) d).answer) refused, sym (ap (λ (d : Done (Unit {0})). d.after) refused)))
-  given_partway results called (inr (at, place, inr (ended, ends, inl (short, left, quiet)))) =
+  given_partway results called (inr (at, place, inr (ended, ends, inl (short, far, unheld, left, quiet)))) =
       subst (λ k. Partway called (ExitScope (top_scope called.handles) ∷ Leave ∷ leaves_steps (leave k) (its.gives callee asked results)) after.ledger) (ended_is called ended ends)
       (ended_partway_of called ended after.ledger (Leave ∷ leaves_steps (leave ended) (its.gives callee asked results)) ends
       (compose_parts ended (leave ended) after.ledger (Leave ∷ []) (leaves_steps (leave ended) (its.gives callee asked results)) (left_through ended (leave ended) (ended_can_leave called ended ends) refl) (inl left)))

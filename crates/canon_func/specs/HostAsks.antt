@@ -2,7 +2,7 @@
 use Rattle.std.specs.Prelude.{Err, List, None, Ok, Option, Result, Some, [], if◌then◌else◌, nat_le, slice_get, length, ℕ, ◌+◌, ◌<◌, ◌≡◌, ◌≤◌, ◌≢◌, ◌⊎◌}
 use Rattle.canon_model.specs.Flat.{max_results}
 use Rattle.canon_model.specs.Layout.{members_flat}
-use Rattle.canon_memory.specs.Guest.{IsHeld, Moment, Seen, moment}
+use Rattle.canon_memory.specs.Guest.{IsHeld, IsUnheld, Moment, Seen, moment}
 use Rattle.canon_ledger.specs.Handles.{top_scope}
 use Rattle.canon_ledger.specs.Ledger.{Done, LedgerState, enter, leave, validate_scope_exit}
 use Rattle.canon_ledger.specs.declared.fault.ResourceFault.{ResourceFault}
@@ -131,7 +131,7 @@ module _ {T : Type 0} (its : AskForm T) (answers_so : Answering T) (callee : Cal
         ⊎ ((at : ℕ) × IsResultPlace callee.types.types asked from.bytes words at
         × (((x : ResourceFault) × (e ≡ asked_error index (fault.Resource x)) × (asked_exit called ≡ record { answer = Err x; after = after.ledger }) × NothingAsked from.bytes to.bytes answers trap)
         ⊎ ((ended : LedgerState) × (asked_exit called ≡ record { answer = Ok tt; after = ended })
-        × (((e ≡ error.Fault fault.OutOfMemory) × (after.ledger ≡ leave ended) × NothingAsked from.bytes to.bytes answers trap)
+        × (((e ≡ error.Fault fault.OutOfMemory) × (max_results < members_flat (asked_results callee asked)) × IsUnheld from.guest to.guest × (after.ledger ≡ leave ended) × NothingAsked from.bytes to.bytes answers trap)
         ⊎ ((f : Fault) × (low : List ℕ) × (held : Seen) × (e ≡ asked_error index f) × IsToldPlace callee asked at from.guest held
         × its.lowers callee asked at (moment held from.bytes) to results low answers trap (leave ended) after.ledger (Err f))))))
 

@@ -131,7 +131,7 @@ pub(crate) fn conclude<T, G: Guest>(
     }
 }
 
-/// TellsPlace the guest that its words were read, where the options name a function for it.
+/// Tells the guest that its words were read, where the options name a function for it.
 fn post_return<T, G: Guest>(
     core: &mut Core<T, G>,
     export: &Export,

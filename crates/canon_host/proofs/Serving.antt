@@ -130,7 +130,8 @@ module _ {T G : Type 0} (seen : G → Seen) (moves : GuestIn G → List Event �
   pub ended_told : (before ended left after : Parts T G) (words : List ℕ) (at : ℕ) (r : Result (Unit {0}) Fault) → IsResultPlace (component_types before) asked before.memory words at → Ends before (Ok tt) ended → left ≡ left_from ended
       → TellsPlace seen moves asked left at r after → EndsAsk seen moves asked before words (with_place at r) after
   ended_told before ended left after words at (Ok x) place ends is told = (place, (ended, ends, subst (λ k. WasToldPlace seen moves asked k at after) is told))
-  ended_told before ended left after words at (Err e) place ends is (short, untold) = inr (at, place, inr (ended, ends, short, subst (λ k. WasNotTold seen moves asked k after) is untold))
+  ended_told before ended left after words at (Err e) place ends is (short, far, untold) =
+      inr (at, place, inr (ended, ends, short, subst (λ (k : Parts T G). max_results < members_flat (result_members (component_types k) asked.func)) is far, subst (λ k. WasNotTold seen moves asked k after) is untold))
 
 -- a core whose ledger alone differs
 pub with_ledger : {T G : Type 0} (before after : Parts T G) (l : LedgerState) → after ≡ record before { ledger = after.ledger } → after.ledger ≡ l → after ≡ record before { ledger = l }
@@ -207,7 +208,7 @@ ended_state : {T G : Type 0} (seen : G → Seen) (moves : GuestIn G → List Eve
 ended_state {T} {G} seen moves asked before after words (Ok at) (place, (ended, ends, told)) = ap (λ (k : Parts T G). k.state) told.same ∙ ap (λ (k : Parts T G). k.state) ends.1
 ended_state {T} {G} seen moves asked before after words (Err e) (inl (none, same)) = ap (λ (k : Parts T G). k.state) same
 ended_state {T} {G} seen moves asked before after words (Err e) (inr (at, place, inl (x, is, ends))) = ap (λ (k : Parts T G). k.state) ends.1
-ended_state {T} {G} seen moves asked before after words (Err e) (inr (at, place, inr (ended, ends, is, untold))) = ap (λ (k : Parts T G). k.state) untold.same ∙ ap (λ (k : Parts T G). k.state) ends.1
+ended_state {T} {G} seen moves asked before after words (Err e) (inr (at, place, inr (ended, ends, is, far, untold))) = ap (λ (k : Parts T G). k.state) untold.same ∙ ap (λ (k : Parts T G). k.state) ends.1
 
 -- nothing after the call changes them
 pub concluded_state : {T G : Type 0} (seen : G → Seen) (moves : GuestIn G → List Event → GuestIn G → Type 0) (asked : Asked) (before after : Parts T G) (results : List Val) (words words2 : List ℕ) (r : Result (Unit {0}) Fault)

@@ -117,7 +117,7 @@ module _ {F T G P R : Type 0} (g : StaticClosure F (HostView T) P (Result R Host
           → Partway called.ledger (given_steps (given_parts gives asked before results) called.ledger) after.ledger
       concluded_partway x (inl (inl (none, same), words_same)) = inl (ap (λ (y : Parts T G). y.ledger) same)
       concluded_partway x (inl (inr (at, place, inl (why, is, e)), words_same)) = unended called.ledger after.ledger why (given_parts gives asked before results) e.0
-      concluded_partway x (inl (inr (at, place, inr (ended, e, is, untold)), words_same)) =
+      concluded_partway x (inl (inr (at, place, inr (ended, e, is, far, untold)), words_same)) =
           untold_partway called.ledger ended.ledger e.0 after.ledger (given_parts gives asked before results) (ap (λ (y : Parts T G). y.ledger) untold.same)
       concluded_partway x (inr h) =
           let (place, (ended, e, told)) = h.ends in

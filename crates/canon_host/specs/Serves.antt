@@ -75,7 +75,7 @@ module _ {T G : Type 0} (seen : G → Seen) (moves : GuestIn G → List Event �
 
   abbrev pub TellsPlace : Parts T G → ℕ → Result (Unit {0}) Fault → Parts T G → Type 0
   TellsPlace before at (Ok done) after = WasToldPlace before at after
-  TellsPlace before at (Err e) after = (e ≡ fault.OutOfMemory) × WasNotTold before after
+  TellsPlace before at (Err e) after = (e ≡ fault.OutOfMemory) × (max_results < members_flat (result_members (component_types before) asked.func)) × WasNotTold before after
 
   -- The pointer is tested, the scope ends and is left, and the guest is told of the place. It is told where the results are to be stored.
   abbrev pub EndsAsk : Parts T G → List ℕ → Result ℕ Fault → Parts T G → Type 0
@@ -84,7 +84,7 @@ module _ {T G : Type 0} (seen : G → Seen) (moves : GuestIn G → List Event �
       (IsNoPlace (component_types before) asked before.memory words e × (after ≡ before))
       ⊎ ((at : ℕ) × IsResultPlace (component_types before) asked before.memory words at
       × (((x : ResourceFault) × (e ≡ fault.Resource x) × Ends before (Err x) after)
-      ⊎ ((ended : Parts T G) × Ends before (Ok tt) ended × (e ≡ fault.OutOfMemory) × WasNotTold (left_from ended) after)))
+      ⊎ ((ended : Parts T G) × Ends before (Ok tt) ended × (e ≡ fault.OutOfMemory) × (max_results < members_flat (result_members (component_types (left_from ended)) asked.func)) × WasNotTold (left_from ended) after)))
 
 -- How the steps before the results are lowered end: the core before, the words, the address or why there is none, and the core after.
 abbrev pub EndingRelation : Type 0 → Type 0 → Type 1

@@ -60,7 +60,7 @@ pub(crate) fn end_ask<T, G: Guest>(
     }
 }
 
-/// TellsPlace the guest of the place for results that don't go in a row.
+/// Tells the guest of the place for results that don't go in a row.
 fn tell_place<T, G: Guest>(core: &mut Core<T, G>, asked: &Asked, at: u64) -> Result<(), Fault>
     requires asked { IsAsked core.old.component asked.now }
     ensures tells { TellsPlace G.seen G.moves asked.now core.old at result core.new }
