@@ -1,26 +1,29 @@
 -- The steps of an ask, one after another.
-use Rattle.std.proofs.Common.{[], Err, List, Ok, Result, Vec, ap, false, inl, inr, length, true, refl, subst, subst₂, sym, ℕ, ◌++◌, ◌-◌, ◌∙◌, ◌≡◌, ◌≤◌}
+use Rattle.std.proofs.Common.{[], Err, List, Ok, Result, Vec, ap, arith, false, inl, inr, length, true, refl, subst, subst₂, sym, ℕ, ◌++◌, ◌-◌, ◌<◌, ◌∙◌, ◌≡◌, ◌≤◌}
 use Rattle.std.proofs.Math.Seq.{drop-append_seam, drop-length, take-append_seam}
 use Rattle.std.proofs.lemmas.List.{append-nil, length-drop, take-append-drop}
 use Rattle.std.specs.Prelude.{IfErr, IfSome, OnOk, Option, Some, drop, replicate, take}
 use Rattle.std.specs.declared.alloc.Global.{Global}
 use Rattle.canon_context.specs.Asks.{SameButHandles}
-use Rattle.canon_context.specs.Core.{Parts, SameButLedger, component_types, encoding_by, stage_of}
+use Rattle.canon_context.specs.Core.{Parts, SameButLedger, component_types, encoding_by, guest_of, stage_of}
 use Rattle.canon_context.specs.Host.{Closure, Gave, HostSteps}
 use Rattle.canon_context.specs.Lowers.{ending_of}
 use Rattle.canon_context.specs.Quiet.{have_block, have_handle}
 use Rattle.canon_context.specs.declared.fault.Fault.{Fault}
+use Rattle.canon_context.specs.declared.fault.Fault.TheVariants as fault
 use Rattle.canon_context.specs.declared.host.HostStop.{HostStop}
 use Rattle.canon_context.specs.declared.host.HostView.{HostView}
 use Rattle.canon_ledger.specs.Ledger.{LedgerState, enter}
 use Rattle.canon_lowering.specs.Attempt.{LowersMembers}
 use Rattle.canon_lowering.specs.Lowering.{Ending}
-use Rattle.canon_memory.specs.Guest.{GuestIn, Seen}
+use Rattle.canon_memory.specs.Guest.{GuestIn, HoldsPlace, IsHeld, MovesByNone, Seen}
+use Rattle.canon_memory.specs.Realloc.{block}
 use Rattle.canon_memory.specs.declared.event.Event.{Event}
 use Rattle.canon_model.specs.Homes.{host_texts}
 use Rattle.canon_model.specs.Flat.{max_results}
-use Rattle.canon_model.specs.Layout.{members_flat}
-use Rattle.canon_model.specs.Shape.{Members, member_count}
+use Rattle.canon_model.specs.Layout.{members_flat, size}
+use Rattle.canon_model.specs.Memory.{memory_of}
+use Rattle.canon_model.specs.Shape.{Members, member_count, of_places, product}
 use Rattle.canon_model.specs.Text.{Encoding}
 use Rattle.canon_model.specs.Tree.{Trees}
 use Rattle.canon_types.specs.Table.{param_members, result_members}
@@ -36,7 +39,7 @@ use Rattle.canon_host.specs.Asked.{RestStays, row_words}
 use Rattle.canon_host.specs.Serves.{Answers, AnswersBy, AskValues, Calling, CallsFunction, CallsBlank, ConcludesAsk, ConcludesBy, EndingRelation, Ends, EndsAsk, AnswersInRow, IsResultPlace, WasToldPlace, WasNotTold, LiftsAsked, LoweringRelation, LowersGiven, Serves, ServesBy, ServesEntered, ServesEnteredBy, Steps, TellsPlace, Values, left_from, blank, value_steps, params_and_results}
 use Rattle.canon_host.specs.declared.asked.Asked.{Asked}
 use Rattle.canon_host.specs.declared.error.HostError.{HostError}
-use Rattle.canon_lowering.specs.Stages.{Stage}
+use Rattle.canon_lowering.specs.Stages.{GoesBy, Stage}
 use Rattle.canon_host.specs.declared.error.HostError.TheVariants as error
 
 -- ---- the call
@@ -68,7 +71,7 @@ module _ {F T G : Type 0} (g : Closure F (HostView T) Val (Result (Unit {0}) Hos
       }
 
 -- the place, once the guest was told of it
-pub with_place : ℕ → Result (Unit {0}) Fault → Result ℕ Fault
+abbrev pub with_place : ℕ → Result (Unit {0}) Fault → Result ℕ Fault
 with_place at (Ok x) = Ok at
 with_place at (Err e) = Err e
 
@@ -124,6 +127,23 @@ module _ {T G R : Type 0} (E : EndingRelation T G) (L : LoweringRelation T G R) 
 
   pub not_ended : (before after : Parts T G) (results : R) (words : List ℕ) (e : Fault) → E before words (Err e) after → ConcludesBy E L asked before results words (Err e) after words
   not_ended before after results words e ends = inl (ends, refl)
+
+-- it was told of the place, or memory was wanting for that
+module _ {T G : Type 0} (seen : G → Seen) (moves : GuestIn G → List Event → GuestIn G → Type 0) (goes_on : (g h k : GuestIn G) (xs ys : List Event) → moves g xs h → moves h ys k → moves g (xs ++ ys) k) (asked : Asked) (before after : Parts T G) (at n : ℕ)
+    (far : max_results < members_flat (result_members (component_types before) asked.func)) (is : n ≡ size false (product of_places (result_members (component_types before) asked.func))) (same : after ≡ record before { guest = after.guest }) where
+  told_went : MovesByNone moves before.guest after.guest → GoesBy (stage_of seen moves before) (stage_of seen moves after) []
+  told_went none more k on =
+      goes_on (guest_of before) (guest_of (record before { guest = after.guest })) k [] more (none (memory_of before.memory before.wide))
+      (subst (λ (x : Parts T G). moves (guest_of x) more k) same on)
+
+  pub told_place : (r : Result (Unit {0}) Fault) → HoldsPlace (seen before.guest) (seen after.guest) (block at n) r → OnOk r (MovesByNone moves before.guest after.guest) → IfErr r (λ e. e ≡ fault.OutOfMemory) → TellsPlace seen moves asked before at r after
+  told_place (Ok x) holds none short = record {
+    near = λ near. absurd (omega (arith, near, far));
+    far = λ _. subst (λ m. IsHeld (seen before.guest) (seen after.guest) (block at m)) is holds;
+    went = told_went none;
+    same = same;
+  }
+  told_place (Err e) holds none short = (short, far, record { unheld = holds; same = same })
 
 -- the guest was told, or memory was wanting for that
 module _ {T G : Type 0} (seen : G → Seen) (moves : GuestIn G → List Event → GuestIn G → Type 0) (asked : Asked) where

@@ -18,7 +18,7 @@ use Rattle.canon_resources.specs.Steps.{leaves_steps}
 use Rattle.canon_ledger.proofs.LedgerLemmas.{compose, compose_parts}
 use Rattle.canon_ledger.specs.Books.{DidSurely}
 use Rattle.canon_ledger.specs.Handles.{top_scope}
-use Rattle.canon_ledger.specs.Ledger.{Done, ExitScope, Leave, LedgerState, Partway, Through, do_step, enter, leave, leaving, numbered, validate_scope_exit}
+use Rattle.canon_ledger.specs.Ledger.{Done, ExitScope, Leave, LedgerState, LedgerStep, Partway, Through, do_step, enter, leave, leaving, numbered, validate_scope_exit}
 use Rattle.canon_ledger.specs.declared.fault.ResourceFault.{ResourceFault}
 use Rattle.canon_reading.specs.Reading.{AreTaken, Reading, setting_in}
 use Rattle.canon_reading.specs.Spots.{flat_in}
@@ -31,6 +31,11 @@ use Rattle.canon_model.specs.Tree.{Tree}
 use Rattle.canon_types.specs.Instance.{Instance}
 use Rattle.canon_types.specs.Table.{param_members, result_members}
 use Rattle.canon_context.specs.Faults.{stop_of}
+
+-- up to the first of some steps
+pub partway_none : (l n : LedgerState) (steps : List LedgerStep) → n ≡ l → Partway l steps n
+partway_none l n [] is = is
+partway_none l n (s ∷ steps) is = inl is
 
 -- ---- the end of the scope
 
@@ -65,7 +70,7 @@ module _ (l ended : LedgerState) (did : DidSurely (validate_scope_exit (top_scop
   untold_partway n handles is = inr (inr (
     0,
     accepted,
-    subst (λ k. Partway k (Leave ∷ leaves_steps (leave k) handles) n) ended_is (compose_parts ended (leave ended) n (Leave ∷ []) (leaves_steps (leave ended) handles) left (inl is)),
+    subst (λ k. Partway k (Leave ∷ leaves_steps (leave k) handles) n) ended_is (compose_parts ended (leave ended) n (Leave ∷ []) (leaves_steps (leave ended) handles) left (partway_none (leave ended) n (leaves_steps (leave ended) handles) is)),
   ))
 
 -- it is refused
