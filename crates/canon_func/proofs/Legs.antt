@@ -50,7 +50,7 @@ lives_more Lives front ts t more es are h =
 
 -- after the turns the guest returned, and more came after
 pub returned_more : (P Q : List Leg → List Event → Type 0) (later : List Event) → ((legs : List Leg) (xs : List Event) → P legs xs → Q legs (xs ++ later)) → (front : List Event) (ts : List AskTurn) (live : Living) (words memory : List ℕ)
-    → AsksFrom P front ts live (event.Return words memory ∷ []) → AsksFrom Q front ts [] (event.Return words memory ∷ later)
+    → AsksFrom P front ts live (event.Return words memory ∷ []) → AsksFrom Q front ts live (event.Return words memory ∷ later)
 returned_more P Q later f front ts live words memory h =
     subst (λ es. Q (legs_in front ts) es) (append_assoc (since_last front ts) (event.Return words memory ∷ []) later) (f (legs_in front ts) (since_last front ts ++ event.Return words memory ∷ []) h)
 

@@ -13,6 +13,7 @@ use Rattle.canon_resources.specs.Steps.{leaves_steps}
 use Rattle.canon_lowering.specs.Lowering.{Answer, Trap}
 use Rattle.canon_context.specs.declared.fault.Fault.TheVariants as fault
 use Rattle.canon_context.specs.Faults.{stop_of}
+use Rattle.canon_host.proofs.TypedSteps.{partway_none}
 use Rattle.canon_host.specs.Forms.{IsLawful}
 use Rattle.canon_host.specs.HostSide.{Answering, Giving, HostSide}
 use Rattle.canon_host.specs.declared.asked.Asked.{Asked}
@@ -88,7 +89,8 @@ module _ {T : Type 0} (its : AskForm T) (sound : AskSound its) (lawful : AskLawf
   given_partway results called (inr (at, place, inr (ended, ends, inl (short, far, unheld, left, quiet)))) =
       subst (λ k. Partway called (ExitScope (top_scope called.handles) ∷ Leave ∷ leaves_steps (leave k) (its.gives callee asked results)) after.ledger) (ended_is called ended ends)
       (ended_partway_of called ended after.ledger (Leave ∷ leaves_steps (leave ended) (its.gives callee asked results)) ends
-      (compose_parts ended (leave ended) after.ledger (Leave ∷ []) (leaves_steps (leave ended) (its.gives callee asked results)) (left_through ended (leave ended) (ended_can_leave called ended ends) refl) (inl left)))
+      (compose_parts ended (leave ended) after.ledger (Leave ∷ []) (leaves_steps (leave ended) (its.gives callee asked results)) (left_through ended (leave ended) (ended_can_leave called ended ends) refl)
+      (partway_none (leave ended) after.ledger (leaves_steps (leave ended) (its.gives callee asked results)) left)))
   given_partway results called (inr (at, place, inr (ended, ends, inr (f, low, held, told, tells, lowers)))) =
       subst (λ k. Partway called (ExitScope (top_scope called.handles) ∷ Leave ∷ leaves_steps (leave k) (its.gives callee asked results)) after.ledger) (ended_is called ended ends)
       (ended_partway_of called ended after.ledger (Leave ∷ leaves_steps (leave ended) (its.gives callee asked results)) ends
