@@ -80,7 +80,7 @@ begun_store host relay watches_all memory component play = record {
   core = record {
     id = 0;
     state = host;
-    guest = record { guest = relay; whole = watches_all; live = []; marks = []; shortages = 0 };
+    guest = record { guest = relay; whole = watches_all; held = []; live = []; marks = []; shortages = 0 };
     memory = memory.bytes;
     wide = memory.wide;
     component = component;

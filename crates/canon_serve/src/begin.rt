@@ -135,7 +135,7 @@ fn watched<E: Channel + Drop>(
     relay: Relay<E>,
     watches_all: bool,
 ) -> Watched<Relay<E>>
-    ensures { result ≡ record { guest = relay; whole = watches_all; live = []; marks = []; shortages = 0 } }
+    ensures { result ≡ record { guest = relay; whole = watches_all; held = []; live = []; marks = []; shortages = 0 } }
 {
     if watches_all {
         Watched::new(alloc, relay)

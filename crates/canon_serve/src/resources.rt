@@ -1,6 +1,6 @@
 //! Resources that a session makes and drops.
 
-ghost use Rattle.std.specs.Prelude.{◌≡◌, ◌≤◌, ◌<◌, ◌^◌, ◌⊎◌, Ok, OnErr, IfOk, slice_get};
+ghost use Rattle.std.specs.Prelude.{◌≡◌, ◌≤◌, ◌<◌, ◌^◌, ◌⊎◌, IfOk, Ok, OnErr, Result, slice_get};
 ghost use Rattle.canon_ledger.specs.Index.{GivenIndex};
 ghost use Rattle.canon_serve.specs.Carries.{DropsHandle, DropsListed, InsertsHandle, IsMade, MakesNew, NewShort, TellsDrop, session};
 
