@@ -1,0 +1,11 @@
+pub mod Asks
+pub mod Comparing
+pub mod Departing
+pub mod Looping
+pub mod Making
+pub mod Places
+pub mod Rows
+pub mod Running
+pub mod Same
+pub mod Splitting
+pub mod Whole
