@@ -1,6 +1,7 @@
 pub mod Asks
 pub mod Comparing
 pub mod Departing
+pub mod Ending
 pub mod Looping
 pub mod Making
 pub mod Places
