@@ -9,4 +9,5 @@ pub mod Rows
 pub mod Running
 pub mod Same
 pub mod Splitting
+pub mod Storing
 pub mod Whole

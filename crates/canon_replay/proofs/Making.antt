@@ -1,6 +1,6 @@
 -- What became of one call, by what calling its function did.
-use Rattle.std.proofs.Common.{Err, List, None, Ok, Option, Result, Some, ap, arith, false, inl, inr, length, refl, subst, subst₂, suc, sym, true, ℕ, ◌+◌, ◌<◌, ◌^◌, ◌∙◌, ◌≡◌, ◌≢◌, ◌≤◌, ◌⊎◌}
-use Rattle.std.proofs.lemmas.Bool.{false≢true}
+use Rattle.std.proofs.Common.{Err, List, None, Ok, Option, Result, Some, ap, arith, drop, false, inl, inr, length, refl, subst, subst₂, suc, sym, take, true, ℕ, ◌++◌, ◌+◌, ◌<◌, ◌^◌, ◌∙◌, ◌≡◌, ◌≢◌, ◌≤◌, ◌⊎◌}
+use Rattle.std.proofs.Math.Seq.{take-append_seam}
 use Rattle.std.specs.Prelude.{Vec, IfOk, IfSome, IsNone, IsSome, slice_get}
 use Rattle.canon_types.specs.Table.{types_of}
 use Rattle.canon_memory.specs.Guest.{Recorded, of_guest}
@@ -31,6 +31,10 @@ use Rattle.canon_replay.specs.declared.again.Again.{Again}
 use Rattle.canon_replay.specs.declared.outcome.Outcome.{Outcome}
 use Rattle.canon_replay.proofs.Departing.{all_alike, all_passed, departs, not_all, not_entered, unless_short}
 use Rattle.canon_replay.proofs.Places.{recorded_same}
+
+-- slots that were written, all of them
+pub results_written : (items new : List Val) (n : ℕ) → n ≡ length new → take n (new ++ drop (length new) items) ≡ new
+results_written items new n is = ap (λ k. take k (new ++ drop (length new) items)) is ∙ take-append_seam new (drop (length new) items)
 
 module _ (k : ℕ) (a : Again) (before after : ReplayStore) (ready : IsReady k before) (lt : k < length (guest_in_store before).recorded) where
   abbrev g : Replaying
