@@ -23,7 +23,7 @@ use Rattle.canon_recording_parts.specs.declared.error.ReplayError.{ReplayError}
 use Rattle.canon_recording.specs.Recordings.{served_asks}
 use Rattle.canon_recording.specs.declared.recording.Served.{Served}
 use Rattle.std.specs.declared.alloc.Global.{Global}
-use Rattle.canon_replay.specs.Calls.{AnswersOtherwise, CallReplayed, Departs, EndsOk, HaveOneImage, HaveOtherImages, IsReady, MadeCall, MakesAgain, WasMadeAgain, made_again, results_shape_in, results_shape_of}
+use Rattle.canon_replay.specs.Calls.{AnswersOtherwise, CallReplayed, Departs, EndsOk, HaveOneImage, HaveOtherImages, IsNotShort, IsReady, MadeCall, MakesAgain, WasMadeAgain, made_again, results_shape_in, results_shape_of}
 use Rattle.canon_replay.specs.Made.{CallsAgain}
 use Rattle.canon_replay.specs.Outcomes.{has_passed, outcome_at, place_in_call}
 use Rattle.canon_replay.specs.Stores.{JournaledReplays, ReplayStore, guest_in_store, named_export}
@@ -92,7 +92,7 @@ module _ (k : ℕ) (a : Again) (before after : ReplayStore) (ready : IsReady k b
         subst (Departs k call before) (sym is)
         (departs k call before after (Ok tt) results adding.events refl kept made (λ s. ok_short s) (fits adding.events moves).0 (λ f. otherwise adding.events kept f why) (follows adding.events moves))
       where
-        ok_short : ¬ (Ok {A = Unit {0}} {E = Error} tt ≡ Err (error.Fault fault.OutOfMemory))
+        ok_short : IsNotShort (Ok tt)
         ok_short s = cc
 
         otherwise : (events : List Event) → h.recorded ≡ g.recorded → Follows k g h events
