@@ -90,7 +90,7 @@ module _ (k : ℕ) (a : Again) (before after : ReplayStore) (ready : IsReady k b
         let kept = same_in adding.events moves in
         let made : WasMadeAgain call before after (Ok tt) results adding.events = record { is = adding.so; moves = moves } in
         subst (Departs k call before) (sym is)
-        (departs k call before after (Ok tt) results adding.events refl kept made (λ s. ok_short s) (fits adding.events moves).0 (λ f. otherwise adding.events kept f why) (follows adding.events moves))
+        (departs k call before after (Ok tt) results adding.events refl kept made ok_short (fits adding.events moves).0 (λ f. otherwise adding.events kept f why) (follows adding.events moves))
       where
         ok_short : IsNotShort (Ok tt)
         ok_short s = cc
@@ -98,7 +98,7 @@ module _ (k : ℕ) (a : Again) (before after : ReplayStore) (ready : IsReady k b
         otherwise : (events : List Event) → h.recorded ≡ g.recorded → Follows k g h events
             → (has_passed k h ≡ false) ⊎ HaveOtherImages (results_shape_in (component_types after.core) (type_of after (named_export before a.export))) results a.results.items
             → AnswersOtherwise (place_in_call k h) call before results (Ok tt)
-        otherwise events kept f (inl no) = inl (not_all k call before after (Ok tt) results events refl kept some no f)
+        otherwise events kept f (inl lacks) = inl (not_all k call before after (Ok tt) results events refl kept some lacks f)
         otherwise events kept f (inr other) = inr (subst (λ (c : Component). HaveOtherImages (results_shape_in c.types.types (type_in c (slice_get c.exports.items a.export))) results a.results.items) same other)
 
     pub after_err : (e : Error) → ¬ (e ≡ error.Fault fault.OutOfMemory) → IfSome (type_of before (named_export before a.export)) (λ t. slots ≡ length (types_of (component_types before.core) t.results))
@@ -109,11 +109,11 @@ module _ (k : ℕ) (a : Again) (before after : ReplayStore) (ready : IsReady k b
         entered none =
             let adding = calls.call none in
             let moved = adding.moves in
-            let moves = unless_short (Err e) (JournaledReplays (guest_of before.core) adding.events (guest_of after.core)) (λ s. other (same_error s)) moved in
-            departs k call before after (Err e) results adding.events refl (same_in adding.events moves) (record { is = adding.so; moves = moved }) (λ s. other (same_error s)) (fits adding.events moves).0 (λ f. tt) (follows adding.events moves)
+            let moves = unless_short (Err e) (JournaledReplays (guest_of before.core) adding.events (guest_of after.core)) answered moved in
+            departs k call before after (Err e) results adding.events refl (same_in adding.events moves) (record { is = adding.so; moves = moved }) answered (fits adding.events moves).0 (λ f. tt) (follows adding.events moves)
           where
-            same_error : Err {A = Unit {0}} e ≡ Err (error.Fault fault.OutOfMemory) → e ≡ error.Fault fault.OutOfMemory
-            same_error s = cc
+            answered : IsNotShort (Err e)
+            answered s = other (cc)
 
         refused : (r : Error) → refused_by (Err e) ≡ Some r → Departs k call before (outcome_at k h)
         refused r is = subst (λ (s : ReplayStore). Departs k call before (outcome_at k (guest_in_store s))) (sym stands)
