@@ -36,6 +36,14 @@ use Rattle.canon_replay.proofs.Places.{recorded_same}
 pub results_written : (items new : List Val) (n : ℕ) → n ≡ length new → take n (new ++ drop (length new) items) ≡ new
 results_written items new n is = ap (λ k. take k (new ++ drop (length new) items)) is ∙ take-append_seam new (drop (length new) items)
 
+-- Ok isn't out of memory
+pub ok_answered : IsNotShort (Ok tt)
+ok_answered s = cc
+
+-- nor is another error
+pub err_answered : (e : Error) → ¬ (e ≡ error.Fault fault.OutOfMemory) → IsNotShort (Err e)
+err_answered e other s = other (cc)
+
 module _ (k : ℕ) (a : Again) (before after : ReplayStore) (ready : IsReady k before) (lt : k < length (guest_in_store before).recorded) where
   abbrev g : Replaying
   g = guest_in_store before
@@ -90,11 +98,8 @@ module _ (k : ℕ) (a : Again) (before after : ReplayStore) (ready : IsReady k b
         let kept = same_in adding.events moves in
         let made : WasMadeAgain call before after (Ok tt) results adding.events = record { is = adding.so; moves = moves } in
         subst (Departs k call before) (sym is)
-        (departs k call before after (Ok tt) results adding.events refl kept made ok_short (fits adding.events moves).0 (λ f. otherwise adding.events kept f why) (follows adding.events moves))
+        (departs k call before after (Ok tt) results adding.events refl kept made ok_answered (fits adding.events moves).0 (λ f. otherwise adding.events kept f why) (follows adding.events moves))
       where
-        ok_short : IsNotShort (Ok tt)
-        ok_short s = cc
-
         otherwise : (events : List Event) → h.recorded ≡ g.recorded → Follows k g h events
             → (has_passed k h ≡ false) ⊎ HaveOtherImages (results_shape_in (component_types after.core) (type_of after (named_export before a.export))) results a.results.items
             → AnswersOtherwise (place_in_call k h) call before results (Ok tt)
@@ -113,7 +118,7 @@ module _ (k : ℕ) (a : Again) (before after : ReplayStore) (ready : IsReady k b
             departs k call before after (Err e) results adding.events refl (same_in adding.events moves) (record { is = adding.so; moves = moved }) answered (fits adding.events moves).0 (λ f. tt) (follows adding.events moves)
           where
             answered : IsNotShort (Err e)
-            answered s = other (cc)
+            answered = err_answered e other
 
         refused : (r : Error) → refused_by (Err e) ≡ Some r → Departs k call before (outcome_at k h)
         refused r is = subst (λ (s : ReplayStore). Departs k call before (outcome_at k (guest_in_store s))) (sym stands)
