@@ -134,7 +134,8 @@ module _ (k : ℕ) (a : Again) (before after : ReplayStore) (ready : IsReady k b
   -- ---- as the code has it
 
   -- what is recorded stays, unless memory was short
-  pub recorded_stays : (f : Named) (params : List Val) (slots : ℕ) (result : Result (Unit {0}) Error) (results : List Val) → CallsAgain f params slots before after result results → result ≢ Err (error.Fault fault.OutOfMemory) → h.recorded ≡ g.recorded
+  pub recorded_stays : (f : Named) (params : List Val) (slots : ℕ) (result : Result (Unit {0}) Error) (results : List Val) → CallsAgain f params slots before after result results
+      → result ≢ Err (error.Fault fault.OutOfMemory) → h.recorded ≡ g.recorded
   recorded_stays f params slots result results calls answered = by (refused_by result) refl
     where
       by : (o : Option Error) → refused_by result ≡ o → h.recorded ≡ g.recorded
@@ -144,13 +145,15 @@ module _ (k : ℕ) (a : Again) (before after : ReplayStore) (ready : IsReady k b
       by (Some r) is = ap (λ (s : ReplayStore). (guest_in_store s).recorded) (subst (λ o. IfSome o (λ x. after ≡ before)) is calls.unchanged)
 
   module _ (f : Named) (params : List Val) (slots : ℕ) (results : List Val) (final : ReplayStore) (named : f ≡ named_export before a.export) (passed : params ≡ a.params.items) (stays : final ≡ after) where
-    pub made_ok : (r : Result (Option Outcome) ReplayError) → 0 < length (call_events g.recorded k) → CallsAgain f params slots before after (Ok tt) results → IfOk r (λ o. EndsOk k f after results a.results.items o) → IfOk r (λ o. MakesAgain k call before final o)
+    pub made_ok : (r : Result (Option Outcome) ReplayError) → 0 < length (call_events g.recorded k) → CallsAgain f params slots before after (Ok tt) results
+        → IfOk r (λ o. EndsOk k f after results a.results.items o) → IfOk r (λ o. MakesAgain k call before final o)
     made_ok (Ok o) some calls ends = subst (λ (s : ReplayStore). MakesAgain k call before s o) (sym stays)
         (after_ok slots results o some (subst₂ (λ (x : Named) (ps : List Val). CallsAgain x ps slots before after (Ok tt) results) named passed calls)
         (ap (λ (parts : Parts (Unit {0}) (Recorded Replaying)). parts.component) calls.same) (subst (λ (x : Named). EndsOk k x after results a.results.items o) named ends))
     made_ok (Err e) some calls ends = tt
 
-    pub made_err : (e : Error) (o : Outcome) → ¬ (e ≡ error.Fault fault.OutOfMemory) → IfSome (type_of before f) (λ t. slots ≡ length (types_of (component_types before.core) t.results)) → CallsAgain f params slots before after (Err e) results
+    pub made_err : (e : Error) (o : Outcome) → ¬ (e ≡ error.Fault fault.OutOfMemory) → IfSome (type_of before f) (λ t. slots ≡ length (types_of (component_types before.core) t.results))
+        → CallsAgain f params slots before after (Err e) results
         → o ≡ outcome_at k h → MakesAgain k call before final (Some o)
     made_err e o other slots_are calls is = subst (Departs k call before) (sym is)
         (after_err slots results e other (subst (λ (x : Named). IfSome (type_of before x) (λ t. slots ≡ length (types_of (component_types before.core) t.results))) named slots_are)

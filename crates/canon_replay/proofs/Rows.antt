@@ -34,7 +34,8 @@ same_made recorded k a call e f =
     let results : a.results.items ≡ call.results = ap (λ x. x.1.1) e in
     rw export rw params rw results rw f refl
 
-pub all_made_are : (recorded : List (List Event)) (k : ℕ) (agains : List Again) (calls : List RecordedCall) → map told_again agains ≡ map told_call calls → drop k recorded ≡ map events_of_call calls → all_made recorded k agains ≡ map made_call_of calls
+pub all_made_are : (recorded : List (List Event)) (k : ℕ) (agains : List Again) (calls : List RecordedCall) → map told_again agains ≡ map told_call calls → drop k recorded ≡ map events_of_call calls
+    → all_made recorded k agains ≡ map made_call_of calls
 all_made_are recorded k [] [] e f = refl
 all_made_are recorded k [] (call ∷ calls) e f = absurd (omega (arith, ap length e))
 all_made_are recorded k (a ∷ agains) [] e f = absurd (omega (arith, ap length e))
@@ -49,7 +50,8 @@ as_many_made agains calls e = sym (map_length told_again agains) ∙ (ap length 
 
 -- ---- what fits
 
-pub known_again : (agains : List Again) (calls : List RecordedCall) (c : Component) → map told_again agains ≡ map told_call calls → All (IsRecordedCallOf (exports_of c) (imports_of c)) calls → All (λ (a : Again). a.export < length c.exports.items) agains
+pub known_again : (agains : List Again) (calls : List RecordedCall) (c : Component) → map told_again agains ≡ map told_call calls → All (IsRecordedCallOf (exports_of c) (imports_of c)) calls
+    → All (λ (a : Again). a.export < length c.exports.items) agains
 known_again [] calls c e are = All-nil (λ (a : Again). a.export < length c.exports.items)
 known_again (a ∷ agains) [] c e are = absurd (omega (arith, ap length e))
 known_again (a ∷ agains) (call ∷ calls) c e are =
@@ -61,7 +63,8 @@ known_again (a ∷ agains) (call ∷ calls) c e are =
     (known_again agains calls c others (All-tail (IsRecordedCallOf (exports_of c) (imports_of c)) call calls are))
 
 run_has : (func : ℕ) (post : Option ℕ) (events : List Event) → IsOneRun func post events → 0 < length events
-run_has func post events (words, memory, returned, after, run) = subst (λ (es : List Event). 0 < length es) (sym run.is) (some_events run.reallocs (event.Start func words memory) (events_in run.turns) (event.Return returned after ∷ posts post returned))
+run_has func post events (words, memory, returned, after, run) = subst (λ (es : List Event). 0 < length es) (sym run.is)
+    (some_events run.reallocs (event.Start func words memory) (events_in run.turns) (event.Return returned after ∷ posts post returned))
   where
     some_events : (xs : List Event) (e : Event) (ys zs : List Event) → 0 < length ((xs ++ e ∷ ys) ++ zs)
     some_events [] e ys zs = omega arith

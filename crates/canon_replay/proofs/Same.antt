@@ -85,7 +85,8 @@ asks_for callee call events answers trap later is run words memory more starts a
     all_met ts have last none =
         let m = met ts have in
         let ended : m.left ≡ [] = (subst (Each (OnStart (λ ws n. m.left ≡ []))) starts m.all).0 in
-        subst (λ (t : Option Trap). Meets last (params_requests false (host_asks callee.encoding) callee.params ts) answers t []) none (subst (λ l. Meets last (params_requests false (host_asks callee.encoding) callee.params ts) answers trap l) ended (m.met last))
+        subst (λ (t : Option Trap). Meets last (params_requests false (host_asks callee.encoding) callee.params ts) answers t []) none
+        (subst (λ l. Meets last (params_requests false (host_asks callee.encoding) callee.params ts) answers trap l) ended (m.met last))
 
 tells : (call : MadeCall) (before after : ReplayStore) → CallReplayed call before after → TellsRecorded call before
 tells call before after h = record { asks = asks; results = h.results; represents = returns_alike _ h.events call.events h.alike h.made.is.only_results; same = h.same }
@@ -94,7 +95,9 @@ tells call before after h = record { asks = asks; results = h.results; represent
     callee = callee_of before (named_export before call.export)
 
     by_start : MayStart callee.func h.made.is.turns h.made.is.late h.made.is.late_trap h.made.is.tail h.made.is.later → AsksForParams callee call.params call.events
-    by_start (inl (e, turns, late, late_trap, tail)) = absurd (no_run callee.func callee.post (subst (IsOneRun callee.func callee.post) e (answers_run callee.func callee.post h.made.is.answers h.made.is.trap h.made.is.later (subst (IsOneRun callee.func callee.post) h.made.is.in_parts h.made.is.one_run)).1))
+    by_start (inl (e, turns, late, late_trap, tail)) =
+        let run = answers_run callee.func callee.post h.made.is.answers h.made.is.trap h.made.is.later (subst (IsOneRun callee.func callee.post) h.made.is.in_parts h.made.is.one_run) in
+        absurd (no_run callee.func callee.post (subst (IsOneRun callee.func callee.post) e run.1))
     by_start (inr s) = asks_for callee call h.events h.made.is.answers h.made.is.trap h.made.is.later h.made.is.in_parts h.made.is.one_run s.words s.memory (events_in h.made.is.turns ++ h.made.is.tail) s.is h.alike h.made.is.requested
 
     asks : AsksForParams callee call.params call.events

@@ -26,7 +26,8 @@ pub one_part : (calls : List Recorded) (call : Recorded) (p q : Parts) (a : Agai
 one_part calls call p q a are e f h t = record {
   events = e ∙ ap (λ l. l ++ call.events ∷ []) are.events ∙ sym (ap (map events_of_call) more ∙ map-append events_of_call (recorded_calls calls) (recorded_call call ∷ []));
   asks = ap served_asks f ∙ map-append served_ask p.asks.items call.served.items ∙ ap (λ l. l ++ served_asks call.served.items) are.asks
-      ∙ sym (ap asks_of_calls more ∙ flat_map-append (λ (call : RecordedCall). call.served) (recorded_calls calls) (recorded_call call ∷ []) ∙ ap (λ l. asks_of_calls (recorded_calls calls) ++ l) (append-nil (served_asks call.served.items)));
+      ∙ sym (ap asks_of_calls more ∙ flat_map-append (λ (call : RecordedCall). call.served) (recorded_calls calls) (recorded_call call ∷ [])
+      ∙ ap (λ l. asks_of_calls (recorded_calls calls) ++ l) (append-nil (served_asks call.served.items)));
   again = ap (map told_again) h ∙ map-append told_again p.calls.items (a ∷ []) ∙ ap (λ x. map told_again p.calls.items ++ x ∷ []) t ∙ ap (λ l. l ++ told_call (recorded_call call) ∷ []) are.again
       ∙ sym (ap (map told_call) more ∙ map-append told_call (recorded_calls calls) (recorded_call call ∷ []));
 }

@@ -14,11 +14,13 @@ returns-then-not-has_passed_in-clause-passed c =
 pub returns-in-Ok-true-clause-passed : goal.returns-in-Ok-true-clause-passed
 returns-in-Ok-true-clause-passed c =
     let passed : c.has_passed_in.result ≡ true = search rules in
-    ended_same c.args.k c.args.func.now c.args.store.now c.args.results.items c.args.recorded.items c.has_passed_in.new.store c.has_passed_in.ensures.same (sym c.has_passed_in.ensures.is ∙ passed) (rw c.in-Ok-true.field-0-test at c.in-Ok-true.ensures)
+    ended_same c.args.k c.args.func.now c.args.store.now c.args.results.items c.args.recorded.items c.has_passed_in.new.store c.has_passed_in.ensures.same (sym c.has_passed_in.ensures.is ∙ passed)
+    (rw c.in-Ok-true.field-0-test at c.in-Ok-true.ensures)
 
 pub returns-in-Ok-false-clause-passed : goal.returns-in-Ok-false-clause-passed
 returns-in-Ok-false-clause-passed c =
-    ended_otherwise c.args.k c.args.func.now c.args.store.now c.args.results.items c.args.recorded.items c.has_passed_in.new.store c.has_passed_in.ensures.same c.outcome_in-in-Ok-false.result (rw c.in-Ok-false.field-0-test at c.in-Ok-false.ensures) c.outcome_in-in-Ok-false.ensures.is
+    ended_otherwise c.args.k c.args.func.now c.args.store.now c.args.results.items c.args.recorded.items c.has_passed_in.new.store c.has_passed_in.ensures.same c.outcome_in-in-Ok-false.result
+    (rw c.in-Ok-false.field-0-test at c.in-Ok-false.ensures) c.outcome_in-in-Ok-false.ensures.is
 
 pub returns-in-Err-clause-short : goal.returns-in-Err-clause-short
 returns-in-Err-clause-short c =

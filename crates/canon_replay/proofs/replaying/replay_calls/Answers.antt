@@ -8,7 +8,8 @@ use Rattle.canon_replay.proofs.replaying.replay_calls.Goals as goal
 pub loop-call-init : goal.loop-call-init
 loop-call-init c =
     let given = c.into_iter-call-iterator.ensures.into_iter_gives in
-    (subst (AreReplayed c.args.store.now c.args.calls.items 0 c.args.store.now) (sym given.0) (loop_begins c.args.store.now c.args.calls.items c.requires.ready c.requires.known c.requires.count c.requires.few_calls c.requires.events), given.1 ∙ (c.args.calls.ok.0 ∙ sym (ap length given.0)))
+    let begins = loop_begins c.args.store.now c.args.calls.items c.requires.ready c.requires.known c.requires.count c.requires.few_calls c.requires.events in
+    (subst (AreReplayed c.args.store.now c.args.calls.items 0 c.args.store.now) (sym given.0) begins, given.1 ∙ (c.args.calls.ok.0 ∙ sym (ap length given.0)))
 
 pub make_again-requires : goal.make_again-requires
 make_again-requires c =

@@ -1,4 +1,4 @@
-use Rattle.std.proofs.Common.{ap, refl, ◌∙◌}
+use Rattle.std.proofs.Common.{ap}
 use Rattle.canon_recording.specs.Recordings.{served_asks}
 use Rattle.canon_replay.proofs.Storing.{new_store}
 use Rattle.canon_replay.proofs.store.store_of.Goals as goal
