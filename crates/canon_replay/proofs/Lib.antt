@@ -1,0 +1,13 @@
+pub mod Asks
+pub mod Comparing
+pub mod Departing
+pub mod Ending
+pub mod Looping
+pub mod Making
+pub mod Places
+pub mod Rows
+pub mod Running
+pub mod Same
+pub mod Splitting
+pub mod Storing
+pub mod Whole

@@ -1,0 +1,6 @@
+pub mod Calls
+pub mod Imports
+pub mod Laws
+pub mod Made
+pub mod Outcomes
+pub mod Stores
