@@ -1,4 +1,4 @@
-use Rattle.std.proofs.Common.{ap, inl, length, map, refl, subst, ◌∙◌, ◌≡◌}
+use Rattle.std.proofs.Common.{ap, inl, length, map, refl, rules, subst, ◌∙◌, ◌≡◌}
 use Rattle.std.specs.Prelude.{IfSome}
 use Rattle.canon_func.specs.Stores.{type_of}
 use Rattle.canon_literals.specs.Literals.{all_known, held_among, listed_resource, literals_view, replaced}
@@ -15,7 +15,8 @@ returns-clause-called g c =
     let s2 = session c.call_with.new.store c.call_with.new.list.items in
     let given = c.args.given.now in
     let looked = subst (λ l. AreLooked l given c.in_ok-params.params.items) c.deref.ensures.value c.in_ok-params.ensures in
-    let known = c.in_ok-known.ensures ∙ ap (λ n. all_known n (held_among (literals_view given))) c.len.ensures.len in
+    let count : c.len.result ≡ length c.args.list.now.items = search rules in
+    let known = c.in_ok-known.ensures ∙ ap (λ n. all_known n (held_among (literals_view given))) count in
     map_if_ok _ _ (λ a called. numbered_call log f s s2 a given c.in_ok-params.params.items c.in_ok-known.known (type_of store f) known c.if-not-known.false looked
     (subst (λ ps. IfSome (type_of store f) (λ t. AnswersCall log f t ps s s2 a)) c.deref-2.ensures.value called)) _ c.call_with.ensures.called
 
@@ -32,5 +33,6 @@ pub returns-then-not-known-clause-called : goal.returns-then-not-known-clause-ca
 returns-then-not-known-clause-called g c =
     let store = c.args.store.now in
     let given = c.args.given.now in
-    let known = c.in_ok-known.ensures ∙ ap (λ n. all_known n (held_among (literals_view given))) c.len.ensures.len in
+    let count : c.len.result ≡ length c.args.list.now.items = search rules in
+    let known = c.in_ok-known.ensures ∙ ap (λ n. all_known n (held_among (literals_view given))) count in
     unknown_by g.E.Channel.log c.args.func.now (session store c.args.list.now.items) given c.in_ok-known.known (type_of store c.args.func.now) known c.if-not-known.true
