@@ -1,20 +1,34 @@
 //! Results that are stored at a place of the guest's own, which one that is watched is told of.
 
+ghost use Rattle.std.specs.Prelude.{◌≡◌, IfSome, length};
+
 use super::{ask, types_of};
 use canon_host::{HostFunc, HostStop, HostView, StaticHostFn};
 use canon_memory::{ValRaw, Watched};
 use canon_scripted::ScriptedGuest;
 use canon_test_core::{core_over, memory_of};
-use canon_types::{InterfaceType, StringEncoding};
+use canon_types::{InterfaceType, StringEncoding, TypeFuncIndex};
+use canon_value::Core;
 use std::alloc::Global;
 
-/// How the answer of a guest was marked that gives blocks from an address up: it is asked for one of two bytes while a text is stored whose
-/// pointer and length stand from 8 to 16.
-fn mark_of_text(alloc: Global, first: u64) -> Option<bool> {
+/// A core over a guest that is watched.
+type WatchedCore = Core<u32, Watched<ScriptedGuest>>;
+
+/// A core whose guest gives blocks from an address up, and the type of a function that answers a text.
+fn core_from(alloc: Global, first: u64) -> Option<(WatchedCore, TypeFuncIndex)>
+    ensures options { IfSome result (λ r. length r.0.component.options.items ≡ 1) }
+{
     let (types, ty) = types_of(alloc, &[], &[InterfaceType::String], false)?;
     let memory = memory_of(alloc, &[]).ok()?;
     let guest = Watched::lawful_only(alloc, ScriptedGuest::new(alloc, first));
-    let mut core = core_over(alloc, guest, StringEncoding::Utf8, types, memory).ok()?;
+    let core = core_over(alloc, guest, StringEncoding::Utf8, types, memory).ok()?;
+    Some((core, ty))
+}
+
+/// How the one answer was marked of a guest that is asked for two bytes while a text is stored whose pointer and length stand from 8 to 16.
+fn ask_text(alloc: Global, core: &mut WatchedCore, ty: TypeFuncIndex) -> Option<bool>
+    requires options { length core.old.component.options.items ≡ 1 }
+{
     let func = HostFunc::func_wrap(|_view: &mut HostView<'_, '_, u32>, _params: ()| -> Result<
         (String,),
         HostStop,
@@ -24,15 +38,21 @@ fn mark_of_text(alloc: Global, first: u64) -> Option<bool> {
             Err(_) => Err(HostStop::OutOfMemory),
         }
     });
-    let instance = &core.component().types;
-    if !instance.types().contains_func(ty) || func.typecheck(ty, instance).is_err() {
+    let types = &core.component().types;
+    if !types.types().contains_func(ty) || func.typecheck(ty, types).is_err() {
         return None;
     }
-    let (answer, _left) = ask(alloc, &func, &mut core, ty, &[ValRaw::u32(8)])?;
+    let (answer, _left) = ask(alloc, &func, core, ty, &[ValRaw::u32(8)])?;
     match core.guest_mut().marks() {
         [mark] if answer.is_ok() => Some(mark.lawful),
         _ => None,
     }
+}
+
+/// The same of a guest that gives blocks from an address up.
+fn mark_of_text(alloc: Global, first: u64) -> Option<bool> {
+    let (mut core, ty) = core_from(alloc, first)?;
+    ask_text(alloc, &mut core, ty)
 }
 
 #[test]
