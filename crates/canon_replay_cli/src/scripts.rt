@@ -1,0 +1,76 @@
+//! Scripts whose calls may be recorded.
+
+ghost use Rattle.std.specs.Prelude.{◌≡◌, ◌↔◌, All, IfOk, IsTrue, Some, map};
+ghost use Rattle.serde_json.specs.View.{view};
+ghost use Rattle.canon_json.specs.declared.error.ScriptError.TheVariants as refused;
+ghost use Rattle.canon_context.specs.Component.{IsComponent};
+ghost use Rattle.canon_recording.specs.Fits.{IsRecordable};
+ghost use Rattle.canon_script.specs.Script.{IsWellFormed, Play, item_view, play_of, script_of};
+ghost use Rattle.canon_player.specs.Stores.{IsScripted};
+ghost use Rattle.canon_replay_cli.specs.Scripts.{IsCallItem, IsNoRecordable, IsScriptedBy, RecordableScript, component_of_play};
+
+use canon_json::ScriptError;
+use canon_player::component_of;
+use canon_recording::recordable;
+use canon_script::{Item, Script, script_of_json};
+use canon_value::Component;
+use serde_json::Value;
+use std::alloc::Global;
+
+/// The component of a script, its calls, and what each of them may use.
+#[derive(Drop)]
+pub(crate) struct Scripted {
+    pub(crate) component: Component,
+    pub(crate) items: Vec<Item>,
+    pub(crate) fuel: u64,
+    pub(crate) turns: u64,
+    ghost sound: { IsComponent component },
+    ghost recordable: { IsRecordable component },
+}
+
+/// The script that a JSON value stands for, if its items are calls and those of its component may be recorded. `BadScript` says that it is
+/// none.
+pub(crate) fn scripted_of_json(alloc: Global, v: &Value) -> Result<Scripted, ScriptError>
+    ensures script { IfOk result (λ s. (play : Play) × (script_of (view v.now) ≡ Some play) × IsScriptedBy play s) }
+    ensures bad_script { result ≡ Err refused.BadScript → IsNoRecordable (script_of (view v.now)) }
+{
+    let script = script_of_json(alloc, v)?;
+    if !are_calls(&script.items) {
+        return Err(ScriptError::BadScript);
+    }
+    let Script {
+        fuel,
+        turns,
+        encoding,
+        types,
+        posts,
+        imports,
+        items,
+        ..
+    } = script;
+    let Ok(component) = component_of(alloc, types, encoding, &posts, imports) else {
+        return Err(ScriptError::OutOfMemory);
+    };
+    if !recordable(&component) {
+        return Err(ScriptError::BadScript);
+    }
+    Ok(Scripted {
+        component,
+        items,
+        fuel,
+        turns,
+    })
+}
+
+/// Whether each item is a call with dynamic values.
+fn are_calls(items: &[Item]) -> bool
+    ensures { IsTrue result ↔ All IsCallItem (map item_view items.now) }
+{
+    items.iter().all(is_call)
+}
+
+fn is_call(item: &Item) -> bool
+    ensures { IsTrue result ↔ IsCallItem (item_view item.now) }
+{
+    matches!(item, Item::Call(_))
+}
