@@ -4,7 +4,7 @@ use lib.Pointwise.{pointwise}
 use Rattle.std.specs.declared.alloc.Global.{Global}
 use Rattle.serde_json.specs.Data.{Data}
 use Rattle.canon_script.specs.Script.{Play, script_of}
-use Rattle.canon_cli.specs.Program.{IsInput, IsJson, IsNoJson, IsStatus, ReadsTask, max_input}
+use Rattle.canon_cli.specs.Program.{IsInput, IsJson, IsNoJson, IsStatus, max_input}
 use Rattle.canon_cli.specs.declared.status.Status.{Status}
 use Rattle.canon_replay_cli.specs.Recorded.{IsNotWritten, IsPlayRecorded}
 use Rattle.canon_replay_cli.specs.Replays.{IsNoReplayTask, IsReplayText, ReplayTask, replay_task_of}
@@ -28,23 +28,32 @@ abbrev pub IsNoTaskOf : ReplayCommand → Data → Type 0
 IsNoTaskOf command.Record tree = IsNoRecordable (script_of tree)
 IsNoTaskOf command.Replay tree = IsNoReplayTask (replay_task_of tree)
 
--- what was read was done, and this is to be written
-abbrev pub IsDoneBy : ReplayCommand → Option (List ℕ) → Option (List ℕ) → List ℕ → Type 0
-IsDoneBy command.Record left left' bytes = (play : Play) × ReadsTask script_of left left' play × IsPlayRecorded play bytes
-IsDoneBy command.Replay left left' text = (task : ReplayTask) × ReadsTask replay_task_of left left' task × IsReplayText task text
+-- it was done, and this is to be written
+abbrev pub IsDoneOf : ReplayCommand → Data → List ℕ → Type 0
+IsDoneOf command.Record tree bytes = (play : Play) × (script_of tree ≡ Some play) × IsPlayRecorded play bytes
+IsDoneOf command.Replay tree text = (task : ReplayTask) × (replay_task_of tree ≡ Some task) × IsReplayText task text
 
--- what was read was played, and its recording isn't written
-abbrev pub ReadsUnwritten : ReplayCommand → Option (List ℕ) → Option (List ℕ) → Type 0
-ReadsUnwritten command.Record left left' = (play : Play) × ReadsTask script_of left left' play × IsNotWritten play
-ReadsUnwritten command.Replay left left' = ⊥
+-- it was played, and its recording isn't written
+abbrev pub IsUnwrittenOf : ReplayCommand → Data → Type 0
+IsUnwrittenOf command.Record tree = (play : Play) × (script_of tree ≡ Some play) × IsNotWritten play
+IsUnwrittenOf command.Replay tree = ⊥
 
--- what was read is JSON, and not what the command reads
-pub record ReadsOther (asked : ReplayCommand) (left left' : Option (List ℕ)) : Type 0 where
+-- what was read is a JSON value of which this is so
+pub record ReadsSo (IsSo : Data → Type 0) (left left' : Option (List ℕ)) : Type 0 where
   pub input : List ℕ
   pub tree : Data
   pub whole : IsInput left left' input
   pub json : IsJson input tree
-  pub none : IsNoTaskOf asked tree
+  pub so : IsSo tree
+
+abbrev pub IsDoneBy : ReplayCommand → Option (List ℕ) → Option (List ℕ) → List ℕ → Type 0
+IsDoneBy asked left left' bytes = ReadsSo (λ tree. IsDoneOf asked tree bytes) left left'
+
+abbrev pub ReadsUnwritten : ReplayCommand → Option (List ℕ) → Option (List ℕ) → Type 0
+ReadsUnwritten asked left left' = ReadsSo (IsUnwrittenOf asked) left left'
+
+abbrev pub ReadsOther : ReplayCommand → Option (List ℕ) → Option (List ℕ) → Type 0
+ReadsOther asked left left' = ReadsSo (IsNoTaskOf asked) left left'
 
 -- those of `canon`, and 9
 abbrev pub IsReplayStatus : Status → Type 0

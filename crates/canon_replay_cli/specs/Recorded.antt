@@ -1,12 +1,12 @@
 -- What a script leaves as a recording, once it was played.
-use Rattle.std.specs.Prelude.{All, List, length, ℕ, ◌<◌, ◌^◌, ◌≤◌, ◌⊎◌}
+use Rattle.std.specs.Prelude.{List, length, ℕ, ◌<◌, ◌^◌, ◌≤◌, ◌⊎◌}
 use Rattle.canon_context.specs.declared.component.Component.{Component}
 use Rattle.canon_recording.specs.Fits.{FitsComponent, IsRecordable}
 use Rattle.canon_recording.specs.Recordings.{RecordedCall, recording}
 use Rattle.canon_script.specs.Script.{Play}
 use Rattle.canon_player.specs.Session.{Session}
 use Rattle.canon_transcript.specs.declared.transcript.Record.{Record}
-use Rattle.canon_replay_cli.specs.Scripts.{IsCallItem, IsOfScript}
+use Rattle.canon_replay_cli.specs.Scripts.{AreCallItems, IsOfScript}
 use Rattle.canon_replay_cli.specs.Taken.{TakesCalls}
 
 -- these are the bytes of a recording of the component
@@ -25,7 +25,7 @@ pub record IsPlayTaken (play : Play) (IsSo : Component → List RecordedCall →
   pub component : Component
   pub is_of : IsOfScript play component
   pub recordable : IsRecordable component
-  pub all_calls : All IsCallItem play.items
+  pub all_calls : AreCallItems play.items
   pub calls : List RecordedCall
   pub taken : TakesCalls play.items records calls
   pub so : IsSo component calls

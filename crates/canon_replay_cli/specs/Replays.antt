@@ -1,5 +1,5 @@
 -- What the word `replay` asks: a script, and the bytes of a recording.
-use Rattle.std.specs.Prelude.{All, List, None, Option, Some, codes, if◌then◌else◌, option_and_then, option_map, ℕ, ⊤}
+use Rattle.std.specs.Prelude.{List, None, Option, Some, codes, if◌then◌else◌, option_and_then, option_map, ℕ, ⊤}
 use Rattle.serde_json.specs.Data.{Data}
 use Rattle.serde_json.specs.Find.{as_object, get}
 use Rattle.canon_context.specs.declared.component.Component.{Component}
@@ -8,7 +8,7 @@ use Rattle.canon_json.specs.Json.{has_len}
 use Rattle.canon_recording.specs.Fits.{IsRecordable}
 use Rattle.canon_script.specs.Script.{Play, script_of}
 use Rattle.canon_replay_cli.specs.Lines.{IsToldOf}
-use Rattle.canon_replay_cli.specs.Scripts.{IsCallItem, IsOfScript, IsRecordableScript}
+use Rattle.canon_replay_cli.specs.Scripts.{AreCallItems, IsOfScript, IsRecordableScript}
 
 -- a script, and bytes
 pub record ReplayTask : Type 0 where
@@ -37,5 +37,5 @@ pub record IsReplayText (task : ReplayTask) (text : List ℕ) : Type 0 where
   pub component : Component
   pub is_of : IsOfScript task.script component
   pub recordable : IsRecordable component
-  pub all_calls : All IsCallItem task.script.items
+  pub all_calls : AreCallItems task.script.items
   pub told : IsToldOf component task.script.fuel task.script.turns task.bytes text

@@ -1,6 +1,5 @@
 -- The calls of a script that was played, as a recording.
 use Rattle.std.specs.Prelude.{Bool, List, None, Option, Some, [], false, map, take, true, ℕ, ⊤, ◌+◌, ◌∷◌, ◌≡◌}
-use Rattle.std.specs.List.{list_any}
 use Rattle.canon_memory.specs.declared.event.Event.{Event}
 use Rattle.canon_memory.specs.declared.event.Event.TheVariants as event
 use Rattle.canon_scripted.specs.declared.orders.Ordered.{Ordered}
@@ -23,14 +22,15 @@ reallocs_in [] = 0
 reallocs_in (event.Realloc old old_size align new_size answer ∷ events) = 1 + reallocs_in events
 reallocs_in (e ∷ events) = reallocs_in events
 
--- the script orders an address
-abbrev pub is_ordered : Ordered → Bool
-is_ordered (ordered.Answer a) = true
-is_ordered _ = false
+-- an address is among these orders
+abbrev pub orders_address : List Ordered → Bool
+orders_address [] = false
+orders_address (ordered.Answer a ∷ orders) = true
+orders_address (order ∷ orders) = orders_address orders
 
 -- `realloc` answered an address that the script orders, whatever was asked: that breaks its law.
 abbrev pub breaks_law : List Ordered → List Event → Bool
-breaks_law orders events = list_any is_ordered (take (reallocs_in events) orders)
+breaks_law orders events = orders_address (take (reallocs_in events) orders)
 
 -- ---- calls
 

@@ -1,13 +1,12 @@
 //! The whole program `canon_replay`: reads a JSON value, and writes a recording, or what became of one.
 
-ghost use Rattle.std.specs.Prelude.{◌≡◌, ◌⊎◌, ◌↔◌, Err, IfErr, IfOk, IfSome, List, None, Option, ℕ, string_bytes};
+ghost use Rattle.std.specs.Prelude.{◌≡◌, ◌⊎◌, ◌↔◌, Err, IfErr, IfOk, IfSome, List, None, ℕ};
 ghost use Rattle.std.specs.Io.KnownBytes.{Appends};
 ghost use Rattle.serde_json.specs.View.{view};
 ghost use Rattle.canon_memory.specs.Counts.{Rose};
-ghost use Rattle.canon_script.specs.Script.{Play, script_of};
-ghost use Rattle.canon_cli.specs.Program.{IsRefusedStatus, OnTold, ReadsNoJson, ReadsTask, ReadsTooMuch, max_input, most_taken};
+ghost use Rattle.canon_cli.specs.Program.{IsRefusedStatus, OnTold, ReadsNoJson, ReadsTooMuch, max_input, most_taken};
 ghost use Rattle.canon_cli.specs.Streams.{AppendsPrefix, TakesAtMost};
-ghost use Rattle.canon_replay_cli.specs.Program.{AnswersReplay, IsDoneBy, IsReplayStatus, IsTaskOf, ReadsOther, ReadsUnwritten, replay_command_of};
+ghost use Rattle.canon_replay_cli.specs.Program.{AnswersReplay, IsDoneBy, IsDoneOf, IsNoTaskOf, IsReplayStatus, IsTaskOf, IsUnwrittenOf, ReadsOther, ReadsUnwritten, replay_command_of};
 
 use crate::command::{ReplayCommand, replay_command_of};
 use crate::lines::replay_lines;
@@ -141,7 +140,12 @@ fn bytes_of_input<S: Source>(
 }
 
 /// The recording of the script of a JSON value.
-fn recorded(alloc: Global, tree: &Value) -> Result<Vec<u8>, Status> {
+fn recorded(alloc: Global, tree: &Value) -> Result<Vec<u8>, Status>
+    ensures done { IfOk result (λ bytes. IsDoneOf ReplayCommand.Record (view tree.now) bytes.items) }
+    ensures not_recorded { result ≡ Err NOT_RECORDED → IsUnwrittenOf ReplayCommand.Record (view tree.now) }
+    ensures bad_script { result ≡ Err Status.BAD_SCRIPT → IsNoTaskOf ReplayCommand.Record (view tree.now) }
+    ensures no_other { IfErr result (λ s. (s ≡ Status.MEMORY) ⊎ ((s ≡ Status.BAD_SCRIPT) ⊎ (s ≡ NOT_RECORDED))) }
+{
     match record_bytes(alloc, tree) {
         Ok(bytes) => Ok(bytes),
         Err(RecordError::BadScript) => Err(Status::BAD_SCRIPT),
@@ -151,7 +155,11 @@ fn recorded(alloc: Global, tree: &Value) -> Result<Vec<u8>, Status> {
 }
 
 /// The lines of the recording of a JSON value.
-fn replayed(alloc: Global, tree: &Value) -> Result<Vec<u8>, Status> {
+fn replayed(alloc: Global, tree: &Value) -> Result<Vec<u8>, Status>
+    ensures done { IfOk result (λ bytes. IsDoneOf ReplayCommand.Replay (view tree.now) bytes.items) }
+    ensures bad_script { result ≡ Err Status.BAD_SCRIPT → IsNoTaskOf ReplayCommand.Replay (view tree.now) }
+    ensures no_other { IfErr result (λ s. (s ≡ Status.MEMORY) ⊎ (s ≡ Status.BAD_SCRIPT)) }
+{
     match replay_lines(alloc, tree) {
         Ok(text) => Ok(text.into_bytes()),
         Err(ScriptError::BadScript) => Err(Status::BAD_SCRIPT),

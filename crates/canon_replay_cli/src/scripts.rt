@@ -1,13 +1,12 @@
 //! Scripts whose calls may be recorded.
 
-ghost use Rattle.std.specs.Prelude.{◌≡◌, ◌↔◌, All, IfOk, IsTrue, Some, map};
+ghost use Rattle.std.specs.Prelude.{◌≡◌, ◌↔◌, IfOk, IsTrue, Some, map};
 ghost use Rattle.serde_json.specs.View.{view};
 ghost use Rattle.canon_json.specs.declared.error.ScriptError.TheVariants as refused;
 ghost use Rattle.canon_context.specs.Component.{IsComponent};
 ghost use Rattle.canon_recording.specs.Fits.{IsRecordable};
-ghost use Rattle.canon_script.specs.Script.{IsWellFormed, Play, item_view, play_of, script_of};
-ghost use Rattle.canon_player.specs.Stores.{IsScripted};
-ghost use Rattle.canon_replay_cli.specs.Scripts.{IsCallItem, IsNoRecordable, IsScriptedBy, RecordableScript, component_of_play};
+ghost use Rattle.canon_script.specs.Script.{Play, item_view, script_of};
+ghost use Rattle.canon_replay_cli.specs.Scripts.{AreCallItems, IsCallItem, IsNoRecordable, IsScriptedBy};
 
 use canon_json::ScriptError;
 use canon_player::component_of;
@@ -64,9 +63,14 @@ pub(crate) fn scripted_of_json(alloc: Global, v: &Value) -> Result<Scripted, Scr
 
 /// Whether each item is a call with dynamic values.
 fn are_calls(items: &[Item]) -> bool
-    ensures { IsTrue result ↔ All IsCallItem (map item_view items.now) }
+    ensures { IsTrue result ↔ AreCallItems (map item_view items.now) }
 {
-    items.iter().all(is_call)
+    for item in items {
+        if !is_call(item) {
+            return false;
+        }
+    }
+    true
 }
 
 fn is_call(item: &Item) -> bool

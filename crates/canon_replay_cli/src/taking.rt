@@ -1,9 +1,9 @@
 //! The calls of a script that was played, as a recording.
 
-ghost use Rattle.std.specs.Prelude.{◌≡◌, IfOk, IfSome, List, any, map, take};
+ghost use Rattle.std.specs.Prelude.{◌≡◌, IfOk, map};
 ghost use Rattle.canon_script.specs.Script.{item_view};
-ghost use Rattle.canon_recording.specs.Recordings.{calls_in, recorded_call, served_ask, served_asks};
-ghost use Rattle.canon_replay_cli.specs.Taken.{IsTakenCall, TakesCalls, asked_of_served, breaks_law, is_ordered, reallocs_in};
+ghost use Rattle.canon_recording.specs.Recordings.{calls_in, served_ask, served_asks};
+ghost use Rattle.canon_replay_cli.specs.Taken.{IsTakenCall, TakesCalls, asked_of_served, breaks_law, orders_address, reallocs_in};
 
 use canon_memory::Event;
 use canon_recording::{Recorded, Recording, Served};
@@ -25,10 +25,10 @@ pub(crate) fn recording_of(
     let mut records = records.into_iter();
     for item in items {
         let Some(record) = records.next() else {
-            break;
+            return Ok(Recording { calls });
         };
         let Some(call) = recorded_of(alloc, item, record)? else {
-            break;
+            return Ok(Recording { calls });
         };
         calls.push(call)?;
     }
@@ -76,30 +76,41 @@ fn served_of(
     ensures { IfOk result (λ asks. served_asks asks.items ≡ map asked_of_served served.items) }
 {
     let mut asks = Vec::with_capacity(alloc, served.len())?;
-    for (import, params, results) in served {
-        let ask = Served {
-            import,
-            params,
-            results,
-        };
-        asks.push(ask)?;
+    for entry in served {
+        asks.push(ask_of(entry))?;
     }
     Ok(asks)
 }
 
-/// Whether `realloc` gave an address by order of the script, which breaks its law.
+fn ask_of(entry: canon_transcript::Served) -> Served
+    ensures { served_ask result ≡ asked_of_served entry }
+{
+    let (import, params, results) = entry;
+    Served {
+        import,
+        params,
+        results,
+    }
+}
+
+/// Whether `realloc` answered an address by order of the script, which breaks its law.
 fn breaks_law(orders: &[Ordered], events: &[Event]) -> bool
     ensures { result ≡ breaks_law orders.now events.now }
 {
     let followed = reallocs_in(events).min(orders.len());
-    orders[..followed].iter().any(is_ordered)
+    orders_address(&orders[..followed])
 }
 
-/// Whether an address is ordered.
-fn is_ordered(order: &Ordered) -> bool
-    ensures { result ≡ is_ordered order.now }
+/// Whether an address is among these orders.
+fn orders_address(orders: &[Ordered]) -> bool
+    ensures { result ≡ orders_address orders.now }
 {
-    matches!(order, Ordered::Answer(_))
+    for order in orders {
+        if let Ordered::Answer(_) = order {
+            return true;
+        }
+    }
+    false
 }
 
 /// How often `realloc` answered.
