@@ -1,5 +1,6 @@
 -- What the program answers an input that was there to be read.
 use Rattle.std.proofs.Common.{◌≡◌, ◌≤◌, ◌<◌, ℕ, List, [], ◌++◌, length, Option, None, Some, ap, append-nil, arith, inl, inr, length-append, subst, sym, ◌∙◌, ◌⊎◌}
+use Rattle.std.specs.Prelude.{IfSome}
 use Rattle.std.specs.Io.KnownBytes.{Consumes}
 use Rattle.serde_json.specs.Data.{Data}
 use Rattle.canon_script.specs.Script.{Play, script_of}
@@ -13,6 +14,9 @@ use Rattle.canon_replay_cli.specs.Scripts.{AreCallItems, IsNoRecordable, IsOfScr
 use Rattle.canon_replay_cli.specs.declared.command.ReplayCommand.{ReplayCommand}
 use Rattle.canon_replay_cli.specs.declared.command.ReplayCommand.TheVariants as command
 use Rattle.canon_replay_cli.proofs.Recordable.{one_recordable}
+
+pub asked_is : (P : ReplayCommand → Type 0) (o : Option ReplayCommand) (asked : ReplayCommand) → o ≡ Some asked → P asked → IfSome o P
+asked_is P o asked is h = subst (λ (x : Option ReplayCommand). IfSome x P) (sym is) h
 
 -- ---- what is done is a task
 

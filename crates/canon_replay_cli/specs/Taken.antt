@@ -42,9 +42,9 @@ IsOkAnswer (answer.Ok results) = ⊤
 IsOkAnswer _ = ⊥
 
 -- a call that answered Ok, and whose guest broke no law by order of the script
-abbrev pub IsKept : ScriptItem → Record → Type 0
-IsKept (call_item c) r = (breaks_law c.reallocs r.events ≡ false) × IsOkAnswer r.answer
-IsKept _ r = ⊥
+abbrev pub IsTakenOf : ScriptItem → Record → Type 0
+IsTakenOf (call_item c) r = (breaks_law c.reallocs r.events ≡ false) × IsOkAnswer r.answer
+IsTakenOf _ r = ⊥
 
 -- the recorded call is the one of this item and this record; its parameters are the script's, apart from how they are kept
 pub record IsCallOfRecord (c : ScriptCall) (r : Record) (call : RecordedCall) : Type 0 where
@@ -62,11 +62,11 @@ IsCallOfItem _ r call = ⊥
 abbrev pub TakesCalls : List ScriptItem → List Record → List RecordedCall → Type 0
 TakesCalls [] records calls = calls ≡ []
 TakesCalls (i ∷ items) [] calls = calls ≡ []
-TakesCalls (i ∷ items) (r ∷ records) [] = ¬ IsKept i r
-TakesCalls (i ∷ items) (r ∷ records) (call ∷ calls) = IsKept i r × IsCallOfItem i r call × TakesCalls items records calls
+TakesCalls (i ∷ items) (r ∷ records) [] = ¬ IsTakenOf i r
+TakesCalls (i ∷ items) (r ∷ records) (call ∷ calls) = IsTakenOf i r × IsCallOfItem i r call × TakesCalls items records calls
 
 -- ---- how it is kept
 
 abbrev pub IsTakenCall : ScriptItem → Record → Option Recorded → Type 0
-IsTakenCall i r None = ¬ IsKept i r
-IsTakenCall i r (Some call) = IsKept i r × IsCallOfItem i r (recorded_call call)
+IsTakenCall i r None = ¬ IsTakenOf i r
+IsTakenCall i r (Some call) = IsTakenOf i r × IsCallOfItem i r (recorded_call call)
