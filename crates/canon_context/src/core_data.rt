@@ -1,15 +1,16 @@
 //! What a store has of its component: the host's data, the guest and its memory, the ledger, and the fuel.
 
-ghost use Rattle.std.specs.Prelude.{◌≡◌, ◌≤◌, ◌<◌, ◌^◌, [], IfOk, IsFalse, OnOk, length};
+ghost use Rattle.std.specs.Prelude.{◌≡◌, ◌≤◌, ◌<◌, ◌^◌, [], IfErr, IfOk, IsFalse, OnOk, length};
 ghost use Rattle.canon_lowering.specs.Lowering.{Reallocated};
 ghost use Rattle.canon_lowering.specs.Stages.{bare};
-ghost use Rattle.canon_memory.specs.Guest.{Goes, HasCause, OnAnswer};
+ghost use Rattle.canon_memory.specs.Guest.{Goes, HasCause, HoldsPlace, MovesByNone, OnAnswer};
 ghost use Rattle.canon_memory.specs.Journal.{dtor_events, post_events, realloc_events, resume_events, start_events};
-ghost use Rattle.canon_memory.specs.Realloc.{call};
+ghost use Rattle.canon_memory.specs.Realloc.{block, call};
 ghost use Rattle.canon_model.specs.Laws.{IsAlignment};
 ghost use Rattle.canon_context.specs.Component.{IsComponent};
 ghost use Rattle.canon_abi.specs.Options.{encoding_of};
 ghost use Rattle.canon_context.specs.Core.{Parts, encoding_by, guest_of, moment_of};
+ghost use Rattle.canon_context.specs.declared.fault.Fault.TheVariants as fault;
 ghost use Rattle.canon_context.specs.Lowers.{answer_of, ending_of, guest_answer};
 
 mod handles;
@@ -229,6 +230,19 @@ impl<T, G: Guest> Core<T, G> {
         ensures same { self.new ≡ record self.old { guest = self.new.guest; memory = self.new.memory } }
     {
         self.guest.dtor(&mut self.memory, func, rep)
+    }
+
+    /// Tells the guest of a place that will be written before it runs again, as `Guest::hold`.
+    pub fn hold(&mut self, start: u64, size: u32) -> Result<(), Fault>
+        ensures holds { HoldsPlace (G.seen self.old.guest) (G.seen self.new.guest) (block start size) result }
+        ensures moves { OnOk result (MovesByNone G.moves self.old.guest self.new.guest) }
+        ensures fault { IfErr result (λ e. e ≡ fault.OutOfMemory) }
+        ensures same { self.new ≡ record self.old { guest = self.new.guest } }
+    {
+        match self.guest.hold(start, size) {
+            Ok(()) => Ok(()),
+            Err(_) => Err(Fault::OutOfMemory),
+        }
     }
 
     /// Asks the guest for a block once, and tests its answer, as `LowerContext::realloc`.

@@ -15,8 +15,8 @@ ghost use Rattle.canon_context.specs.Faults.{Stepped, SteppedSurely, borrow_part
 
 use crate::fault::faulted;
 use crate::{Fault, LiftContext, LowerContext};
-use canon_resources::{is_defined_here, kept_for};
 use canon_ledger::HostResourceIndex;
+use canon_resources::{is_defined_here, kept_for};
 use canon_types::{ResourceType, RuntimeInstance, TypeResourceTableIndex};
 
 impl<'a, T, G> LowerContext<'a, T, G> {

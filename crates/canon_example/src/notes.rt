@@ -5,7 +5,7 @@ ghost use Rattle.std.specs.Int.{next_multiple_of, to_le_bytes, w32};
 ghost use Rattle.canon_memory.specs.Counts.{Rose};
 
 use canon_memory::{Guest, GuestFault, Memory, Step, ValRaw, Words};
-use std::alloc::Global;
+use std::alloc::{AllocError, Global};
 
 /// The core function that adds a note.
 pub const ADD: u32 = 0;
@@ -194,7 +194,7 @@ impl Notes {
 }
 
 impl Guest for Notes {
-    ghost seen = { λ g. record { journal = None; marks = replicate g.counts.blocks (record { lawful = false; tidy = false }); live = []; traps = g.counts.traps; shortages = g.counts.shortages } };
+    ghost seen = { λ g. record { journal = None; marks = replicate g.counts.blocks (record { lawful = false; tidy = false }); live = []; holds = false; traps = g.counts.traps; shortages = g.counts.shortages } };
 
     ghost moves = { λ _ _ _. Unit {0} };
 
@@ -247,6 +247,10 @@ impl Guest for Notes {
         };
         self.counts.blocks += 1;
         Ok(at)
+    }
+
+    fn hold(&mut self, _start: u64, _size: u32) -> Result<(), AllocError> {
+        Ok(())
     }
 
     fn post_return(

@@ -1,5 +1,5 @@
 -- What the calls of an arena do is what the trait asks for.
-use Rattle.std.proofs.Common.{List, None, Ok, Err, Result, [], ◌≡◌, ◌≤◌, ◌∙◌, ap, arith, length, refl, replicate, sym, true, ℕ}
+use Rattle.std.proofs.Common.{List, None, Ok, Err, Result, [], ◌≡◌, ◌≤◌, ◌∙◌, ap, arith, false, length, refl, replicate, sym, true, ℕ}
 use Rattle.std.specs.Prelude.{IfOk, slice_index}
 use Rattle.std.proofs.lemmas.List.{append-nil}
 use Rattle.std.proofs.lemmas.Grind.{replicate_next}
@@ -22,7 +22,7 @@ free (Err fault.Trap) = tt
 free (Err fault.OutOfMemory) = tt
 
 abbrev pub seen_of : Arena → Seen
-seen_of a = record { journal = None; marks = replicate a.answers (record { lawful = true; tidy = true }); live = a.blocks.live; traps = a.traps; shortages = a.shortages }
+seen_of a = record { journal = None; marks = replicate a.answers (record { lawful = true; tidy = true }); live = a.blocks.live; holds = false; traps = a.traps; shortages = a.shortages }
 
 -- where memory keeps its length
 module _ (a b : Arena) (m n : List ℕ) (same : length n ≡ length m) where

@@ -1,11 +1,11 @@
 //! A guest whose answers are lawful.
 
-ghost use Rattle.std.specs.Prelude.{◌≡◌, [], None, replicate, true};
+ghost use Rattle.std.specs.Prelude.{◌≡◌, [], None, false, replicate, true};
 ghost use Rattle.canon_example_guests.specs.Arena.{Counts};
 
 use crate::blocks::Blocks;
 use canon_memory::{Guest, GuestFault, Memory, Step, ValRaw, Words};
-use std::alloc::Global;
+use std::alloc::{AllocError, Global};
 
 /// A guest that is passed a text, and returns the text's length as it was passed, which for UTF-8 is how many bytes it has. It gives each block
 /// behind all others, and takes none back.
@@ -53,7 +53,7 @@ impl Guest for Arena {
     ghost use Rattle.canon_example_guests.specs.Arena.{CountsAnswer, Starts};
 
     // Each answer is marked as lawful and tidy, and the live blocks are those of the list.
-    ghost seen = { λ g. record { journal = None; marks = replicate g.answers (record { lawful = true; tidy = true }); live = g.blocks.live; traps = g.traps; shortages = g.shortages } };
+    ghost seen = { λ g. record { journal = None; marks = replicate g.answers (record { lawful = true; tidy = true }); live = g.blocks.live; holds = false; traps = g.traps; shortages = g.shortages } };
 
     ghost moves = { λ _ _ _. Unit {0} };
 
@@ -119,6 +119,10 @@ impl Guest for Arena {
             }
             Err(fault) => Err(self.count(fault)),
         }
+    }
+
+    fn hold(&mut self, _start: u64, _size: u32) -> Result<(), AllocError> {
+        Ok(())
     }
 
     fn post_return(

@@ -1,9 +1,9 @@
 //! The smallest guest. Contracts see no journal of it.
 
-ghost use Rattle.std.specs.Prelude.{◌≡◌, [], None};
+ghost use Rattle.std.specs.Prelude.{◌≡◌, [], None, false};
 
 use canon_memory::{Guest, GuestFault, Memory, Step, ValRaw, Words};
-use std::alloc::Global;
+use std::alloc::{AllocError, Global};
 
 /// A guest that returns the words that it is started with. It has no import, and no block to give.
 #[derive(Drop)]
@@ -29,7 +29,7 @@ impl Guest for Echo {
     ghost use Rattle.std.specs.Prelude.{◌≡◌, ◌≤◌, [], IfOk, OnErr, Err};
     ghost use Rattle.canon_scripted.specs.Scripted.{raised_count};
 
-    ghost seen = { λ g. record { journal = None; marks = []; live = []; traps = g.traps; shortages = g.shortages } };
+    ghost seen = { λ g. record { journal = None; marks = []; live = []; holds = false; traps = g.traps; shortages = g.shortages } };
 
     ghost moves = { λ _ _ _. Unit {0} };
 
@@ -84,6 +84,10 @@ impl Guest for Echo {
     {
         self.traps = self.traps.saturating_add(1);
         Err(GuestFault::Trap)
+    }
+
+    fn hold(&mut self, _start: u64, _size: u32) -> Result<(), AllocError> {
+        Ok(())
     }
 
     fn post_return(

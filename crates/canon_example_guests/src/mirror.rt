@@ -1,10 +1,10 @@
 //! A guest that returns what it is passed.
 
-ghost use Rattle.std.specs.Prelude.{◌≡◌, [], None, replicate, true};
+ghost use Rattle.std.specs.Prelude.{◌≡◌, [], None, false, replicate, true};
 
 use crate::Arena;
 use canon_memory::{Guest, GuestFault, Memory, Step, ValRaw};
-use std::alloc::Global;
+use std::alloc::{AllocError, Global};
 
 /// Where the pointer and the length of a returned list lie.
 const RESULT: u32 = 0;
@@ -37,7 +37,7 @@ impl Guest for Mirror {
     ghost use Rattle.canon_scripted.specs.Allocator.{DoesPlace, new_placed};
     ghost use Rattle.canon_example_guests.specs.Arena.{CountsAnswer, Starts};
 
-    ghost seen = { λ g. record { journal = None; marks = replicate g.arena.answers (record { lawful = true; tidy = true }); live = g.arena.blocks.live; traps = g.arena.traps; shortages = g.arena.shortages } };
+    ghost seen = { λ g. record { journal = None; marks = replicate g.arena.answers (record { lawful = true; tidy = true }); live = g.arena.blocks.live; holds = false; traps = g.arena.traps; shortages = g.arena.shortages } };
 
     ghost moves = { λ _ _ _. Unit {0} };
 
@@ -96,6 +96,10 @@ impl Guest for Mirror {
         ensures lawful { IfOk result (λ at. ReallocLaw self.old.arena.blocks.live self.new.arena.blocks.live memory.old.bytes memory.new.bytes (call old old_size align new_size) at) }
     {
         self.arena.realloc(memory, old, old_size, align, new_size)
+    }
+
+    fn hold(&mut self, _start: u64, _size: u32) -> Result<(), AllocError> {
+        Ok(())
     }
 
     fn post_return(

@@ -1,11 +1,11 @@
 //! The guest: a door. It stands for the code that an embedder's engine runs in the guest's memory.
 
-ghost use Rattle.std.specs.Prelude.{◌≡◌, ◌≤◌, [], IfOk, None, length};
+ghost use Rattle.std.specs.Prelude.{◌≡◌, ◌≤◌, [], IfOk, None, false, length};
 ghost use Rattle.canon_memory.specs.Counts.{Rose};
 
 use crate::component::{CLOCK, DIARY};
 use canon_memory::{Guest, GuestFault, Memory, Step, ValRaw, Words};
-use std::alloc::Global;
+use std::alloc::{AllocError, Global};
 
 /// Where in its memory the guest writes what it did.
 const TEXT: u32 = 16;
@@ -117,7 +117,7 @@ impl Door {
 }
 
 impl Guest for Door {
-    ghost seen = { λ g. record { journal = None; marks = []; live = []; traps = g.traps; shortages = g.shortages } };
+    ghost seen = { λ g. record { journal = None; marks = []; live = []; holds = false; traps = g.traps; shortages = g.shortages } };
 
     ghost moves = { λ _ _ _. Unit {0} };
 
@@ -156,6 +156,10 @@ impl Guest for Door {
         _new_size: u64,
     ) -> Result<u64, GuestFault> {
         Err(self.count(GuestFault::Trap))
+    }
+
+    fn hold(&mut self, _start: u64, _size: u32) -> Result<(), AllocError> {
+        Ok(())
     }
 
     fn post_return(

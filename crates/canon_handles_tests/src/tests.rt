@@ -4,11 +4,11 @@ ghost use Rattle.std.specs.Prelude.{◌≡◌, None};
 ghost use Rattle.canon_handles.specs.Calls.{raw_index};
 ghost use Rattle.canon_handles.specs.Table.{entry_at, is_full, max_handle};
 
+use canon_abi::{TypeFutureTableIndex, TypeResourceTableIndex, TypeStreamTableIndex};
 use canon_handles::{
     HandleCounter, HandleError, HandleTable, RemovedResource, Scope, ThreadHandleTable,
     TransmitLocalState, TypedResource, TypedResourceIndex, Waitable,
 };
-use canon_abi::{TypeFutureTableIndex, TypeResourceTableIndex, TypeStreamTableIndex};
 use std::test::Fail;
 
 // A resource of type 3, and its index 1.

@@ -2,8 +2,8 @@
 
 ghost use Rattle.std.specs.Prelude.{◌≡◌, ◌<◌, ◌+◌, ◌-◌, ◌^◌, OnOk, length, map, slice_get, Some, ◌++◌, ◌∷◌, []};
 
-use canon_handles::TypedResourceIndex;
 use canon_abi::OutOfMemory;
+use canon_handles::TypedResourceIndex;
 use std::alloc::Global;
 use std::marker::Model;
 

@@ -9,11 +9,11 @@ ghost use Rattle.canon_ledger.specs.Owed.{IsOwed};
 
 use crate::context::CallContext;
 use crate::fault::ResourceFault;
+use canon_abi::OutOfMemory;
 use canon_handles::{
     HandleCounter, HandleError, HandleTable, RemovedResource, Scope, TypedResource,
     TypedResourceIndex,
 };
-use canon_abi::OutOfMemory;
 
 /// The handle tables of a store, the host's first and then that of each instance, their counter,
 /// and the open scopes, the current one last.

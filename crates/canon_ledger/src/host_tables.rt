@@ -15,8 +15,8 @@ use crate::index::HostResourceIndex;
 use crate::known::KnownTypes;
 use crate::ledger::Ledger;
 use crate::tables::ResourceTables;
-use canon_handles::{TypedResource, TypedResourceIndex};
 use canon_abi::RuntimeInstance;
+use canon_handles::{TypedResource, TypedResourceIndex};
 use canon_types::TypeResourceTableIndex;
 
 /// What `canon resource.drop` answers the guest for a removed handle: twice the representation, and

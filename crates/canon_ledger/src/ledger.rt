@@ -15,10 +15,10 @@ use crate::fault::ResourceFault;
 use crate::handles::{StoreHandles, number_of};
 use crate::host::{HostResourceData, TableSlot};
 use crate::index::HostResourceIndex;
+use canon_abi::{OutOfMemory, RuntimeInstance};
 use canon_handles::{
     CurrentScope, HandleCounter, HandleTable, Scope, TypedResource, TypedResourceIndex,
 };
-use canon_abi::{OutOfMemory, RuntimeInstance};
 use std::alloc::Global;
 use std::marker::Model;
 

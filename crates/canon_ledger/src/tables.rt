@@ -13,8 +13,8 @@ use crate::host::TableSlot;
 use crate::index::HostResourceIndex;
 use crate::known::KnownTypes;
 use crate::ledger::Ledger;
-use canon_handles::{CurrentScope, TypedResource, TypedResourceIndex};
 use canon_abi::RuntimeInstance;
+use canon_handles::{CurrentScope, TypedResource, TypedResourceIndex};
 use canon_types::{InterfaceType, TypeResourceTableIndex};
 
 /// The ledger as a call reaches it: with the types of the component, where there is one, and the

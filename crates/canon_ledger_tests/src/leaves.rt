@@ -3,13 +3,13 @@
 ghost use Rattle.std.specs.Prelude.{◌↔◌, IsTrue, Some};
 ghost use Rattle.canon_ledger.specs.Places.{HasType};
 
-use canon_handles::Scope;
 use canon_abi::{RuntimeInstance, StoreId};
-use canon_resources::{lift_borrow, lift_own, lower_borrow, lower_own, ResourceAny};
+use canon_handles::Scope;
 use canon_ledger::{
     HostResourceData, HostResourceIndex, HostResourceTables, KnownTypes, Ledger, ResourceFault,
     ResourceTables, TableSlot,
 };
+use canon_resources::{ResourceAny, lift_borrow, lift_own, lower_borrow, lower_own};
 use canon_types::{
     InstanceType, InterfaceType, ResourceKind, ResourceType, TypeBuilder, TypeError,
     TypeResourceTable, TypeResourceTableIndex,

@@ -7,8 +7,8 @@ ghost use Rattle.canon_ledger.specs.Ledger.{last_generation};
 mod laws;
 mod scopes;
 
-use canon_handles::{TypedResource, TypedResourceIndex};
 use canon_abi::RuntimeInstance;
+use canon_handles::{TypedResource, TypedResourceIndex};
 use canon_ledger::{
     HostResourceData, HostResourceIndex, HostResourceTables, KnownTypes, Ledger, ResourceFault,
     ResourceTables, TableSlot, resource_drop_ret,

@@ -8,8 +8,8 @@ ghost use Rattle.canon_lift.specs.Views.{ListFits};
 ghost use Rattle.canon_lowering.specs.Storing.{narrow};
 
 use crate::WasmList;
-use canon_context::MemoryView;
 use canon_abi::OutOfMemory;
+use canon_context::MemoryView;
 use canon_lift_parts::numbers;
 use std::alloc::Global;
 

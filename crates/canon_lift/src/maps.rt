@@ -19,9 +19,9 @@ ghost use Rattle.canon_lowering.specs.Storing.{narrow};
 
 use crate::Lift;
 use crate::wasm_list::test_range;
+use canon_abi::OutOfMemory;
 use canon_bytes::load_u32;
 use canon_context::{At, Fault, LiftContext};
-use canon_abi::OutOfMemory;
 use canon_lift_parts::{word_at, word_u32};
 use canon_memory::ValRaw;
 use canon_types::InterfaceType;

@@ -11,8 +11,8 @@ ghost use Rattle.canon_typed.specs.Types.{IsHandleType};
 ghost use Rattle.canon_reading.specs.Handles.{HandleLifts, leaf_of};
 
 use canon_context::{Fault, LiftContext, Lifter, Source};
-use canon_resources::{lift_borrow, lift_own, ResourceAny};
 use canon_ledger::{Ledger, ResourceFault};
+use canon_resources::{ResourceAny, lift_borrow, lift_own};
 use canon_types::{InstanceType, InterfaceType, TypeResourceTableIndex};
 use std::alloc::Global;
 

@@ -16,8 +16,11 @@ ghost use Rattle.canon_reading.specs.Ways.{rep_parts};
 use crate::handles::{Handle, refused};
 use canon_context::{Fault, LiftContext, Lifter, Source};
 use canon_handles::TypedResourceIndex;
-use canon_resources::{HostResource, HostResourceType, HostType, lend_at, Resource, ResourceDynamic, ResourceType, table_for, take_at};
 use canon_ledger::{Ledger, ResourceFault};
+use canon_resources::{
+    HostResource, HostResourceType, HostType, Resource, ResourceDynamic, ResourceType, lend_at,
+    table_for, take_at,
+};
 use canon_types::{InstanceType, InterfaceType};
 use std::alloc::Global;
 

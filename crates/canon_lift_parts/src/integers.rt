@@ -6,8 +6,8 @@ ghost use Rattle.canon_lift_parts.specs.Integers.{AreSpelled};
 ghost use Rattle.canon_lowering.specs.Storing.{narrow};
 ghost use Rattle.canon_model.specs.Memory.{num};
 
-use canon_bytes::{load_u8, load_u16, load_u32, load_u64};
 use canon_abi::OutOfMemory;
+use canon_bytes::{load_u8, load_u16, load_u32, load_u64};
 use std::alloc::Global;
 
 /// An integer whose lowest byte stands first.

@@ -1,15 +1,16 @@
 -- The law of `realloc`, and its test.
-use Rattle.std.proofs.Common.{◌≡◌, ℕ, zero, suc, ◌+◌, ◌-◌, ◌<◌, ◌≤◌, min, max, Bool, true, false, not, List, [], ◌∷◌, ◌++◌, drop, length, take, refl, sym, ap, ap₂, subst, ◌∙◌, arith, ◌⊎◌, inl, inr, ⊎_elim, ◌↔◌, IsTrue, eqb-true, eq-eqb, slice_index, slice_index_or}
+use Rattle.std.proofs.Common.{◌≡◌, ℕ, zero, suc, append_assoc, get_or, ◌+◌, ◌-◌, ◌<◌, ◌≤◌, min, max, Bool, true, false, not, List, [], ◌∷◌, ◌++◌, drop, length, take, refl, sym, ap, ap₂, subst, ◌∙◌, arith, ◌⊎◌, inl, inr, ⊎_elim, ◌↔◌, IsTrue, eqb-true, eq-eqb, slice_index, slice_index_or}
 use Rattle.std.proofs.lemmas.Bool.{and_parts, and_from, both_ways, cond-true, cond-false, ne_eqb, cases_Bool, cases_lt, leb-true, le-leb}
-use Rattle.std.proofs.lemmas.List.{get_or-drop, get_or-take, get_or_past, length-drop, length-take, take_all}
-use Rattle.std.proofs.lemmas.List.Elements.{Contains-append_cases, Contains-append_left, Contains-append_right, Contains-get_or}
+use Rattle.std.proofs.lemmas.List.{get_or-append_right, get_or-drop, get_or-take, get_or_append_left, get_or_past, length-append, length-drop, length-take, take_all}
+use Rattle.std.proofs.lemmas.List.Elements.{All-append, Contains-append_cases, Contains-append_left, Contains-append_right, Contains-get_or, filter-append}
 use Rattle.std.proofs.lemmas.Grind.{same_number_lists}
 use lib.Dec.{leb}
 use Rattle.std.specs.Prelude.{nat_eq}
 use Rattle.std.specs.Cmp.Lexicographic.{other_text, pointwise, same_text}
 use Rattle.std.specs.List.{All, AllWithin, Contains, slice_range}
-use Rattle.canon_model.specs.Memory.{Block, InBlocks}
+use Rattle.canon_model.specs.Memory.{Block, InBlocks, Within}
 use Rattle.canon_model.specs.Requests.{Call}
+use Rattle.canon_model.proofs.Blocks.{in_either, in_left, in_right}
 use Rattle.canon_memory.specs.declared.guest.Step.{Step}
 use Rattle.canon_memory.specs.declared.guest.Step.TheVariants as step
 use Rattle.canon_memory.specs.Guest.{Mark}
@@ -199,6 +200,55 @@ module _ (live : List Block) (before after : List ℕ) (c : Call) (answer : ℕ)
 
   pub law_to : ReallocLaw live (relisted live c answer) before after c answer → LawHolds live before after c answer
   law_to law = (law.aligned, law.inside, λ k lt. law.copied k (omega (arith, lt)) (omega (arith, lt)), λ k d lt. is_spared law (slice_index_or live k d) (Contains-get_or live k d lt))
+
+-- ---- places held beside the blocks given
+
+all_left : (P : Block → Type 0) (xs ys : List Block) → All P (xs ++ ys) → All P xs
+all_left P xs ys h k d lt = subst P (get_or_append_left xs ys d k lt) (h k d (omega (arith, lt, length-append xs ys)))
+
+all_right : (P : Block → Type 0) (xs ys : List Block) → All P (xs ++ ys) → All P ys
+all_right P xs ys h k d lt =
+    let at : length xs + k - length xs ≡ k = omega arith in
+    subst (λ j. P (get_or ys j d)) at (subst P (get_or-append_right xs ys (length xs) (length xs + k) d refl (omega arith)) (h (length xs + k) d (omega (arith, lt, length-append xs ys))))
+
+pub both_spared : (before after : List ℕ) (old new : Block) (held live : List Block) (r s : Bool)
+    → (IsTrue r ↔ All (IsSpared before after old new) held) → (IsTrue s ↔ All (IsSpared before after old new) live) → IsTrue r → (IsTrue s ↔ All (IsSpared before after old new) (held ++ live))
+both_spared before after old new held live r s h g first = (
+  λ t. All-append (IsSpared before after old new) held live (h.0 first) (g.0 t),
+  λ all. g.1 (all_right (IsSpared before after old new) held live all),
+)
+
+pub not_spared : (before after : List ℕ) (old new : Block) (held live : List Block) (r : Bool)
+    → (IsTrue r ↔ All (IsSpared before after old new) held) → r ≡ false → All (IsSpared before after old new) (held ++ live) → ⊥
+not_spared before after old new held live r h isnt all = absurd (both_ways _ isnt (h.1 (all_left (IsSpared before after old new) held live all)))
+
+-- a place more is held
+module _ (held live held2 live2 : List Block) (place : Block) (more : held2 ≡ held ++ place ∷ []) (same : live2 ≡ live) where
+  pub more_live : Within (held ++ live) (held2 ++ live2)
+  more_live i h = ⊎_elim
+      (λ p. in_left held2 live2 i (subst (λ xs. InBlocks xs i) (sym more) (in_left held (place ∷ []) i p)))
+      (λ p. in_right held2 live2 i (subst (λ xs. InBlocks xs i) (sym same) p))
+      (in_either held live i h)
+
+  pub only_place : Within (held2 ++ live2) (place ∷ (held ++ live))
+  only_place i h =
+      let all = place ∷ [] in
+      ⊎_elim
+      (λ p. ⊎_elim
+      (λ q. in_right all (held ++ live) i (in_left held live i q))
+      (λ q. in_left all (held ++ live) i q)
+      (in_either held all i (subst (λ xs. InBlocks xs i) more p)))
+      (λ p. in_right all (held ++ live) i (in_right held live i (subst (λ xs. InBlocks xs i) same p)))
+      (in_either held2 live2 i h)
+
+  pub place_live : Within (place ∷ []) (held2 ++ live2)
+  place_live i h = in_left held2 live2 i (subst (λ xs. InBlocks xs i) (sym more) (in_right held (place ∷ []) i h))
+
+-- a block is taken off both lists
+pub both_relisted : (held live : List Block) (old new : Block) → other_blocks held old ++ (other_blocks live old ++ unless_empty new) ≡ other_blocks (held ++ live) old ++ unless_empty new
+both_relisted held live old new =
+    sym (append_assoc (other_blocks held old) (other_blocks live old) (unless_empty new))
+    ∙ ap (λ l. l ++ unless_empty new) (sym (filter-append (λ b. not (is_block b old)) held live))
 
 -- ---- events
 

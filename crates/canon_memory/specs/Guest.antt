@@ -1,6 +1,6 @@
 -- What contracts see of a guest.
 use Rattle.std.specs.Prelude.{ℕ, ◌≤◌, ◌≡◌, ◌++◌, Bool, IsTrue, List, [], ◌∷◌, length, Option, Result, Ok, Err}
-use Rattle.canon_model.specs.Memory.{Block, Memory}
+use Rattle.canon_model.specs.Memory.{Block, Memory, Within}
 use Rattle.canon_model.specs.Requests.{Call}
 use Rattle.canon_memory.specs.declared.error.GuestFault.{GuestFault}
 use Rattle.canon_memory.specs.declared.error.GuestFault.TheVariants as fault
@@ -14,12 +14,13 @@ pub record Mark : Type 0 where
   pub lawful : Bool
   pub tidy : Bool
 
--- The journal where the guest tells it, a mark for each answer of `realloc` in its life, the blocks that live, and
--- how often it trapped and answered want of memory.
+-- The journal where the guest tells it, a mark for each answer of `realloc` in its life, the blocks that live, whether a
+-- place that it is told to hold lives too, and how often it trapped and answered want of memory.
 pub record Seen : Type 0 where
   pub journal : Option (List Event)
   pub marks : List Mark
   pub live : List Block
+  pub holds : Bool
   pub traps : ℕ
   pub shortages : ℕ
 
@@ -81,6 +82,29 @@ abbrev pub Reallocates : Moment → Moment → Call → Result ℕ GuestFault �
 Reallocates before after c (Ok answer) = (mark : Mark) × Answered before after c answer mark
 Reallocates before after c (Err fault.Trap) = Trapped before after c
 Reallocates before after c (Err fault.OutOfMemory) = WasShort before after
+
+-- ---- what `hold` does
+
+-- Whatever lived lives on, the place lives too if it holds places, and no other byte. Nothing else of it changed.
+pub record IsHeld (before after : Seen) (place : Block) : Type 0 where
+  pub same : after ≡ record before { live = after.live }
+  pub grows : Within before.live after.live
+  pub only : Within after.live (place ∷ before.live)
+  pub lives : IsTrue before.holds → Within (place ∷ []) after.live
+
+-- There was no memory to list a place.
+pub record IsUnheld (before after : Seen) : Type 0 where
+  pub same : after ≡ record before { shortages = after.shortages }
+  pub later : before.shortages ≤ after.shortages
+  pub rose : Rose before.shortages after.shortages
+
+abbrev pub HoldsPlace : {E : Type 0} → Seen → Seen → Block → Result (Unit {0}) E → Type 0
+HoldsPlace before after place (Ok done) = IsHeld before after place
+HoldsPlace before after place (Err e) = IsUnheld before after
+
+-- in any memory it may go from the one to the other by no event
+abbrev pub MovesByNone : {G : Type 0} → (GuestIn G → List Event → GuestIn G → Type 0) → G → G → Type 0
+MovesByNone moves g h = (memory : Memory) → moves (guest_in g memory) [] (guest_in h memory)
 
 -- ---- a guest that tells its journal
 

@@ -1,6 +1,6 @@
 -- A guest that is watched: each answer of its `realloc` is tested against the law of `realloc`, over the blocks that it
 -- gave since it last ran.
-use Rattle.std.specs.Prelude.{ℕ, ◌+◌, ◌%◌, ◌<◌, ◌≤◌, ◌≡◌, ◌⊎◌, ◌↔◌, ◌++◌, ◌&&◌, min, not, Bool, IsTrue, if◌then◌else◌, List, [], ◌∷◌, length, nat_eq, slice_index, take}
+use Rattle.std.specs.Prelude.{ℕ, ◌+◌, ◌%◌, ◌<◌, ◌≤◌, ◌≡◌, ◌⊎◌, ◌↔◌, ◌++◌, ◌&&◌, min, not, Bool, IsTrue, true, Result, Ok, Err, if◌then◌else◌, List, [], ◌∷◌, length, nat_eq, slice_index, take}
 use Rattle.std.proofs.Common.{refl, sym, ap, ◌∙◌}
 use Rattle.std.specs.List.{All, filter}
 use Rattle.canon_model.specs.Memory.{Block, InBlocks}
@@ -79,11 +79,12 @@ pub record IsExactMark (whole : Bool) (live live_after : List Block) (before aft
 
 -- ---- what contracts see
 
--- a guest with whether every byte is watched, the blocks that live, the marks of its answers, and how often want of memory was
--- answered, by the guest or for want of room to watch it
+-- a guest with whether every byte is watched, the places that it was told to hold, the blocks that it gave and that live, the marks
+-- of its answers, and how often want of memory was answered, by the guest or for want of room to watch it
 pub record Watching (G : Type 0) : Type 0 where
   pub guest : G
   pub whole : Bool
+  pub held : List Block
   pub live : List Block
   pub marks : List Mark
   pub shortages : ℕ
@@ -107,10 +108,19 @@ live_along-append live (x ∷ xs) ys = live_along-append (live_after live x) xs 
 pub along_both : (u v w : List Block) (xs ys : List Event) → v ≡ live_along u xs → w ≡ live_along v ys → w ≡ live_along u (xs ++ ys)
 along_both u v w xs ys f g = g ∙ ap (λ l. live_along l ys) f ∙ sym (live_along-append u xs ys)
 
+-- what lives: the places held, and the blocks given
+abbrev pub all_live : {G : Type 0} → Watching G → List Block
+all_live w = w.held ++ w.live
+
 -- the guest tells its journal and its traps, and the watch the rest
 abbrev pub watched_seen : {G : Type 0} → (G → Seen) → Watching G → Seen
-watched_seen seen w = record (seen w.guest) { marks = w.marks; live = w.live; shortages = w.shortages }
+watched_seen seen w = record (seen w.guest) { marks = w.marks; live = all_live w; holds = true; shortages = w.shortages }
 
 -- an answer was marked, exactly
 abbrev pub Marks : {G : Type 0} → Watching G → Watching G → List ℕ → List ℕ → Call → ℕ → Type 0
-Marks w x before after c answer = (mark : Mark) × (x.marks ≡ w.marks ++ mark ∷ []) × IsExactMark w.whole w.live x.live before after c answer mark
+Marks w x before after c answer = (mark : Mark) × (x.marks ≡ w.marks ++ mark ∷ []) × IsExactMark w.whole (all_live w) (all_live x) before after c answer mark
+
+-- A place is listed beside those that were, or for want of memory isn't.
+abbrev pub Lists : {G E : Type 0} → Watching G → Watching G → Block → Result (Unit {0}) E → Type 0
+Lists w x place (Ok done) = x.held ≡ w.held ++ place ∷ []
+Lists w x place (Err e) = x.held ≡ w.held

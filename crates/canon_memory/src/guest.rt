@@ -2,11 +2,12 @@
 
 ghost use Rattle.std.specs.Prelude.{ℕ, IsFalse, ◌≡◌, ◌<◌, ◌^◌, ◌++◌, List, [], IfOk, OnOk};
 ghost use Rattle.canon_memory.specs.declared.event.Event.{Event};
-ghost use Rattle.canon_memory.specs.Guest.{Goes, GuestIn, HasCause, OnAnswer, Reallocates, Seen, guest_in, moment};
+ghost use Rattle.canon_memory.specs.Guest.{Goes, GuestIn, HasCause, HoldsPlace, MovesByNone, OnAnswer, Reallocates, Seen, guest_in, moment};
 ghost use Rattle.canon_memory.specs.Journal.{dtor_events, post_events, realloc_events, resume_events, start_events};
-ghost use Rattle.canon_memory.specs.Realloc.{call};
+ghost use Rattle.canon_memory.specs.Realloc.{block, call};
 
 use crate::{GuestFault, Memory, ValRaw, Words};
+use std::alloc::AllocError;
 
 /// What a guest does once it is let go: it returns these words, or asks for an import with them.
 #[derive(Debug, Drop)]
@@ -20,7 +21,7 @@ pub enum Step {
 /// The code of a component, which runs in its memory. It may lie in all that it answers, but it doesn't make memory
 /// shorter, nor changes how wide its pointers are.
 pub trait Guest {
-    /// Its journal, marks, live blocks and counts.
+    /// Its journal, marks, live blocks and counts, and whether it holds places.
     ghost seen: { Self → Seen };
 
     /// What it may do from one state and length of memory to others, as the events that tell it. The host writes bytes of
@@ -67,6 +68,12 @@ pub trait Guest {
         ensures width { memory.new.wide ≡ memory.old.wide }
         ensures does { Reallocates (moment (seen self.old) memory.old.bytes) (moment (seen self.new) memory.new.bytes) (call old old_size align new_size) result }
         ensures moves { OnAnswer result (moves (guest_in self.old memory.old) (realloc_events (call old old_size align new_size) memory.old.bytes result) (guest_in self.new memory.new)) };
+
+    /// Tells it that these bytes will be written before it runs again: the place that it gave for an import's results. None of its
+    /// code runs. A guest that doesn't watch its answers does nothing. An error is want of memory to list the place.
+    fn hold(&mut self, start: u64, size: u32) -> Result<(), AllocError>
+        ensures holds { HoldsPlace (seen self.old) (seen self.new) (block start size) result }
+        ensures moves { OnOk result (MovesByNone moves self.old self.new) };
 
     /// Tells a guest that its returned words were read (CanonicalABI.md, "post-return").
     fn post_return(

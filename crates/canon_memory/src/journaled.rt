@@ -7,7 +7,7 @@ ghost use Rattle.canon_memory.specs.Guest.{JournaledMoves, Recorded, of_guest};
 ghost use Rattle.canon_memory.specs.Journal.{step_event, trap_event};
 
 use crate::{Bytes, Event, Events, Guest, GuestFault, Memory, MemoryError, Step, ValRaw, Words};
-use std::alloc::Global;
+use std::alloc::{AllocError, Global};
 use std::marker::Model;
 use std::mem;
 
@@ -207,6 +207,16 @@ impl<G: Guest> Guest for Journaled<G> {
                 self.events.drop_last();
                 self.run_out();
                 Err(GuestFault::OutOfMemory)
+            }
+        }
+    }
+
+    fn hold(&mut self, start: u64, size: u32) -> Result<(), AllocError> {
+        match self.guest.hold(start, size) {
+            Ok(()) => Ok(()),
+            Err(error) => {
+                self.run_out();
+                Err(error)
             }
         }
     }

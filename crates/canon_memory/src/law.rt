@@ -163,6 +163,20 @@ fn are_spared(
     true
 }
 
+/// Whether the places held and the blocks given are.
+fn are_both_spared(
+    held: &[LiveBlock],
+    live: &[LiveBlock],
+    old: LiveBlock,
+    new: LiveBlock,
+    before: &[u8],
+    after: &[u8],
+) -> bool
+    ensures { IsTrue result ↔ All (IsSpared before.now after.now old new) (held.now ++ live.now) }
+{
+    are_spared(held, old, new, before, after) && are_spared(live, old, new, before, after)
+}
+
 /// Whether the bytes of the old block stand in the new one, up to the smaller size.
 fn is_copied(old: LiveBlock, new: LiveBlock, before: &[u8], after: &[u8]) -> bool
     ensures { IsTrue result ↔ BytesMoved before.now old.start after.now new.start (min old.size new.size) }
@@ -171,8 +185,9 @@ fn is_copied(old: LiveBlock, new: LiveBlock, before: &[u8], after: &[u8]) -> boo
     are_same(before, old.start, after, new.start, count)
 }
 
-/// Whether an answer kept the law of `realloc`.
+/// Whether an answer kept the law of `realloc` beside the places held and the blocks given.
 fn is_lawful(
+    held: &[LiveBlock],
     live: &[LiveBlock],
     old: LiveBlock,
     align: u32,
@@ -181,12 +196,12 @@ fn is_lawful(
     after: &[u8],
 ) -> bool
     requires { 0 < align }
-    ensures { IsTrue result ↔ LawHolds live.now before.now after.now (call old.start old.size align new.size) new.start }
+    ensures { IsTrue result ↔ LawHolds (held.now ++ live.now) before.now after.now (call old.start old.size align new.size) new.start }
 {
     new.start % u64::from(align) == 0
         && new.end() <= after.len() as u128
         && is_copied(old, new, before, after)
-        && are_spared(live, old, new, before, after)
+        && are_both_spared(held, live, old, new, before, after)
 }
 
 /// Whether no byte outside a block changed.
@@ -208,11 +223,11 @@ fn is_seen_tidy(whole: bool, before: &[u8], after: &[u8], new: LiveBlock) -> boo
 }
 
 /// Where the last of some blocks ends, or `least` if they all end before it.
-fn end_of(live: &[LiveBlock], least: u64) -> u128
+fn end_of(live: &[LiveBlock], least: u128) -> u128
     ensures least { least ≤ result }
     ensures ends { All (BlockEndsBy result) live.now }
 {
-    let mut end = u128::from(least);
+    let mut end = least;
     for b in live {
         end = end.max(b.end());
     }
@@ -227,12 +242,27 @@ fn reach(end: u128, len: u128, whole: bool) -> u128
 }
 
 /// What is to be kept of memory before a call.
-pub(crate) fn shot<'a>(live: &[LiveBlock], old_end: u64, whole: bool, memory: &'a [u8]) -> &'a [u8]
-    ensures { IsShot whole live.now old_end memory.now result.now }
+pub(crate) fn shot<'a>(
+    held: &[LiveBlock],
+    live: &[LiveBlock],
+    old_end: u64,
+    whole: bool,
+    memory: &'a [u8],
+) -> &'a [u8]
+    ensures { IsShot whole (held.now ++ live.now) old_end memory.now result.now }
 {
     let len = memory.len() as u128;
-    let end = reach(end_of(live, old_end), len, whole);
+    let held_end = end_of(held, u128::from(old_end));
+    let end = reach(end_of(live, held_end), len, whole);
     &memory[..end.min(len) as usize]
+}
+
+/// Takes a block off the list.
+fn unlist(live: &mut Vec<LiveBlock>, old: LiveBlock)
+    ensures blocks { live.new.items ≡ other_blocks live.old.items old }
+    ensures room { vec_len live.old < vec_capacity live.old → vec_len live.new < vec_capacity live.new }
+{
+    live.retain(|b| !is_same(*b, old));
 }
 
 /// Lists the new block, for which there is room, unless it is empty, in the place of the old one.
@@ -240,7 +270,7 @@ fn relist(live: &mut Vec<LiveBlock>, old: LiveBlock, new: LiveBlock)
     requires { vec_len live.old < vec_capacity live.old }
     ensures { live.new.items ≡ other_blocks live.old.items old ++ unless_empty new }
 {
-    live.retain(|b| !is_same(*b, old));
+    unlist(live, old);
     if new.size > 0 {
         let _ = live.push(new);
     }
@@ -249,6 +279,7 @@ fn relist(live: &mut Vec<LiveBlock>, old: LiveBlock, new: LiveBlock)
 /// Marks an answer, for which there is room, by what was seen of memory before and after it, and lists its block.
 #[allow(clippy::too_many_arguments)]
 pub(crate) fn mark_answer(
+    held: &mut Vec<LiveBlock>,
     live: &mut Vec<LiveBlock>,
     marks: &mut Vec<AnswerMark>,
     old: u64,
@@ -264,15 +295,17 @@ pub(crate) fn mark_answer(
     requires narrow { (old < 2 ^ 32) × (old_size < 2 ^ 32) × (new_size < 2 ^ 32) }
     requires block_room { vec_len live.old < vec_capacity live.old }
     requires mark_room { vec_len marks.old < vec_capacity marks.old }
-    ensures unless_empty { live.new.items ≡ relisted live.old.items (call old old_size align new_size) answer }
-    ensures marked { (mark : Mark) × (marks.new.items ≡ marks.old.items ++ mark ∷ []) × ((memory : List ℕ) → IsShot whole live.old.items (old + old_size) memory before.now → length memory ≤ length after.now → IsExactMark whole live.old.items live.new.items memory after.now (call old old_size align new_size) answer mark) }
+    ensures held { held.new.items ≡ other_blocks held.old.items (block old old_size) }
+    ensures given { live.new.items ≡ relisted live.old.items (call old old_size align new_size) answer }
+    ensures marked { (mark : Mark) × (marks.new.items ≡ marks.old.items ++ mark ∷ []) × ((memory : List ℕ) → IsShot whole (held.old.items ++ live.old.items) (old + old_size) memory before.now → length memory ≤ length after.now → IsExactMark whole (held.old.items ++ live.old.items) (held.new.items ++ live.new.items) memory after.now (call old old_size align new_size) answer mark) }
 {
     let old = LiveBlock::new(old, old_size);
     let new = LiveBlock::new(answer, new_size);
     let mark = AnswerMark {
-        lawful: is_lawful(live, old, align, new, before, after),
+        lawful: is_lawful(held, live, old, align, new, before, after),
         tidy: is_seen_tidy(whole, before, after, new),
     };
+    unlist(held, old);
     relist(live, old, new);
     let _ = marks.push(mark);
 }

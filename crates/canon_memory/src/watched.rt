@@ -6,14 +6,18 @@ ghost use Rattle.canon_memory.specs.Watch.{WatchedMoves, Watching, along_both, w
 
 use crate::law::{AnswerMark, LiveBlock, mark_answer, shot};
 use crate::{Guest, GuestFault, Memory, Step, ValRaw};
-use std::alloc::Global;
+use std::alloc::{AllocError, Global};
 use std::marker::Model;
 
-/// A guest, and what was seen of its answers of `realloc`: each is tested, over the blocks that it gave since it last ran.
+/// A guest, and what was seen of its answers of `realloc`: each is tested, over the blocks that it gave since it
+/// last ran and the places that it was told to hold.
 #[derive(Drop)]
 pub struct Watched<G> {
     guest: G,
     whole: bool,
+    // the places that it was told to hold since it last ran
+    held: Vec<LiveBlock>,
+    // the blocks that it gave since it last ran
     live: Vec<LiveBlock>,
     marks: Vec<AnswerMark>,
     shortages: u64,
@@ -24,7 +28,7 @@ pub struct Watched<G> {
 impl<G> Model for Watched<G> {
     ghost Value = { Watching G };
 
-    ghost view = { λ w. record { guest = w.guest; whole = w.whole; live = w.live.items; marks = w.marks.items; shortages = w.shortages } };
+    ghost view = { λ w. record { guest = w.guest; whole = w.whole; held = w.held.items; live = w.live.items; marks = w.marks.items; shortages = w.shortages } };
 }
 
 impl<G> Watched<G> {
@@ -35,11 +39,12 @@ impl<G> Watched<G> {
 
     /// A guest that has given nothing yet. Every byte is watched: each request costs a copy of all memory.
     pub fn new(alloc: Global, guest: G) -> Self
-        ensures { result ≡ record { guest = guest; whole = true; live = []; marks = []; shortages = 0 } }
+        ensures { result ≡ record { guest = guest; whole = true; held = []; live = []; marks = []; shortages = 0 } }
     {
         Watched {
             guest,
             whole: true,
+            held: Vec::new(alloc),
             live: Vec::new(alloc),
             marks: Vec::new(alloc),
             shortages: 0,
@@ -50,11 +55,12 @@ impl<G> Watched<G> {
     /// The same, but no byte outside the blocks is watched, and no answer is marked as tidy. A request costs a copy of memory up
     /// to where the last block ends that lives, so the first one costs none.
     pub fn lawful_only(alloc: Global, guest: G) -> Self
-        ensures { result ≡ record { guest = guest; whole = false; live = []; marks = []; shortages = 0 } }
+        ensures { result ≡ record { guest = guest; whole = false; held = []; live = []; marks = []; shortages = 0 } }
     {
         Watched {
             guest,
             whole: false,
+            held: Vec::new(alloc),
             live: Vec::new(alloc),
             marks: Vec::new(alloc),
             shortages: 0,
@@ -91,6 +97,14 @@ impl<G> Watched<G> {
         self.marks.clear();
     }
 
+    /// No block lives, and no place is held.
+    fn let_go(&mut self)
+        ensures { self.new ≡ record self.old { held = []; live = [] } }
+    {
+        self.held.clear();
+        self.live.clear();
+    }
+
     /// Counts want of memory.
     fn count(&mut self, fault: GuestFault) -> GuestFault
         ensures same { result ≡ fault }
@@ -108,11 +122,11 @@ impl<G> Watched<G> {
 
 #[tactic(auto, using(crate::proofs::Watch::after_step))]
 impl<G: Guest> Guest for Watched<G> {
-    ghost use Rattle.std.specs.Prelude.{◌≡◌, ◌<◌, ◌^◌, IfOk, IsFalse, OnErr};
-    ghost use Rattle.canon_memory.specs.Guest.{OnAnswer, Reallocates, guest_in, moment};
-    ghost use Rattle.canon_memory.specs.Journal.{realloc_events};
-    ghost use Rattle.canon_memory.specs.Realloc.{call};
-    ghost use Rattle.canon_memory.specs.Watch.{Marks, WatchedMoves, watched_seen};
+    ghost use Rattle.std.specs.Prelude.{◌≡◌, ◌<◌, ◌^◌, IfOk, IsFalse, OnErr, OnOk, []};
+    ghost use Rattle.canon_memory.specs.Guest.{Goes, HasCause, HoldsPlace, MovesByNone, OnAnswer, Reallocates, guest_in, moment};
+    ghost use Rattle.canon_memory.specs.Journal.{dtor_events, post_events, realloc_events, resume_events, start_events};
+    ghost use Rattle.canon_memory.specs.Realloc.{block, call};
+    ghost use Rattle.canon_memory.specs.Watch.{Lists, Marks, WatchedMoves, watched_seen};
 
     ghost seen = { λ w. watched_seen G.seen w };
 
@@ -129,16 +143,28 @@ impl<G: Guest> Guest for Watched<G> {
         memory: &mut Memory,
         func: u32,
         words: &[ValRaw],
-    ) -> Result<Step, GuestFault> {
-        self.live.clear();
+    ) -> Result<Step, GuestFault>
+        ensures width { memory.new.wide ≡ memory.old.wide }
+        ensures goes { Goes (moment (watched_seen G.seen self.old) memory.old.bytes) (moment (watched_seen G.seen self.new) memory.new.bytes) [] (start_events func words.now memory.old.bytes memory.new.bytes result) }
+        ensures moves { OnAnswer result (WatchedMoves G.moves (guest_in self.old memory.old) (start_events func words.now memory.old.bytes memory.new.bytes result) (guest_in self.new memory.new)) }
+        ensures cause { HasCause (watched_seen G.seen self.old) (watched_seen G.seen self.new) result }
+        ensures let_go { self.new.held ≡ [] }
+    {
+        self.let_go();
         match self.guest.start(memory, func, words) {
             Ok(step) => Ok(step),
             Err(fault) => Err(self.count(fault)),
         }
     }
 
-    fn resume(&mut self, memory: &mut Memory, words: &[ValRaw]) -> Result<Step, GuestFault> {
-        self.live.clear();
+    fn resume(&mut self, memory: &mut Memory, words: &[ValRaw]) -> Result<Step, GuestFault>
+        ensures width { memory.new.wide ≡ memory.old.wide }
+        ensures goes { Goes (moment (watched_seen G.seen self.old) memory.old.bytes) (moment (watched_seen G.seen self.new) memory.new.bytes) [] (resume_events words.now memory.old.bytes memory.new.bytes result) }
+        ensures moves { OnAnswer result (WatchedMoves G.moves (guest_in self.old memory.old) (resume_events words.now memory.old.bytes memory.new.bytes result) (guest_in self.new memory.new)) }
+        ensures cause { HasCause (watched_seen G.seen self.old) (watched_seen G.seen self.new) result }
+        ensures let_go { self.new.held ≡ [] }
+    {
+        self.let_go();
         match self.guest.resume(memory, words) {
             Ok(step) => Ok(step),
             Err(fault) => Err(self.count(fault)),
@@ -162,9 +188,15 @@ impl<G: Guest> Guest for Watched<G> {
         ensures does { Reallocates (moment (watched_seen G.seen self.old) memory.old.bytes) (moment (watched_seen G.seen self.new) memory.new.bytes) (call old old_size align new_size) result }
         ensures moves { OnAnswer result (WatchedMoves G.moves (guest_in self.old memory.old) (realloc_events (call old old_size align new_size) memory.old.bytes result) (guest_in self.new memory.new)) }
         ensures exact { IfOk result (λ answer. Marks self.old self.new memory.old.bytes memory.new.bytes (call old old_size align new_size) answer) }
-        ensures kept { OnErr result ((self.new.marks ≡ self.old.marks) × (self.new.live ≡ self.old.live) × (self.new.whole ≡ self.old.whole)) }
+        ensures kept { OnErr result ((self.new.marks ≡ self.old.marks) × (self.new.held ≡ self.old.held) × (self.new.live ≡ self.old.live) × (self.new.whole ≡ self.old.whole)) }
     {
-        let seen = shot(&self.live, old + old_size, self.whole, memory.as_slice());
+        let seen = shot(
+            &self.held,
+            &self.live,
+            old + old_size,
+            self.whole,
+            memory.as_slice(),
+        );
         self.before.clear();
         let is_copied = self.before.extend_from_slice(seen).is_ok();
         if !is_copied || self.live.reserve(1).is_err() || self.marks.reserve(1).is_err() {
@@ -173,6 +205,7 @@ impl<G: Guest> Guest for Watched<G> {
         match self.guest.realloc(memory, old, old_size, align, new_size) {
             Ok(answer) => {
                 mark_answer(
+                    &mut self.held,
                     &mut self.live,
                     &mut self.marks,
                     old,
@@ -190,21 +223,56 @@ impl<G: Guest> Guest for Watched<G> {
         }
     }
 
+    fn hold(&mut self, start: u64, size: u32) -> Result<(), AllocError>
+        ensures holds { HoldsPlace (watched_seen G.seen self.old) (watched_seen G.seen self.new) (block start size) result }
+        ensures moves { OnOk result (MovesByNone (λ w events x. WatchedMoves G.moves w events x) self.old self.new) }
+        ensures lists { Lists self.old self.new (block start size) result }
+    {
+        if let Err(error) = self.held.reserve(1) {
+            self.count(GuestFault::OutOfMemory);
+            return Err(error);
+        }
+        match self.guest.hold(start, size) {
+            Ok(()) => {
+                let _ = self.held.push(LiveBlock::new(start, u64::from(size)));
+                Ok(())
+            }
+            Err(error) => {
+                self.count(GuestFault::OutOfMemory);
+                Err(error)
+            }
+        }
+    }
+
     fn post_return(
         &mut self,
         memory: &mut Memory,
         func: u32,
         words: &[ValRaw],
-    ) -> Result<(), GuestFault> {
-        self.live.clear();
+    ) -> Result<(), GuestFault>
+        ensures width { memory.new.wide ≡ memory.old.wide }
+        ensures goes { Goes (moment (watched_seen G.seen self.old) memory.old.bytes) (moment (watched_seen G.seen self.new) memory.new.bytes) [] (post_events func words.now memory.old.bytes result) }
+        ensures moves { OnAnswer result (WatchedMoves G.moves (guest_in self.old memory.old) (post_events func words.now memory.old.bytes result) (guest_in self.new memory.new)) }
+        ensures leaves { OnOk result (G.leaves memory.old.bytes memory.new.bytes) }
+        ensures cause { HasCause (watched_seen G.seen self.old) (watched_seen G.seen self.new) result }
+        ensures let_go { self.new.held ≡ [] }
+    {
+        self.let_go();
         match self.guest.post_return(memory, func, words) {
             Ok(()) => Ok(()),
             Err(fault) => Err(self.count(fault)),
         }
     }
 
-    fn dtor(&mut self, memory: &mut Memory, func: u32, rep: u32) -> Result<(), GuestFault> {
-        self.live.clear();
+    fn dtor(&mut self, memory: &mut Memory, func: u32, rep: u32) -> Result<(), GuestFault>
+        ensures width { memory.new.wide ≡ memory.old.wide }
+        ensures goes { Goes (moment (watched_seen G.seen self.old) memory.old.bytes) (moment (watched_seen G.seen self.new) memory.new.bytes) [] (dtor_events func rep memory.old.bytes result) }
+        ensures moves { OnAnswer result (WatchedMoves G.moves (guest_in self.old memory.old) (dtor_events func rep memory.old.bytes result) (guest_in self.new memory.new)) }
+        ensures leaves { OnOk result (G.leaves memory.old.bytes memory.new.bytes) }
+        ensures cause { HasCause (watched_seen G.seen self.old) (watched_seen G.seen self.new) result }
+        ensures let_go { self.new.held ≡ [] }
+    {
+        self.let_go();
         match self.guest.dtor(memory, func, rep) {
             Ok(()) => Ok(()),
             Err(fault) => Err(self.count(fault)),

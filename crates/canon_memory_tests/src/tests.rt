@@ -6,7 +6,7 @@ ghost use Rattle.std.specs.Prelude.{◌≡◌, [], ◌∷◌, None, false, true,
 use canon_memory::{
     Bytes, Event, Events, Guest, GuestFault, Journaled, Memory, MemoryError, Step, ValRaw, Words,
 };
-use std::alloc::Global;
+use std::alloc::{AllocError, Global};
 use std::mem;
 
 /// A guest that traps at core function 1 and destructor 1, asks for import 6 at core function 2, and returns its answer
@@ -21,7 +21,7 @@ struct Writer {
 }
 
 impl Guest for Writer {
-    ghost seen = { λ g. record { journal = None; marks = if g.answered then record { lawful = false; tidy = true } ∷ [] else []; live = []; traps = g.traps; shortages = 0 } };
+    ghost seen = { λ g. record { journal = None; marks = if g.answered then record { lawful = false; tidy = true } ∷ [] else []; live = []; holds = false; traps = g.traps; shortages = 0 } };
 
     ghost moves = { λ _ _ _. Unit {0} };
 
@@ -72,6 +72,10 @@ impl Guest for Writer {
         }
         self.answered = true;
         Ok(16)
+    }
+
+    fn hold(&mut self, _start: u64, _size: u32) -> Result<(), AllocError> {
+        Ok(())
     }
 
     fn post_return(

@@ -3,7 +3,7 @@
 ghost use Rattle.std.specs.Prelude.{◌≡◌, ◌<◌, ◌^◌, [], IsFalse, None, false, length, replicate};
 
 use canon_memory::{Guest, GuestFault, Memory, Step, ValRaw, Watched, Words};
-use std::alloc::Global;
+use std::alloc::{AllocError, Global};
 
 /// A guest that answers the first `realloc` with one address and the others with another, whatever they ask for. Where memory isn't wide
 /// it answers their low halves. It may add 1 to byte 0 each time. It marks nothing.
@@ -18,7 +18,7 @@ struct Giver {
 }
 
 impl Guest for Giver {
-    ghost seen = { λ g. record { journal = None; marks = replicate g.answers (record { lawful = false; tidy = false }); live = []; traps = g.traps; shortages = 0 } };
+    ghost seen = { λ g. record { journal = None; marks = replicate g.answers (record { lawful = false; tidy = false }); live = []; holds = false; traps = g.traps; shortages = 0 } };
 
     ghost moves = { λ _ _ _. Unit {0} };
 
@@ -63,6 +63,10 @@ impl Guest for Giver {
         };
         self.answers += 1;
         Ok(address(at, memory.is_wide()))
+    }
+
+    fn hold(&mut self, _start: u64, _size: u32) -> Result<(), AllocError> {
+        Ok(())
     }
 
     fn post_return(

@@ -116,7 +116,7 @@ at_first play = record {
 
 -- as a call sees it that has added these events
 abbrev pub moment_with_events : State → List Event → Moment
-moment_with_events s events = moment (record { journal = Some events; marks = s.marks; live = s.allocator.live; traps = s.traps; shortages = s.shortages }) s.memory
+moment_with_events s events = moment (record { journal = Some events; marks = s.marks; live = s.allocator.live; holds = false; traps = s.traps; shortages = s.shortages }) s.memory
 
 -- what it has beside its guest: its functions of the host share no data
 abbrev pub host_side_of : State → HostSide (Unit {0})

@@ -25,7 +25,7 @@ abbrev pub untested : Mark
 untested = record { lawful = false; tidy = false }
 
 abbrev pub relay_seen : {C : Type 0} → Relaying C → Seen
-relay_seen g = record { journal = None; marks = replicate g.counts.blocks untested; live = []; traps = g.counts.traps; shortages = g.counts.shortages }
+relay_seen g = record { journal = None; marks = replicate g.counts.blocks untested; live = []; holds = false; traps = g.counts.traps; shortages = g.counts.shortages }
 
 -- ---- one exchange with the engine
 

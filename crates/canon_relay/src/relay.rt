@@ -12,7 +12,7 @@ use crate::reply::{count_of, number_of, words_of};
 use crate::wire::{MAX_WORDS, bytes_of};
 use crate::{Channel, Demand};
 use canon_memory::{Guest, GuestFault, Memory, Step, ValRaw, Words};
-use std::alloc::Global;
+use std::alloc::{AllocError, Global};
 use std::marker::Model;
 
 /// A guest whose code runs at the other end of a channel. Contracts see the channel and the counts.
@@ -294,6 +294,10 @@ impl<C: Channel> Guest for Relay<C> {
             }
             Err(fault) => Err(self.count(fault)),
         }
+    }
+
+    fn hold(&mut self, _start: u64, _size: u32) -> Result<(), AllocError> {
+        Ok(())
     }
 
     fn post_return(

@@ -1,6 +1,7 @@
 pub mod Asks
 pub mod Comparing
 pub mod Departing
+pub mod Ending
 pub mod Looping
 pub mod Making
 pub mod Places
@@ -8,4 +9,5 @@ pub mod Rows
 pub mod Running
 pub mod Same
 pub mod Splitting
+pub mod Storing
 pub mod Whole

@@ -1,9 +1,9 @@
 -- What became of one call, by what calling its function did.
-use Rattle.std.proofs.Common.{Err, List, None, Ok, Option, Result, Some, ap, arith, false, inl, inr, length, refl, subst, suc, sym, true, ℕ, ◌+◌, ◌<◌, ◌^◌, ◌∙◌, ◌≡◌, ◌≢◌, ◌≤◌, ◌⊎◌}
-use Rattle.std.proofs.lemmas.Bool.{false≢true}
-use Rattle.std.specs.Prelude.{Vec, IfSome, IsNone, IsSome, slice_get}
+use Rattle.std.proofs.Common.{Err, List, None, Ok, Option, Result, Some, ap, arith, drop, false, inl, inr, length, refl, subst, subst₂, suc, sym, take, true, ℕ, ◌++◌, ◌+◌, ◌<◌, ◌^◌, ◌∙◌, ◌≡◌, ◌≢◌, ◌≤◌, ◌⊎◌}
+use Rattle.std.proofs.Math.Seq.{take-append_seam}
+use Rattle.std.specs.Prelude.{Vec, IfOk, IfSome, IsNone, IsSome, slice_get}
 use Rattle.canon_types.specs.Table.{types_of}
-use Rattle.canon_memory.specs.Guest.{of_guest}
+use Rattle.canon_memory.specs.Guest.{Recorded, of_guest}
 use Rattle.canon_memory.specs.declared.event.Event.{Event}
 use Rattle.canon_replay_guest.specs.Fitting.{CanReplayFrom}
 use Rattle.canon_replay_guest.specs.Following.{Follows, IsBefore, Overruns, TrapsInCall}
@@ -11,7 +11,7 @@ use Rattle.canon_replay_guest.specs.Replaying.{Replaying, call_events}
 use Rattle.canon_replay_guest.specs.declared.stop.Stop.TheVariants as stop
 use Rattle.canon_replay_guest.proofs.Fitting.{never_unfit}
 use Rattle.canon_replay_guest.proofs.Following.{moves_follow}
-use Rattle.canon_context.specs.Core.{component_types, guest_of}
+use Rattle.canon_context.specs.Core.{Parts, component_types, guest_of}
 use Rattle.canon_context.specs.declared.component.Component.{Component}
 use Rattle.canon_context.specs.declared.fault.Fault.TheVariants as fault
 use Rattle.canon_val.specs.declared.val.Val.{Val}
@@ -19,10 +19,11 @@ use Rattle.canon_func.specs.Call.{call_refusal, refused_by}
 use Rattle.canon_func.specs.Stores.{Named, callee_of, type_in, type_of}
 use Rattle.canon_func.specs.declared.error.Error.{Error}
 use Rattle.canon_func.specs.declared.error.Error.TheVariants as error
+use Rattle.canon_recording_parts.specs.declared.error.ReplayError.{ReplayError}
 use Rattle.canon_recording.specs.Recordings.{served_asks}
 use Rattle.canon_recording.specs.declared.recording.Served.{Served}
 use Rattle.std.specs.declared.alloc.Global.{Global}
-use Rattle.canon_replay.specs.Calls.{AnswersOtherwise, CallReplayed, Departs, EndsOk, HaveOneImage, HaveOtherImages, IsReady, MadeCall, MakesAgain, WasMadeAgain, made_again, results_shape_in, results_shape_of}
+use Rattle.canon_replay.specs.Calls.{AnswersOtherwise, CallReplayed, Departs, EndsOk, HaveOneImage, HaveOtherImages, IsNotShort, IsReady, MadeCall, MakesAgain, WasMadeAgain, made_again, results_shape_in, results_shape_of}
 use Rattle.canon_replay.specs.Made.{CallsAgain}
 use Rattle.canon_replay.specs.Outcomes.{has_passed, outcome_at, place_in_call}
 use Rattle.canon_replay.specs.Stores.{JournaledReplays, ReplayStore, guest_in_store, named_export}
@@ -30,6 +31,10 @@ use Rattle.canon_replay.specs.declared.again.Again.{Again}
 use Rattle.canon_replay.specs.declared.outcome.Outcome.{Outcome}
 use Rattle.canon_replay.proofs.Departing.{all_alike, all_passed, departs, not_all, not_entered, unless_short}
 use Rattle.canon_replay.proofs.Places.{recorded_same}
+
+-- slots that were written, all of them
+pub results_written : (items new : List Val) (n : ℕ) → n ≡ length new → take n (new ++ drop (length new) items) ≡ new
+results_written items new n is = ap (λ k. take k (new ++ drop (length new) items)) is ∙ take-append_seam new (drop (length new) items)
 
 module _ (k : ℕ) (a : Again) (before after : ReplayStore) (ready : IsReady k before) (lt : k < length (guest_in_store before).recorded) where
   abbrev g : Replaying
@@ -87,7 +92,7 @@ module _ (k : ℕ) (a : Again) (before after : ReplayStore) (ready : IsReady k b
         subst (Departs k call before) (sym is)
         (departs k call before after (Ok tt) results adding.events refl kept made (λ s. ok_short s) (fits adding.events moves).0 (λ f. otherwise adding.events kept f why) (follows adding.events moves))
       where
-        ok_short : ¬ (Ok {A = Unit {0}} {E = Error} tt ≡ Err (error.Fault fault.OutOfMemory))
+        ok_short : IsNotShort (Ok tt)
         ok_short s = cc
 
         otherwise : (events : List Event) → h.recorded ≡ g.recorded → Follows k g h events
@@ -120,3 +125,28 @@ module _ (k : ℕ) (a : Again) (before after : ReplayStore) (ready : IsReady k b
         by : (o : Option Error) → refused_by (Err e) ≡ o → Departs k call before (outcome_at k h)
         by None is = entered (subst IsNone (sym is) refl)
         by (Some r) is = refused r is
+
+  -- ---- as the code has it
+
+  -- what is recorded stays, unless memory was short
+  pub recorded_stays : (f : Named) (params : List Val) (slots : ℕ) (result : Result (Unit {0}) Error) (results : List Val) → CallsAgain f params slots before after result results → result ≢ Err (error.Fault fault.OutOfMemory) → h.recorded ≡ g.recorded
+  recorded_stays f params slots result results calls answered = by (refused_by result) refl
+    where
+      by : (o : Option Error) → refused_by result ≡ o → h.recorded ≡ g.recorded
+      by None is =
+          let adding = calls.call (subst IsNone (sym is) refl) in
+          same_in adding.events (unless_short result (JournaledReplays (guest_of before.core) adding.events (guest_of after.core)) answered adding.moves)
+      by (Some r) is = ap (λ (s : ReplayStore). (guest_in_store s).recorded) (subst (λ o. IfSome o (λ x. after ≡ before)) is calls.unchanged)
+
+  module _ (f : Named) (params : List Val) (slots : ℕ) (results : List Val) (final : ReplayStore) (named : f ≡ named_export before a.export) (passed : params ≡ a.params.items) (stays : final ≡ after) where
+    pub made_ok : (r : Result (Option Outcome) ReplayError) → 0 < length (call_events g.recorded k) → CallsAgain f params slots before after (Ok tt) results → IfOk r (λ o. EndsOk k f after results a.results.items o) → IfOk r (λ o. MakesAgain k call before final o)
+    made_ok (Ok o) some calls ends = subst (λ (s : ReplayStore). MakesAgain k call before s o) (sym stays)
+        (after_ok slots results o some (subst₂ (λ (x : Named) (ps : List Val). CallsAgain x ps slots before after (Ok tt) results) named passed calls)
+        (ap (λ (parts : Parts (Unit {0}) (Recorded Replaying)). parts.component) calls.same) (subst (λ (x : Named). EndsOk k x after results a.results.items o) named ends))
+    made_ok (Err e) some calls ends = tt
+
+    pub made_err : (e : Error) (o : Outcome) → ¬ (e ≡ error.Fault fault.OutOfMemory) → IfSome (type_of before f) (λ t. slots ≡ length (types_of (component_types before.core) t.results)) → CallsAgain f params slots before after (Err e) results
+        → o ≡ outcome_at k h → MakesAgain k call before final (Some o)
+    made_err e o other slots_are calls is = subst (Departs k call before) (sym is)
+        (after_err slots results e other (subst (λ (x : Named). IfSome (type_of before x) (λ t. slots ≡ length (types_of (component_types before.core) t.results))) named slots_are)
+        (subst₂ (λ (x : Named) (ps : List Val). CallsAgain x ps slots before after (Err e) results) named passed calls))

@@ -1,18 +1,25 @@
 -- A whole recording: what stands before its first call, and what its calls come to.
-use Rattle.std.proofs.Common.{All, List, ap, arith, drop, inl, length, map, subst, subst₂, sym, ℕ, ◌<◌, ◌^◌, ◌∙◌, ◌≡◌}
+use Rattle.std.proofs.Common.{All, Err, List, Ok, Result, ap, arith, drop, inl, length, map, subst, subst₂, sym, ℕ, ◌<◌, ◌^◌, ◌∙◌, ◌≡◌}
+use Rattle.std.specs.Prelude.{IfErr, IfOk}
 use Rattle.canon_memory.specs.declared.event.Event.{Event}
 use Rattle.canon_replay_guest.specs.Fitting.{CanReplayAll}
 use Rattle.canon_replay_guest.specs.Replaying.{Replaying}
 use Rattle.canon_context.specs.declared.component.Component.{Component}
+use Rattle.canon_recording_parts.specs.declared.error.ReplayError.{ReplayError}
+use Rattle.canon_recording_parts.specs.declared.error.ReplayError.TheVariants as error
 use Rattle.canon_recording.proofs.Rows.{map_length}
 use Rattle.canon_recording.specs.Fits.{FitsComponent}
 use Rattle.canon_recording.specs.Recordings.{RecordedCall, ServedAsk}
-use Rattle.canon_replay.specs.Calls.{HasEvents, IsReady, MadeCall, ReplaysFrom, all_made, asks_of_calls, made_call_of, events_of_call, told_again, told_call}
+use Rattle.canon_replay.specs.Calls.{HasEvents, IsReady, IsReplayed, MadeCall, ReplaysFrom, all_made, asks_of_calls, made_call_of, events_of_call, told_again, told_call}
 use Rattle.canon_replay.specs.Stores.{IsNewStore, ReplayStore, guest_in_store}
 use Rattle.canon_replay.specs.declared.again.Again.{Again}
 use Rattle.canon_replay.specs.declared.outcome.Outcome.{Outcome}
 use Rattle.canon_replay.proofs.Running.{runs_can}
 use Rattle.canon_replay.proofs.Rows.{all_made_are, events_fit, known_again, as_many_made}
+
+-- memory was short
+pub short_is : (c : Component) (calls : List RecordedCall) (fuel turns : ℕ) (e : ReplayError) → e ≡ error.OutOfMemory → IsReplayed c calls fuel turns (Err e)
+short_is c calls fuel turns e short = subst (λ (x : ReplayError). IsReplayed c calls fuel turns (Err x)) (sym short) tt
 
 module _ (c : Component) (calls : List RecordedCall) (fuel turns : ℕ) (events : List (List Event)) (asks : List ServedAsk) (agains : List Again) (store : ReplayStore)
     (are : (events ≡ map events_of_call calls) × (asks ≡ asks_of_calls calls) × (map told_again agains ≡ map told_call calls)) (new : IsNewStore c events asks fuel turns store) where
@@ -56,3 +63,8 @@ module _ (c : Component) (calls : List RecordedCall) (fuel turns : ℕ) (events 
 
     pub events_first : All HasEvents (guest_in_store store).recorded
     events_first = subst (All HasEvents) (sym recorded_are) (events_fit c 0 calls fits.are fits.runs)
+
+  -- `replay` answers what making the calls again does
+  pub replays_is : (r : Result Outcome ReplayError) → IfOk r (λ o. ReplaysFrom 0 (all_made (guest_in_store store).recorded 0 agains) store o) → IfErr r (λ e. e ≡ error.OutOfMemory) → IsReplayed c calls fuel turns r
+  replays_is (Ok o) h short = replayed_is o h
+  replays_is (Err e) h short = short_is c calls fuel turns e short

@@ -1,5 +1,5 @@
 -- What a guest that replays has before it, and where it is.
-use Rattle.std.specs.Prelude.{List, None, Option, Some, [], flat_map, length, nat_eq, if◌then◌else◌, replicate, slice_get, take, true, ⊤, ℕ, ◌++◌, ◌+◌, ◌-◌, ◌<◌, ◌^◌, ◌∷◌, ◌≡◌, ◌≤◌, ◌⊎◌}
+use Rattle.std.specs.Prelude.{List, None, Option, Some, [], false, flat_map, length, nat_eq, if◌then◌else◌, replicate, slice_get, take, true, ⊤, ℕ, ◌++◌, ◌+◌, ◌-◌, ◌<◌, ◌^◌, ◌∷◌, ◌≡◌, ◌≤◌, ◌⊎◌}
 use Rattle.std.specs.List.{copy_within}
 use Rattle.canon_model.specs.Memory.{Block}
 use Rattle.canon_model.specs.Requests.{Call}
@@ -53,7 +53,7 @@ marks_of_event (event.Realloc old old_size align new_size answer) = record { law
 marks_of_event _ = []
 
 abbrev pub replay_seen : Replaying → Seen
-replay_seen g = record { journal = None; marks = flat_map marks_of_event (passed_events g); live = g.live; traps = g.traps; shortages = g.shortages }
+replay_seen g = record { journal = None; marks = flat_map marks_of_event (passed_events g); live = g.live; holds = false; traps = g.traps; shortages = g.shortages }
 
 -- ---- where a call begins
 

@@ -11,7 +11,7 @@ use crate::recorded::{
 };
 use crate::stop::Stop;
 use canon_memory::{Event, Events, Guest, GuestFault, Memory, Step, ValRaw};
-use std::alloc::Global;
+use std::alloc::{AllocError, Global};
 use std::marker::Model;
 
 /// The number of addresses.
@@ -378,6 +378,10 @@ impl Guest for ReplayGuest {
         new_size: u64,
     ) -> Result<u64, GuestFault> {
         self.give(memory, old, old_size, align, new_size)
+    }
+
+    fn hold(&mut self, _start: u64, _size: u32) -> Result<(), AllocError> {
+        Ok(())
     }
 
     fn post_return(

@@ -5,11 +5,11 @@ ghost use Rattle.canon_ledger.specs.Places.{HasType, SamePlaces};
 ghost use Rattle.canon_model.specs.Leaves.{leaf};
 ghost use Rattle.canon_resources.specs.Parts.{LeafLifts, LeafMoves, lifted_parts};
 
+use crate::ResourceAny;
 use crate::resource_types::{kept_for, table_for};
 use crate::steps::{insert_borrow, insert_host, lend_at, take_at};
 use canon_handles::{TypedResource, TypedResourceIndex};
 use canon_ledger::{HostResourceIndex, Ledger, ResourceFault};
-use crate::ResourceAny;
 use canon_types::{InstanceType, TypeResourceTableIndex};
 
 /// Moves an own handle from its instance's table to the host's, and answers its index there.

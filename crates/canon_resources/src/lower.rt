@@ -7,9 +7,9 @@ ghost use Rattle.canon_resources.specs.Parts.{LeafMoves, do_part, lent_part, low
 
 use crate::resource_types::{is_defined_here, is_of_type, table_for};
 use crate::steps::{insert_borrow, insert_own, lend_host, take_host};
+use crate::{ResourceAny, ResourceAnyHandle};
 use canon_handles::TypedResource;
 use canon_ledger::{Ledger, ResourceFault};
-use crate::{ResourceAny, ResourceAnyHandle};
 use canon_types::{InstanceType, TypeResourceTableIndex};
 
 /// Lowers an own handle (CanonicalABI.md, "lower_own"): takes it out of the host's table and puts it into that of the type's instance.

@@ -6,8 +6,8 @@ ghost use Rattle.canon_ledger.specs.Handles.{top_scope};
 ghost use Rattle.canon_ledger.specs.Ledger.{Did, host_resource_drop, host_resource_lift_borrow, host_resource_lift_own, host_resource_lower_own, resource_drop, resource_lift_borrow, resource_lift_own, resource_lower_borrow, resource_new, validate_scope_exit, with_its_slot};
 ghost use Rattle.canon_ledger.specs.Places.{SamePlaces};
 
-use canon_handles::{CurrentScope, Scope, TypedResource, TypedResourceIndex};
 use canon_abi::RuntimeInstance;
+use canon_handles::{CurrentScope, Scope, TypedResource, TypedResourceIndex};
 use canon_ledger::{HostResourceIndex, Ledger, ResourceFault, TableSlot};
 
 /// The number of the top open scope.

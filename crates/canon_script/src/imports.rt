@@ -15,8 +15,8 @@ ghost use Rattle.canon_script.specs.Values.{plain_value_of};
 
 use crate::fields::u32_in;
 use crate::values::PlainValues;
-use canon_context::Import;
 use canon_abi::{OptionsIndex, TypeFuncIndex};
+use canon_context::Import;
 use canon_json::{Reader, ScriptError, each_of, has_len};
 use canon_layout::type_of_json;
 use canon_types::{InterfaceType, TypeBuilder, TypeError, TypeResourceTableIndex};

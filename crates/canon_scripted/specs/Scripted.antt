@@ -49,7 +49,7 @@ breaches (mark ∷ marks) = (if mark.lawful then 0 else 1) + breaches marks
 
 -- how any guest is seen
 abbrev pub seen_of : Doing → Seen
-seen_of g = record { journal = None; marks = g.marks; live = g.plan.allocator.live; traps = g.traps; shortages = g.shortages }
+seen_of g = record { journal = None; marks = g.marks; live = g.plan.allocator.live; holds = false; traps = g.traps; shortages = g.shortages }
 
 -- ---- what comes of its calls
 

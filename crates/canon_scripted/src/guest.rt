@@ -10,7 +10,7 @@ use crate::actions::{Action, Actions};
 use crate::allocator::Allocator;
 use crate::orders::{Ordered, Orders};
 use canon_memory::{Guest, GuestFault, Memory, Step, ValRaw};
-use std::alloc::Global;
+use std::alloc::{AllocError, Global};
 use std::marker::Model;
 
 /// A guest that does what a script says, with an allocator that goes up. Contracts see what it is still to do, a mark
@@ -212,6 +212,10 @@ impl Guest for ScriptedGuest {
             Ok(answer) => Ok(answer),
             Err(fault) => Err(self.count(fault)),
         }
+    }
+
+    fn hold(&mut self, _start: u64, _size: u32) -> Result<(), AllocError> {
+        Ok(())
     }
 
     fn post_return(

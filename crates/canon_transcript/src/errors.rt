@@ -3,9 +3,9 @@
 ghost use Rattle.std.specs.Prelude.{◌≡◌, ◌++◌, IfOk, OnOk, string_bytes};
 ghost use Rattle.canon_transcript.specs.Text as spec;
 
+use canon_abi::OutOfMemory;
 use canon_context::{At, Fault};
 use canon_func::Error;
-use canon_abi::OutOfMemory;
 use canon_ledger::ResourceFault;
 use std::alloc::{AllocError, Global};
 

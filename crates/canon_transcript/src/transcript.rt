@@ -3,8 +3,8 @@
 ghost use Rattle.std.specs.Prelude.{◌≡◌, List, [], ◌∷◌, ◌++◌, OnOk, OnErr};
 ghost use Rattle.canon_transcript.specs.declared.transcript.Record.{Record};
 
-use canon_func::Error;
 use canon_abi::OutOfMemory;
+use canon_func::Error;
 use canon_memory::Events;
 use canon_val::Val;
 use std::alloc::Global;

@@ -8,14 +8,11 @@ mod table;
 mod types;
 
 pub use canon_abi::{
-    CanonicalAbiInfo, DiscriminantSize, FlagsSize, MAX_FLAT_PARAMS, MAX_FLAT_RESULTS, VariantInfo,
-};
-pub use canon_abi::{
-    CanonicalOptions, ExportIndex, OptionsIndex, OutOfMemory, RuntimeInstance, StoreId,
-    StringEncoding, TypeEnumIndex, TypeFixedLengthListIndex, TypeFlagsIndex, TypeFuncIndex,
-    TypeFutureTableIndex, TypeListIndex, TypeMapIndex, TypeOptionIndex, TypeRecordIndex,
-    TypeResourceTableIndex, TypeResultIndex, TypeStreamTableIndex, TypeTupleIndex,
-    TypeVariantIndex,
+    CanonicalAbiInfo, CanonicalOptions, DiscriminantSize, ExportIndex, FlagsSize, MAX_FLAT_PARAMS,
+    MAX_FLAT_RESULTS, OptionsIndex, OutOfMemory, RuntimeInstance, StoreId, StringEncoding,
+    TypeEnumIndex, TypeFixedLengthListIndex, TypeFlagsIndex, TypeFuncIndex, TypeFutureTableIndex,
+    TypeListIndex, TypeMapIndex, TypeOptionIndex, TypeRecordIndex, TypeResourceTableIndex,
+    TypeResultIndex, TypeStreamTableIndex, TypeTupleIndex, TypeVariantIndex, VariantInfo,
 };
 pub use error::TypeError;
 pub use instance::InstanceType;

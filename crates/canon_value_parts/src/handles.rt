@@ -10,10 +10,10 @@ ghost use Rattle.canon_model.specs.Leaves.{leaf};
 ghost use Rattle.canon_value_parts.specs.Resources.{GivesHandle, TakesHandle, told_fault};
 
 use canon_context::{Fault, LowerContext, Source};
-use canon_resources::{lift_borrow, lift_own, ResourceAny};
 use canon_ledger::{Ledger, ResourceFault};
 use canon_memory::Guest;
 use canon_plan::HandleType;
+use canon_resources::{ResourceAny, lift_borrow, lift_own};
 use canon_types::InstanceType;
 use canon_val::Val;
 

@@ -17,11 +17,11 @@ ghost use Rattle.canon_context.specs.Core.{HasKnownType, SameButLedger, table_by
 
 use super::Core;
 use canon_handles::{CurrentScope, Scope, TypedResource, TypedResourceIndex};
-use canon_resources::{ResourceAny, table_for};
 use canon_ledger::{
     CallContext, HostResourceIndex, HostResourceTables, KnownTypes, ResourceFault, ResourceTables,
     TableSlot,
 };
+use canon_resources::{ResourceAny, table_for};
 use canon_types::{OutOfMemory, RuntimeInstance, TypeResourceTableIndex};
 
 impl<T, G> Core<T, G> {
