@@ -15,7 +15,7 @@ use Rattle.canon_context.specs.declared.host.HostStop.{HostStop}
 use Rattle.canon_context.specs.Faults.{stop_of}
 use Rattle.canon_host.specs.Forms.{in_view}
 use Rattle.canon_host.specs.HostSide.{Answering, LoggedEntry}
-use Rattle.canon_host.specs.Serves.{Steps, Values}
+use Rattle.canon_host.specs.Serves.{EndsAsk, Steps, Values}
 use Rattle.canon_host.specs.declared.asked.Asked.{Asked}
 use Rattle.canon_host.specs.declared.error.HostError.{HostError}
 use Rattle.canon_host.specs.declared.error.HostError.TheVariants as host
@@ -87,7 +87,9 @@ pub record FollowsSteps {T G P S : Type 0} (its : AskForm T) (answers_so : Answe
       → HostSteps before.ledger after.ledger × (after ≡ record before { state = after.state; ledger = after.ledger })
       × its.gave answers_so index log asked (in_view before) params (Err why) after.state after.ledger
   pub logs : (params : its.Params) (told : Values P its.Results) → told.params ≡ how.told params → Logged told ≡ its.logged_with log index params told.results
-  pub lowers : (s : T) (l : LedgerState) (at : ℕ) (results : its.Results) (r : Result (Unit {0}) Fault) → how.lowers (record a { state = s; ledger = l }) at results r b storage2
-      → LowersAs its seen moves index a b callee asked storage2 at results l r
-  pub state : (s : T) (l : LedgerState) (at : ℕ) (results : its.Results) (r : Result (Unit {0}) Fault) → how.lowers (record a { state = s; ledger = l }) at results r b storage2 → b.state ≡ s
-  pub id : (s : T) (l : LedgerState) (at : ℕ) (results : its.Results) (r : Result (Unit {0}) Fault) → how.lowers (record a { state = s; ledger = l }) at results r b storage2 → b.id ≡ a.id
+  pub ends : (before left : Parts T G) (ws : List ℕ) (r : Result ℕ Fault) → how.ends before ws r left → EndsAsk seen moves asked before ws r left
+  -- once the guest was told of the place for results
+  pub lowers : (g : G) (s : T) (l : LedgerState) (at : ℕ) (results : its.Results) (r : Result (Unit {0}) Fault) → how.lowers (record a { guest = g; state = s; ledger = l }) at results r b storage2
+      → LowersAs its seen moves index (record a { guest = g }) b callee asked storage2 at results l r
+  pub state : (g : G) (s : T) (l : LedgerState) (at : ℕ) (results : its.Results) (r : Result (Unit {0}) Fault) → how.lowers (record a { guest = g; state = s; ledger = l }) at results r b storage2 → b.state ≡ s
+  pub id : (g : G) (s : T) (l : LedgerState) (at : ℕ) (results : its.Results) (r : Result (Unit {0}) Fault) → how.lowers (record a { guest = g; state = s; ledger = l }) at results r b storage2 → b.id ≡ a.id

@@ -23,13 +23,14 @@ use Rattle.canon_func.specs.AskTypes.{given_shape}
 use Rattle.canon_func.specs.AskValues.{asked_results}
 use Rattle.canon_func.specs.Asks.{AskStops}
 use Rattle.canon_func.specs.Call.{CountsWithin}
-use Rattle.canon_func.specs.HostAsks.{HostStops, IsHostAsk, NothingAsked, StopsAtAsk, StopsGiven}
+use Rattle.canon_func.specs.HostAsks.{HostStops, IsHostAsk, IsToldPlace, NothingAsked, StopsAtAsk, StopsGiven}
 use Rattle.canon_func.specs.Laws.{RefusedAskStands, StandsAsked, StandsBut, result_places}
 use Rattle.canon_func.specs.Stores.{Callee}
 use Rattle.canon_func.specs.declared.error.Error.{Error}
 use Rattle.canon_func.specs.declared.error.Error.TheVariants as error
 use Rattle.canon_func.proofs.Refusals.{calm_so}
 use Rattle.canon_lowering.specs.Stages.{Stage, bare, moment_at}
+use Rattle.canon_func.proofs.Told.{told_grows, told_same}
 
 -- ---- counts
 
@@ -88,6 +89,15 @@ form_keeps (over_types types may) callee asked at from to results low answers tr
     subst (λ xs. StandsBut (result_places callee asked at) from to xs) w.1 (near_stands callee asked at from to w.0.answers near (lowering_stands [] (bare from) (bare to) h.ending w.0.answers w.0.trap w.0.fresh w.0.lowering calm)))
     (cases_lt max_results (members_flat (asked_results callee asked)))
 
+-- ---- once the guest was told of the place
+
+told_calm : (callee : Callee) (asked : Asked) (at : ℕ) (asking held to : Seen) → IsToldPlace callee asked at asking held → Calm refused asking to → Calm refused held to
+told_calm callee asked at asking held to tells calm = subst (λ (x : Seen). Calm refused x to) (sym (told_same callee asked at asking held tells)) (calm.0, calm.1)
+
+told_stands : (callee : Callee) (asked : Asked) (at : ℕ) (places : List Block) (from : Moment) (held : Seen) (to : Moment) (answers : List Answer) → IsToldPlace callee asked at from.guest held
+    → StandsBut places (moment held from.bytes) to answers → StandsBut places from to answers
+told_stands callee asked at places from held to answers tells h = record { tidy = h.tidy; lawful = λ lawful i lives out. h.lawful lawful i (told_grows callee asked at from.guest held tells i lives) out }
+
 -- ---- an ask of a function of the host
 
 nothing_stands : (callee : Callee) (index : ℕ) (words : List ℕ) (from to : Moment) (answers : List Answer) (trap : Option Trap) → NothingAsked from.bytes to.bytes answers trap → StandsAsked callee index words from to answers
@@ -101,7 +111,9 @@ module _ {T : Type 0} (its : AskForm T) (keeps : KeepsMemory its) (answers_so : 
   given_stands : (results : its.Results) (called : LedgerState) → StopsGiven its answers_so callee fuel asked index words from to answers trap before after e results called → StandsAsked callee index words from to answers
   given_stands results called (inl (f, told, bad, left, quiet)) = quiet_stands quiet
   given_stands results called (inr (at, place, inl (x, told, exit, quiet))) = quiet_stands quiet
-  given_stands results called (inr (at, place, inr (ended, f, low, ends, told, lowers))) = inr (asked, at, is, place, keeps callee asked at from to results low answers trap _ _ f calm lowers)
+  given_stands results called (inr (at, place, inr (ended, ends, inl (short, far, unheld, left, quiet)))) = quiet_stands quiet
+  given_stands results called (inr (at, place, inr (ended, ends, inr (f, low, held, told, tells, lowers)))) =
+      inr (asked, at, is, place, told_stands callee asked at _ from held to answers tells (keeps callee asked at (moment held from.bytes) to results low answers trap _ _ f (told_calm callee asked at from.guest held to.guest tells calm) lowers))
 
   host_stands : StopsAtAsk its answers_so callee fuel asked index words from to answers trap before after e → StandsAsked callee index words from to answers
   host_stands (inl (why, left, same, quiet)) = quiet_stands quiet

@@ -31,7 +31,7 @@ use Rattle.canon_func.specs.AskForms.{ask_at}
 use Rattle.canon_func.specs.Call.{Advances}
 use Rattle.canon_func.specs.HostAsks.{HostStops, IsHostAsk, IsHostServed, NothingAsked, asked_error}
 use Rattle.canon_func.specs.AskValues.{asked_results}
-use Rattle.canon_func.specs.Runs.{Leg, answers_in}
+use Rattle.canon_func.specs.Runs.{Leg, answers_in, living}
 use Rattle.canon_func.specs.Steps.{MayRun, HostAsked, Proceeds, Resumed, Resumes, RisesAt, SameButHost, ServesAsk, Serving, Started, Stepping, TrapsLate, ask_turn, so_far}
 use Rattle.canon_func.specs.Stores.{Callee, export_callee}
 use Rattle.canon_func.specs.declared.asks.Builtin.{Builtin}
@@ -85,7 +85,7 @@ module _ {T : Type 0} (gives : Giving T) (callee : Callee) (limits : Limits) (Li
       so = inr (ran_returned gives callee limits Lives words before host now served count returned h le);
     }
 
-    pub has_exhausted : (asks : (legs : List Leg) (xs : List Event) → Lives legs xs → Lives (legs ++ record { events = xs; live = now.guest.live } ∷ []) []) (index : ℕ) (asked : List ℕ)
+    pub has_exhausted : (asks : (legs : List Leg) (xs : List Event) → Lives legs xs → Lives (legs ++ record { events = xs; live = living now.guest } ∷ []) []) (index : ℕ) (asked : List ℕ)
         → Stepping gives callee limits Lives words before now host served count (step.Import index asked) → count ≡ limits.turns → Serving before now (Lives []) (MayRun gives callee limits Lives words before now host served (Err error.TurnsExhausted))
     has_exhausted asks index asked h all = record {
       answers = answers_in h.turns;
@@ -97,7 +97,7 @@ module _ {T : Type 0} (gives : Giving T) (callee : Callee) (limits : Limits) (Li
 
   -- it wasn't served, or didn't go on
   pub has_stopped : (now after : Moment) (served left : HostSide T) (P : List Leg → List Event → Type 0) (N : List Event → Type 0)
-      (goes_on : (xs ys : List Event) → P [] xs → N ys → Lives [] (xs ++ ys)) (asks : (legs : List Leg) (xs ys : List Event) → P legs xs → N ys → Lives (legs ++ record { events = xs; live = now.guest.live } ∷ []) ys)
+      (goes_on : (xs ys : List Event) → P [] xs → N ys → Lives [] (xs ++ ys)) (asks : (legs : List Leg) (xs ys : List Event) → P legs xs → N ys → Lives (legs ++ record { events = xs; live = living now.guest } ∷ []) ys)
       (count index : ℕ) (asked : List ℕ) (e : Error)
       → Stepping gives callee limits P words before now host served count (step.Import index asked) → count < limits.turns → Serving now after N (ServesAsk gives callee limits.fuel index asked now after served left (Err e))
       → Serving before after (Lives []) (MayRun gives callee limits Lives words before after host left (Err e))
@@ -122,7 +122,7 @@ none_asked bytes = (refl, refl, refl)
 
 -- the guest was resumed once an ask was served in the memory that it had left
 module _ {T : Type 0} (gives : Giving T) (callee : Callee) (fuel index : ℕ) (words : List ℕ) (a m b : Moment) (l n : HostSide T) (answers : List Answer) (longer : length a.bytes ≤ length m.bytes) where
-  pub resumed_so : (resumed : List ℕ) (result : Result Step Error) (xs ys : List Event) → IsServed gives callee fuel (ask_turn index words a.guest.live a.bytes answers resumed m.bytes) l n → xs ≡ events_of answers None
+  pub resumed_so : (resumed : List ℕ) (result : Result Step Error) (xs ys : List Event) → IsServed gives callee fuel (ask_turn index words (living a.guest) a.bytes answers resumed m.bytes) l n → xs ≡ events_of answers None
       → Goes a m (marks_of answers) xs → Goes m b [] ys → (AskStops gives callee fuel (error.Fault fault.OutOfMemory) index words a b answers None l n)
       → Resumed resumed m b result ys → ServesAsk gives callee fuel index words a b l n result answers (xs ++ ys)
   resumed_so resumed (Ok next) xs ys served is first goes short are =
@@ -179,9 +179,9 @@ module _ {T : Type 0} (gives : Giving T) (callee : Callee) (fuel : ℕ) (asked :
   pub then_resumed : (a m b : Moment) (l k n : HostSide T) → n ≡ k → (storage : List ℕ) (count : ℕ) (result : Result Step Error) (M N O : List Event → Type 0) → ((xs ys : List Event) → M xs → N ys → O (xs ++ ys)) → count ≡ row_words (asked_results callee asked)
       → Serving a m M (HostAsked gives callee fuel asked index words a m l k storage (Ok tt)) → Proceeds m b N (Resumed (take count storage) m b result) → Serving a b O (ServesAsk gives callee fuel index words a b l n result)
   then_resumed a m b l k n same storage count result M N O f is first second =
-      let served : IsHostServed gives callee fuel (ask_turn index words a.guest.live a.bytes first.answers (take count storage) m.bytes) l n =
-      subst (λ (q : HostSide T). IsHostServed gives callee fuel (ask_turn index words a.guest.live a.bytes first.answers (take count storage) m.bytes) l q) (sym same)
-      (subst (λ c. IsHostServed gives callee fuel (ask_turn index words a.guest.live a.bytes first.answers (take c storage) m.bytes) l k) (sym is) first.so.0) in
+      let served : IsHostServed gives callee fuel (ask_turn index words (living a.guest) a.bytes first.answers (take count storage) m.bytes) l n =
+      subst (λ (q : HostSide T). IsHostServed gives callee fuel (ask_turn index words (living a.guest) a.bytes first.answers (take count storage) m.bytes) l q) (sym same)
+      (subst (λ c. IsHostServed gives callee fuel (ask_turn index words (living a.guest) a.bytes first.answers (take c storage) m.bytes) l k) (sym is) first.so.0) in
       record {
         answers = first.answers;
         events = first.events ++ second.events;

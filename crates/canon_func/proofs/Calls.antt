@@ -24,7 +24,7 @@ use Rattle.canon_host.specs.HostSide.{Giving, HostSide}
 use Rattle.canon_func.specs.Asks.{AreServed, Limits}
 use Rattle.canon_func.specs.Call.{Accepts, AcceptsLater, Advances, AfterTurns, AskCause, AsksByTypes, Cause, IsCallOf, IsStart, lowering_ending, words_within}
 use Rattle.canon_func.specs.Passing.{Arguments, ReturnedValues}
-use Rattle.canon_func.specs.Runs.{AskTurn, Each, IsNoPost, IsTrap, OnReturn, OnStart, Leg, asks_in}
+use Rattle.canon_func.specs.Runs.{AskTurn, Each, IsNoPost, IsTrap, OnReturn, OnStart, Leg, asks_in, living}
 use Rattle.canon_func.specs.Steps.{IsRest, RestCause}
 use Rattle.canon_func.specs.Stores.{Callee}
 use Rattle.canon_func.specs.declared.error.Error.{Error}
@@ -196,7 +196,7 @@ module _ {T R : Type 0} (args : Arguments) (its : ReturnedValues R) (gives : Giv
     late_trap = rest.late_trap;
     tail = rest.tail;
     starts = rest.starts;
-    lived = let (ends, goes) = earlier in asks_after P Q call_first ends goes rest.turns rest.late_guest.live rest.tail later rest.lived;
+    lived = let (ends, goes) = earlier in asks_after P Q call_first ends goes rest.turns (living rest.late_guest) rest.tail later rest.lived;
     asks = λ none. at_most (asks_in (call_first ++ later)) (asks_in later) limits.turns asks_later (rest.asks (λ is. not_ok results error.TurnsExhausted is));
     accepted = good_later (length mid.bytes) (length after.bytes) answers on.no_shorter low.start.good;
     marks = all_marks more low.marks marks ∙ ap (λ xs. entry.guest.marks ++ marks_of (answers ++ xs)) rest.answers_are;
@@ -229,7 +229,7 @@ module _ {T R : Type 0} (args : Arguments) (its : ReturnedValues R) (gives : Giv
     late_trap = rest.late_trap;
     tail = rest.tail;
     starts = rest.starts;
-    lived = let (ends, goes) = earlier in asks_after P Q call_first ends goes rest.turns rest.late_guest.live rest.tail later rest.lived;
+    lived = let (ends, goes) = earlier in asks_after P Q call_first ends goes rest.turns (living rest.late_guest) rest.tail later rest.lived;
     asks = λ none. at_most (asks_in (call_first ++ later)) (asks_in later) limits.turns asks_later (rest.asks (λ is. none (ap Err (err_same {T = R} e error.TurnsExhausted is))));
     accepted = accepted_after its callee limits mid after later rest.tail answers e rest.cause (good_later (length mid.bytes) (length after.bytes) answers on.no_shorter low.start.good);
     marks = all_marks more low.marks marks ∙ ap (λ xs. entry.guest.marks ++ marks_of (answers ++ xs)) rest.answers_are;

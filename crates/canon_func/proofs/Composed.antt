@@ -21,7 +21,7 @@ use Rattle.canon_host.specs.Forms.{IsLawful}
 use Rattle.canon_host.specs.HostSide.{Giving, HostSide}
 use Rattle.canon_func.specs.Asks.{Limits}
 use Rattle.canon_func.specs.Call.{Adding, Advances, IsCallOf, Left, OnAnswered}
-use Rattle.canon_func.specs.Runs.{AskTurn, AsksFrom, Leg, answers_in, events_in, posts}
+use Rattle.canon_func.specs.Runs.{AskTurn, AsksFrom, Leg, answers_in, events_in, posts, living}
 use Rattle.canon_func.specs.Passing.{Arguments, ReturnedValues}
 use Rattle.canon_func.specs.Steps.{Concluded, Ended, Proceeds, IsLate, IsRest, Lifted, LoweredArgs, MayRun, Posted, RunsOut, RunsToEnd, RunsUntil, RestCause, Serving, so_far}
 use Rattle.canon_func.specs.Stores.{Callee}
@@ -74,7 +74,7 @@ module _ {T R : Type 0} (its : ReturnedValues R) (gives : Giving T) (callee : Ca
       let none : answers ≡ answers_in ran.turns ++ [] = ran.answers_are ∙ ap (λ ys. answers_in ran.turns ++ ys) ran.stopped.1.0 in
       subst (λ es. IsRest its gives callee limits Lives Leaves words a c l l2 answer answers es) (sym events)
       (rest_of_tail its gives callee limits Lives Leaves words a c l ran.served l2 ran.turns ran.len ran.asked answer a.guest (counts_first a c on) answers [] None tail none
-      (returned_more P Lives later f (event.Start callee.func words a.bytes ∷ []) ran.turns ran.late_guest.live returned b.bytes (subst (λ es. AsksFrom P (event.Start callee.func words a.bytes ∷ []) ran.turns ran.late_guest.live es) ran.stopped.0 ran.lived))
+      (returned_more P Lives later f (event.Start callee.func words a.bytes ∷ []) ran.turns (living ran.late_guest) returned b.bytes (subst (λ es. AsksFrom P (event.Start callee.func words a.bytes ∷ []) ran.turns (living ran.late_guest) es) ran.stopped.0 ran.lived))
       (subst (λ (k : HostSide T). IsTail its gives callee limits Leaves a c (length ran.turns) ran.len k l2 answer a.guest [] None tail) ran.stopped.1.2 h))
 
   -- the guest returned, and the scope ended
@@ -105,7 +105,7 @@ module _ {T R : Type 0} (its : ReturnedValues R) (gives : Giving T) (callee : Ca
         (subst (λ r. IsRest its gives callee limits Lives Leaves words a b l l (Err r) [] []) (sym (err_same {T = List ℕ} e (error.Fault fault.OutOfMemory) is)) (rest_of_none its gives callee limits Lives Leaves words a b l on (f [] [] (subst (λ es. P [] es) none moves))))))
     rest_stopped a b l l2 e answers xs on moves (inr ran) = subst (λ es. IsRest its gives callee limits Lives Leaves words a b l l2 (Err e) answers es) (sym ran.is)
         (rest_of_tail its gives callee limits Lives Leaves words a b l ran.served l2 ran.turns ran.len ran.asked (Err e) ran.late_guest ran.late_counts answers ran.late ran.late_trap ran.tail ran.answers_are
-        (from_so P Lives f (event.Start callee.func words a.bytes ∷ []) ran.turns ran.late_guest.live ran.tail ran.lived)
+        (from_so P Lives f (event.Start callee.func words a.bytes ∷ []) ran.turns (living ran.late_guest) ran.tail ran.lived)
         (stopped_rest its gives lawful_forms callee limits Leaves a b (length ran.turns) ran.len ran.served l2 e ran.late_guest ran.late ran.late_trap ran.tail ran.longer ran.few ran.stopped))
 
     -- the guest stopped, or it returned and the scope didn't end
@@ -148,7 +148,7 @@ module _ {T : Type 0} (gives : Giving T) (callee : Callee) (limits : Limits) (Li
     longer = h.longer;
     is = h.is;
     stopped = h.stopped;
-    lived = from_so Lives Q f (event.Start callee.func words a.bytes ∷ []) h.turns h.late_guest.live h.tail h.lived;
+    lived = from_so Lives Q f (event.Start callee.func words a.bytes ∷ []) h.turns (living h.late_guest) h.tail h.lived;
   }
 
   -- the guest returned, and the scope ended so, which changes nothing but the ledger

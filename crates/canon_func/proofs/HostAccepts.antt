@@ -5,7 +5,7 @@ use Rattle.canon_model.specs.Layout.{members_align}
 use Rattle.canon_model.specs.Memory.{low}
 use Rattle.canon_model.specs.Shape.{Members}
 use Rattle.canon_ledger.specs.Ledger.{LedgerState, enter, leave}
-use Rattle.canon_memory.specs.Guest.{Moment}
+use Rattle.canon_memory.specs.Guest.{Moment, moment}
 use Rattle.canon_lowering.specs.Lowering.{AllLawful, Answer, Trap}
 use Rattle.canon_types.specs.declared.types.TypeFunc.{TypeFunc}
 use Rattle.canon_context.specs.declared.component.Import.{Import}
@@ -54,9 +54,10 @@ module _ {T : Type 0} (its : AskForm T) (sound : AskSound its) (lawful : AskLawf
       → StopsGiven its answers_so callee fuel asked index words from to answers trap before after e results called → e ≡ error.Fault fault.OutOfMemory
   given_excluded results called e ok (inl (f, told, (far, bad), left, quiet)) = absurd (area_excludes from.bytes (asked_results callee asked) words _ ok.at f (ok.place far) bad)
   given_excluded results called e ok (inr (at, place, inl (x, told, exit, quiet))) = absurd (not_both called after.ledger ok.ended x exit ok.ends)
-  given_excluded results called e ok (inr (at, place, inr (ended, f, low, ends, told, lowers))) =
+  given_excluded results called e ok (inr (at, place, inr (ended, ends, inl (short, far, unheld, left, quiet)))) = short
+  given_excluded results called e ok (inr (at, place, inr (ended, ends, inr (f, low, held, told, tells, lowers)))) =
       let lowerable : its.lowerable callee asked from.bytes results (leave ended) = subst (λ k. its.lowerable callee asked from.bytes results (leave k)) (same_end called ok.ended ended ok.ends ends) ok.lowerable in
-      told ∙ told_short index f (lawful.lower_excluded callee asked at from to results low answers trap (leave ended) after.ledger f lowerable lowers kept none)
+      told ∙ told_short index f (lawful.lower_excluded callee asked at (moment held from.bytes) to results low answers trap (leave ended) after.ledger f lowerable lowers kept none)
 
   called_excluded : (params : its.Params) (lifted : LedgerState) (e : Error) → AcceptsHostBy its answers_so callee fuel asked index words from.bytes before → its.lifts before.store callee fuel asked words from.bytes (enter before.ledger) (Ok params) lifted
       → IsUnrefused e → StopsCalled its answers_so callee fuel asked index words from to answers trap before after e params lifted → e ≡ error.Fault fault.OutOfMemory

@@ -8,7 +8,7 @@ use Rattle.canon_model.specs.Layout.{members_align, members_flat, size}
 use Rattle.canon_model.specs.Memory.{low}
 use Rattle.canon_model.specs.Shape.{Members, of_places, product}
 use Rattle.canon_memory.specs.declared.event.Event.{Event}
-use Rattle.canon_memory.specs.Guest.{Goes, GuestIn, Seen}
+use Rattle.canon_memory.specs.Guest.{Goes, GuestIn, IsUnheld, Seen, moment}
 use Rattle.canon_memory.specs.Journal.{AddsEvents}
 use Rattle.canon_ledger.specs.Books.{DidSurely}
 use Rattle.canon_ledger.specs.Ledger.{LedgerState, enter, leave}
@@ -21,26 +21,28 @@ use Rattle.canon_context.specs.declared.fault.Fault.TheVariants as fault
 use Rattle.canon_context.specs.declared.component.Export.{Export}
 use Rattle.canon_context.specs.declared.host.HostStop.{HostStop}
 use Rattle.canon_context.specs.declared.host.HostStop.TheVariants as stop
+use Rattle.canon_types.specs.Table.{result_members}
 use Rattle.canon_value_parts.specs.Args.{args_words}
 use Rattle.canon_host.specs.Asked.{AreEnough, row_words}
 use Rattle.canon_host.specs.Forms.{in_view}
 use Rattle.canon_host.specs.HostSide.{Answering, LoggedEntry, HostSide, host_side}
 use Rattle.canon_host.specs.Imports.{ServesLogged}
-use Rattle.canon_host.specs.Serves.{AnswersBy, ConcludesBy, IsNoPlace, IsResultPlace, ServesBy, Steps, Values, stopped}
+use Rattle.canon_host.specs.Serves.{AnswersBy, ConcludesBy, EndsAsk, IsNoPlace, IsResultPlace, WasToldPlace, Lowers, ServesBy, Steps, Values, left_from, stopped}
 use Rattle.canon_host.specs.declared.asked.Asked.{Asked}
 use Rattle.canon_host.specs.declared.error.HostError.{HostError}
 use Rattle.canon_host.specs.declared.error.HostError.TheVariants as host
 use Rattle.canon_func.specs.AskForms.{AskForm}
 use Rattle.canon_func.specs.AskValues.{asked_params, asked_results}
 use Rattle.canon_func.specs.Call.{OnAnswered}
-use Rattle.canon_func.specs.HostAsks.{RefusalCounted, HostStopsBy, IsHostAsk, NothingAsked, StopsAtAsk, StopsGiven, asked_error, asked_exit, called_on, host_error, stopped_error}
+use Rattle.canon_func.specs.HostAsks.{RefusalCounted, HostStopsBy, IsHostAsk, IsToldPlace, NothingAsked, StopsAtAsk, StopsGiven, asked_error, asked_exit, called_on, host_error, stopped_error}
 use Rattle.canon_func.specs.Steps.{HostAskedBy, RisesAt, Serving}
 use Rattle.canon_func.specs.Stores.{Callee, export_callee}
 use Rattle.canon_func.specs.declared.error.Error.{Error}
 use Rattle.canon_func.specs.declared.error.Error.TheVariants as error
 use Rattle.canon_func.proofs.AskLaws.{AskSound, FollowsSteps}
-use Rattle.canon_func.proofs.Composed.{answers as answered}
+use Rattle.canon_func.proofs.Composed.{answered as answered_so, answers as answered}
 use Rattle.canon_func.proofs.HostLowered.{CountsHost, fault_counted, host_counted, no_rise, no_trap_there, pointer_counts, call_row_is, stopped_counted}
+use Rattle.canon_func.proofs.Told.{told_goes, told_rises, untold_goes}
 use Rattle.canon_func.proofs.Turns.{done_is}
 
 -- how it ended: on the way from one core to another, with the words of the results in storage
@@ -109,23 +111,52 @@ module _ {T G P S : Type 0} (its : AskForm T) (sound : AskSound its) (seen : G �
   exit_is : (l n : LedgerState) (r : Result (Unit {0}) ResourceFault) → DidSurely (asked_exit l) r n → asked_exit l ≡ record { answer = r; after = n }
   exit_is l n r did = done_is (asked_exit l) r n (sym did.0) did.1
 
-  concluded_at : (s : T) (l : LedgerState) (at : ℕ) (ended : Parts T G) (results : its.Results) (r : Result (Unit {0}) Fault) → ended ≡ record (with_host s l) { ledger = ended.ledger }
-      → how.lowers (record ended { ledger = leave ended.ledger }) at results r b storage2 → how.lowers (with_host s (leave ended.ledger)) at results r b storage2
-  concluded_at s l at ended results r same h = subst (λ k. how.lowers (record k { ledger = leave ended.ledger }) at results r b storage2) same h
+  -- the ask ended, and the guest was told of the place
+  abbrev Left : T → LedgerState → ℕ → Parts T G → Type 0
+  Left s l at left = EndsAsk seen moves asked (with_host s l) (words ++ pad) (Ok at) left
+
+  left_is : (s : T) (l : LedgerState) (at : ℕ) (left : Parts T G) (e : Left s l at left) → left ≡ record a { guest = left.guest; state = s; ledger = leave e.1.0.ledger }
+  left_is s l at left (placed, (ended, ends, told)) = told.same ∙ ap (λ (k : Parts T G). record k { guest = left.guest; ledger = leave ended.ledger }) ends.1
+
+  is_told : (s : T) (l : LedgerState) (at : ℕ) (left : Parts T G) (e : Left s l at left) → WasToldPlace seen moves asked (with_host s (leave e.1.0.ledger)) at (record a { guest = left.guest; state = s; ledger = leave e.1.0.ledger })
+  is_told s l at left (placed, (ended, ends, told)) =
+      subst₂ (λ (x y : Parts T G). WasToldPlace seen moves asked x at y) (ap (λ (k : Parts T G). left_from k) ends.1) (left_is s l at left (placed, (ended, ends, told))) told
+
+  tells_so : (s : T) (l : LedgerState) (at : ℕ) (left : Parts T G) (e : Left s l at left) → IsToldPlace callee asked at (seen a.guest) (seen left.guest)
+  tells_so s l at left e = record { near = λ near. ap seen ((is_told s l at left e).near near); far = λ far. (is_told s l at left e).far far }
+
+  lowered_at : (s : T) (l : LedgerState) (results : its.Results) (r : Result (Unit {0}) Fault) (h : Lowers (EndsAsk seen moves asked) how.lowers asked (with_host s l) results (words ++ pad) r b storage2)
+      → how.lowers (record a { guest = h.left.guest; state = s; ledger = leave h.ends.1.0.ledger }) h.at results r b storage2
+  lowered_at s l results r h = subst (λ k. how.lowers k h.at results r b storage2) (left_is s l h.at h.left h.ends) h.lowers
+
+  -- how the guest went on from there is how it went on as it asked
+  told_moves : (s : T) (l : LedgerState) (at : ℕ) (left : Parts T G) (e : Left s l at left) (events : List Event) → moves (guest_of (record a { guest = left.guest })) events (guest_of b) → moves (guest_of a) events (guest_of b)
+  told_moves s l at left e events m = (is_told s l at left e).went events (guest_of b) m
+
+  concludes_so : (s : T) (l : LedgerState) (results : its.Results) (r : Result (Unit {0}) Fault) → ConcludesBy how.ends how.lowers asked (with_host s l) results (words ++ pad) r b storage2
+      → ConcludesBy (EndsAsk seen moves asked) how.lowers asked (with_host s l) results (words ++ pad) r b storage2
+  concludes_so s l results (Ok x) h = record { at = h.at; left = h.left; ends = law.ends _ _ _ _ h.ends; lowers = h.lowers; rest = h.rest }
+  concludes_so s l results (Err e) (inl (ends, words_same)) = inl (law.ends _ _ _ _ ends, words_same)
+  concludes_so s l results (Err e) (inr h) = inr (record { at = h.at; left = h.left; ends = law.ends _ _ _ _ h.ends; lowers = h.lowers; rest = h.rest })
+
+  abbrev Concludes : T → LedgerState → its.Results → Result (Unit {0}) Fault → Type 0
+  Concludes s l results r = ConcludesBy (EndsAsk seen moves asked) how.lowers asked (with_host s l) results (words ++ pad) r b storage2
 
   -- nothing after the call changes the data
-  concluded_state : (s : T) (l : LedgerState) (results : its.Results) (r : Result (Unit {0}) Fault) → ConcludesBy how.lowers asked (with_host s l) results (words ++ pad) r b storage2 → b.state ≡ s
-  concluded_state s l results (Ok x) (at, ended, placed, ends, low, rest) = law.state s (leave ended.ledger) at results (Ok tt) (concluded_at s l at ended results (Ok tt) ends.1 low)
-  concluded_state s l results (Err e) (inl (none, same, words_same)) = ap (λ (k : Parts T G). k.state) same
-  concluded_state s l results (Err e) (inr (at, placed, inl (x, is_x, ends, words_same))) = ap (λ (k : Parts T G). k.state) ends.1
-  concluded_state s l results (Err e) (inr (at, placed, inr (ended, ends, low, rest))) = law.state s (leave ended.ledger) at results (Err e) (concluded_at s l at ended results (Err e) ends.1 low)
+  concluded_state : (s : T) (l : LedgerState) (results : its.Results) (r : Result (Unit {0}) Fault) → Concludes s l results r → b.state ≡ s
+  concluded_state s l results (Ok x) h = law.state h.left.guest s (leave h.ends.1.0.ledger) h.at results (Ok tt) (lowered_at s l results (Ok tt) h)
+  concluded_state s l results (Err e) (inl (inl (none, same), words_same)) = ap (λ (k : Parts T G). k.state) same
+  concluded_state s l results (Err e) (inl (inr (at, placed, inl (x, is_x, ends)), words_same)) = ap (λ (k : Parts T G). k.state) ends.1
+  concluded_state s l results (Err e) (inl (inr (at, placed, inr (ended, ends, short, far, untold)), words_same)) = ap (λ (k : Parts T G). k.state) untold.same ∙ ap (λ (k : Parts T G). k.state) ends.1
+  concluded_state s l results (Err e) (inr h) = law.state h.left.guest s (leave h.ends.1.0.ledger) h.at results (Err e) (lowered_at s l results (Err e) h)
 
   -- nor the number of the store
-  concluded_id : (s : T) (l : LedgerState) (results : its.Results) (r : Result (Unit {0}) Fault) → ConcludesBy how.lowers asked (with_host s l) results (words ++ pad) r b storage2 → b.id ≡ a.id
-  concluded_id s l results (Ok x) (at, ended, placed, ends, low, rest) = law.id s (leave ended.ledger) at results (Ok tt) (concluded_at s l at ended results (Ok tt) ends.1 low)
-  concluded_id s l results (Err e) (inl (none, same, words_same)) = ap (λ (k : Parts T G). k.id) same
-  concluded_id s l results (Err e) (inr (at, placed, inl (x, is_x, ends, words_same))) = ap (λ (k : Parts T G). k.id) ends.1
-  concluded_id s l results (Err e) (inr (at, placed, inr (ended, ends, low, rest))) = law.id s (leave ended.ledger) at results (Err e) (concluded_at s l at ended results (Err e) ends.1 low)
+  concluded_id : (s : T) (l : LedgerState) (results : its.Results) (r : Result (Unit {0}) Fault) → Concludes s l results r → b.id ≡ a.id
+  concluded_id s l results (Ok x) h = law.id h.left.guest s (leave h.ends.1.0.ledger) h.at results (Ok tt) (lowered_at s l results (Ok tt) h)
+  concluded_id s l results (Err e) (inl (inl (none, same), words_same)) = ap (λ (k : Parts T G). k.id) same
+  concluded_id s l results (Err e) (inl (inr (at, placed, inl (x, is_x, ends)), words_same)) = ap (λ (k : Parts T G). k.id) ends.1
+  concluded_id s l results (Err e) (inl (inr (at, placed, inr (ended, ends, short, far, untold)), words_same)) = ap (λ (k : Parts T G). k.id) untold.same ∙ ap (λ (k : Parts T G). k.id) ends.1
+  concluded_id s l results (Err e) (inr h) = law.id h.left.guest s (leave h.ends.1.0.ledger) h.at results (Err e) (lowered_at s l results (Err e) h)
 
   -- it was served
   pub ask_served : (told : Values P its.Results) → row_words (asked_results callee asked) ≤ length storage2 → refusals2 ≡ refusals → log2 ≡ Logged told
@@ -134,16 +165,19 @@ module _ {T G P S : Type 0} (its : AskForm T) (sound : AskSound its) (seen : G �
       let lifting = law.lifts (enter a.ledger) (Ok params) lifted lift in
       let gave = law.gives lifted called params told.results calls in
       let core_is = called_core a.state (enter a.ledger) lifted called lifting.1 gave.1 in
-      let ended_so = subst (λ k. ConcludesBy how.lowers asked k told.results (words ++ pad) (Ok tt) b storage2) core_is concludes in
-      let (at, ended, placed, ends, low, rest) = ended_so in
-      let given_is = concluded_at called.state called.ledger at ended told.results (Ok tt) ends.1 low in
-      let by = law.lowers called.state (leave ended.ledger) at told.results (Ok tt) given_is in
+      let ended_so = concludes_so called.state called.ledger told.results (Ok tt) (subst (λ k. ConcludesBy how.ends how.lowers asked k told.results (words ++ pad) (Ok tt) b storage2) core_is concludes) in
+      let at = ended_so.at in
+      let left = ended_so.left in
+      let left_so = ended_so.ends in
+      let (placed, (ended, ends, is_it)) = left_so in
+      let tells = tells_so called.state called.ledger at left left_so in
+      let by = law.lowers left.guest called.state (leave ended.ledger) at told.results (Ok tt) (lowered_at called.state called.ledger told.results (Ok tt) ended_so) in
       let none : by.trap ≡ None = by.done in
       record {
         answers = by.answers;
         events = events_of by.answers None;
-        goes = subst (λ o. Goes (moment_of seen a) (moment_of seen b) (marks_of by.answers) (events_of by.answers o)) none by.goes;
-        moves = subst (λ o. moves (guest_of a) (events_of by.answers o) (guest_of b)) none by.moved;
+        goes = subst (λ o. Goes (moment_of seen a) (moment_of seen b) (marks_of by.answers) (events_of by.answers o)) none (told_goes callee asked at (seen a.guest) (seen left.guest) tells a.memory (moment_of seen b) (marks_of by.answers) (events_of by.answers by.trap) by.goes);
+        moves = subst (λ o. moves (guest_of a) (events_of by.answers o) (guest_of b)) none (told_moves called.state called.ledger at left left_so (events_of by.answers by.trap) by.moved);
         so = (
           record {
             asked = asked;
@@ -161,9 +195,11 @@ module _ {T G P S : Type 0} (its : AskForm T) (sound : AskSound its) (seen : G �
             place = place at placed;
             ends = exit_is called.ledger ended.ledger (Ok tt) ends.0;
             asking = seen a.guest;
+            held = seen left.guest;
             answered = seen b.guest;
             lives = refl;
-            lowers = subst (λ o. its.lowers callee asked at (moment_of seen a) (moment_of seen b) told.results (take (members_flat (asked_results callee asked)) storage2) by.answers o (leave ended.ledger) b.ledger (Ok tt)) none by.lowers;
+            tells = tells;
+            lowers = subst (λ o. its.lowers callee asked at (moment (seen left.guest) a.memory) (moment_of seen b) told.results (take (members_flat (asked_results callee asked)) storage2) by.answers o (leave ended.ledger) b.ledger (Ok tt)) none by.lowers;
             resumed = call_row_is (members_flat (asked_results callee asked)) storage2;
             count = length-take-le (row_words (asked_results callee asked)) storage2 room;
             told = logs ∙ law.logs params told same;
@@ -202,41 +238,64 @@ module _ {T G P S : Type 0} (its : AskForm T) (sound : AskSound its) (seen : G �
     -- after the call
     stopped_given : (s : T) (l : LedgerState) (results : its.Results) (x : Fault) → refusals2 ≡ refusals
         → (from : (answers : List Answer) (trap : Option Trap) → StopsGiven its answers_so callee a.fuel asked index words (moment_of seen a) (moment_of seen b) answers trap call_before after (asked_error index x) results l → At answers trap (asked_error index x))
-        → ConcludesBy how.lowers asked (with_host s l) results (words ++ pad) (Err x) b storage2 → Ends (Err (asked_error index x))
-    stopped_given s l results x none_refused from (inl (none, same, words_same)) =
+        → Concludes s l results (Err x) → Ends (Err (asked_error index x))
+    stopped_given s l results x none_refused from (inl (inl (none, same), words_same)) =
         quiet s l (asked_error index x) (fault_counted index x none_refused) same (no_rise index x (moment_of seen a) (moment_of seen b) (no_trap_there x _ _ _ _ none.1))
         (from [] None (inl (x, refl, no_place x none, ledger_is s l same, nothing_asked s l same)))
-    stopped_given s l results x none_refused from (inr (at, placed, inl (r, is_r, ends, words_same))) =
+    stopped_given s l results x none_refused from (inl (inr (at, placed, inl (r, is_r, ends)), words_same)) =
         quiet s b.ledger (asked_error index x) (fault_counted index x none_refused) ends.1 (no_rise index x (moment_of seen a) (moment_of seen b) (λ trap. let w = sym is_r ∙ trap in cc))
         (from [] None (inr (at, place at placed, inl (r, ap (asked_error index) is_r, exit_is l b.ledger (Err r) ends.0, nothing_asked s b.ledger ends.1))))
-    stopped_given s l results x none_refused from (inr (at, placed, inr (ended, ends, low, rest))) =
-        let given_is = concluded_at s l at ended results (Err x) ends.1 low in
-        let by = law.lowers s (leave ended.ledger) at results (Err x) given_is in
+    stopped_given s l results x none_refused from (inl (inr (at, placed, inr (ended, ends, short, far, untold)), words_same)) =
+        let is_short : asked_error index x ≡ error.Fault fault.OutOfMemory = ap (asked_error index) short in
+        let core_is : b ≡ record a { guest = b.guest; state = s; ledger = leave ended.ledger } = untold.same ∙ ap (λ (k : Parts T G). record k { guest = b.guest; ledger = leave ended.ledger }) ends.1 in
+        let unheld = subst (λ (k : Parts T G). IsUnheld (seen k.guest) (seen b.guest)) ends.1 untold.unheld in
+        let there = subst (λ (k : Parts T G). max_results < members_flat (result_members (component_types k) asked.func)) (ap (λ (k : Parts T G). left_from k) ends.1) far in
+        let memory_is : b.memory ≡ a.memory = ap (λ (k : Parts T G). k.memory) core_is in
+        let left_there : b.ledger ≡ leave ended.ledger = ap (λ (k : Parts T G). k.ledger) core_is in
+        record {
+          answers = [];
+          events = [];
+          goes = untold_goes (seen a.guest) (seen b.guest) a.memory b.memory memory_is unheld;
+          moves = subst (λ e. OnAnswered {T = Unit {0}} (Err e) (moves (guest_of a) [] (guest_of b))) (sym is_short) tt;
+          so = (
+            None,
+            stopped_with [] None (asked_error index x) (fault_counted index x none_refused) (ap (λ (k : Parts T G). k.id) core_is)
+                (from [] None (inr (at, place at placed, inr (ended.ledger, exit_is l ended.ledger (Ok tt) ends.0, inl (is_short, there, unheld, left_there, (refl, refl, memory_is)))))),
+            refl,
+            tt,
+            subst (λ e. RisesAt e (moment_of seen a) (moment_of seen b)) (sym is_short) tt,
+          );
+        }
+    stopped_given s l results x none_refused from (inr h) =
+        let at = h.at in
+        let left = h.left in
+        let (placed, (ended, ends, is_it)) = h.ends in
+        let tells = tells_so s l at left h.ends in
+        let given_is = lowered_at s l results (Err x) h in
+        let by = law.lowers left.guest s (leave ended.ledger) at results (Err x) given_is in
         record {
           answers = by.answers;
           events = events_of by.answers by.trap;
-          goes = by.goes;
-          moves = by.moved;
+          goes = told_goes callee asked at (seen a.guest) (seen left.guest) tells a.memory (moment_of seen b) (marks_of by.answers) (events_of by.answers by.trap) by.goes;
+          moves = answered_so {T = Unit {0}} (Err (asked_error index x)) (moves (guest_of (record a { guest = left.guest })) (events_of by.answers by.trap) (guest_of b)) (moves (guest_of a) (events_of by.answers by.trap) (guest_of b))
+              (told_moves s l at left h.ends (events_of by.answers by.trap)) by.moved;
           so = (
             by.trap,
             stopped_with by.answers by.trap (asked_error index x) (fault_counted index x none_refused)
-                (law.id s (leave ended.ledger) at results (Err x) given_is)
+                (law.id left.guest s (leave ended.ledger) at results (Err x) given_is)
                 (from by.answers by.trap
                 (inr (
                   at,
                   place at placed,
                   inr (
                     ended.ledger,
-                    x,
-                    take (members_flat (asked_results callee asked)) storage2,
                     exit_is l ended.ledger (Ok tt) ends.0,
-                    refl,
-                    by.lowers,
+                    inr (x, take (members_flat (asked_results callee asked)) storage2, seen left.guest, refl, tells, by.lowers),
                   ),
                 ))),
             refl,
             by.late,
-            by.rises,
+            told_rises callee asked at (seen a.guest) (seen left.guest) tells a.memory (moment_of seen b) (asked_error index x) by.rises,
           );
         }
 
@@ -271,7 +330,7 @@ module _ {T G P S : Type 0} (its : AskForm T) (sound : AskSound its) (seen : G �
         let gave = law.gives lifted called params results calls in
         let is_fault : host_error index e ≡ asked_error index x = ap (host_error index) told in
         let core_is = called_core a.state (enter a.ledger) lifted called same gave.1 in
-        let ended_so = subst (λ k. ConcludesBy how.lowers asked k results (words ++ pad) (Err x) b storage2) core_is concludes in
+        let ended_so = concludes_so called.state called.ledger results (Err x) (subst (λ k. ConcludesBy how.ends how.lowers asked k results (words ++ pad) (Err x) b storage2) core_is concludes) in
         subst (λ err. Ends (Err err)) (sym is_fault) (stopped_given called.state called.ledger results x (subst (CountsHost refusals refusals2) told counts)
         (λ answers trap h. inr (inr (params, lifted.ledger, lift, inr (inr (results, called.ledger, gave.0, gave_so params (Ok results) lifted called.ledger called.state same (sym (concluded_state called.state called.ledger results (Err x) ended_so)) gave.2, h)))))
         ended_so)

@@ -2,7 +2,7 @@
 use Rattle.std.proofs.Common.{Err, List, None, Option, Some, [], inl, inr, refl, subst, sym, ℕ, ◌∙◌, ◌≡◌, ◌⊎◌}
 use Rattle.canon_ledger.specs.Ledger.{LedgerState, enter, leave}
 use Rattle.canon_ledger.specs.declared.fault.ResourceFault.TheVariants as resource
-use Rattle.canon_memory.specs.Guest.{Moment}
+use Rattle.canon_memory.specs.Guest.{Moment, moment}
 use Rattle.canon_lowering.specs.Lowering.{Answer, Trap, events_of}
 use Rattle.canon_context.specs.declared.fault.Fault.{Fault}
 use Rattle.canon_context.specs.declared.fault.Fault.TheVariants as fault
@@ -76,7 +76,8 @@ module _ {T : Type 0} (its : AskForm T) (sound : AskSound its) (answers_so : Ans
   given_told : (e : Error) (results : its.Results) (called : LedgerState) → Given e results called → IsStopTold index e
   given_told e results called (inl (f, told, bad, left, quiet)) = told_as e (asked_error index f) told (asked_told index f)
   given_told e results called (inr (at, place, inl (x, told, exit, quiet))) = told_as e (asked_error index (fault.Resource x)) told (asked_told index (fault.Resource x))
-  given_told e results called (inr (at, place, inr (ended, f, low, ends, told, lowers))) = told_as e (asked_error index f) told (asked_told index f)
+  given_told e results called (inr (at, place, inr (ended, ends, inl (short, far, unheld, left, quiet)))) = told_as e (error.Fault fault.OutOfMemory) short tt
+  given_told e results called (inr (at, place, inr (ended, ends, inr (f, low, held, told, tells, lowers)))) = told_as e (asked_error index f) told (asked_told index f)
 
   told_so : (e : Error) → At e → IsStopTold index e
   told_so e (inl (wants, left, same, quiet)) = declined_told e (sound.declined callee asked index before.log e wants)
@@ -93,7 +94,8 @@ module _ {T : Type 0} (its : AskForm T) (sound : AskSound its) (answers_so : Ans
   refused_given : (n : ℕ) (results : its.Results) (called : LedgerState) → Given (error.HostRefused n) results called → ⊥
   refused_given n results called (inl (f, told, bad, left, quiet)) = refused_no_fault n index f told
   refused_given n results called (inr (at, place, inl (x, told, exit, quiet))) = refused_no_fault n index (fault.Resource x) told
-  refused_given n results called (inr (at, place, inr (ended, f, low, ends, told, lowers))) = refused_no_fault n index f told
+  refused_given n results called (inr (at, place, inr (ended, ends, inl (short, far, unheld, left, quiet)))) = cc
+  refused_given n results called (inr (at, place, inr (ended, ends, inr (f, low, held, told, tells, lowers)))) = refused_no_fault n index f told
 
   refused_so : (n : ℕ) → At (error.HostRefused n) → events_of answers trap ≡ []
   refused_so n (inl (wants, left, same, (none, quiet, kept))) = none_more answers trap none quiet
@@ -118,9 +120,10 @@ module _ {T : Type 0} (its : AskForm T) (sound : AskSound its) (answers_so : Ans
   trapped_given n results called (inl (f, told, (far, inl bad), left, quiet)) = let w = sym bad.0 ∙ trap_fault n index f told in cc
   trapped_given n results called (inl (f, told, (far, inr bad), left, quiet)) = let w = sym bad.0 ∙ trap_fault n index f told in cc
   trapped_given n results called (inr (at, place, inl (x, told, exit, quiet))) = let w = trap_fault n index (fault.Resource x) told in cc
-  trapped_given n results called (inr (at, place, inr (ended, f, low, ends, told, lowers))) =
-      sound.traps callee asked at from to results low answers trap (leave ended) after.ledger
-      (subst (λ g. its.lowers callee asked at from to results low answers trap (leave ended) after.ledger (Err g)) (trap_fault n index f told) lowers)
+  trapped_given n results called (inr (at, place, inr (ended, ends, inl (short, far, unheld, left, quiet)))) = cc
+  trapped_given n results called (inr (at, place, inr (ended, ends, inr (f, low, held, told, tells, lowers)))) =
+      sound.traps callee asked at (moment held from.bytes) to results low answers trap (leave ended) after.ledger
+      (subst (λ g. its.lowers callee asked at (moment held from.bytes) to results low answers trap (leave ended) after.ledger (Err g)) (trap_fault n index f told) lowers)
 
   trapped_so : (n : ℕ) → At (error.ImportFault n fault.GuestTrap) → Traps
   trapped_so n (inl (wants, left, same, quiet)) = absurd (trap_no_decline n (sound.declined callee asked index before.log (error.ImportFault n fault.GuestTrap) wants))

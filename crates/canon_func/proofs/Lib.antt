@@ -36,3 +36,4 @@ pub mod ValuesAsked
 pub mod TupleLowered
 pub mod TupleLifted
 pub mod TypedExact
+pub mod Told

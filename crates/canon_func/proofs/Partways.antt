@@ -13,6 +13,7 @@ use Rattle.canon_resources.specs.Steps.{leaves_steps}
 use Rattle.canon_lowering.specs.Lowering.{Answer, Trap}
 use Rattle.canon_context.specs.declared.fault.Fault.TheVariants as fault
 use Rattle.canon_context.specs.Faults.{stop_of}
+use Rattle.canon_host.proofs.TypedSteps.{partway_none}
 use Rattle.canon_host.specs.Forms.{IsLawful}
 use Rattle.canon_host.specs.HostSide.{Answering, Giving, HostSide}
 use Rattle.canon_host.specs.declared.asked.Asked.{Asked}
@@ -22,7 +23,7 @@ use Rattle.canon_func.specs.HostAsks.{HostStops, IsHostAsk, StopsAtAsk, StopsCal
 use Rattle.canon_func.specs.AskForms.{AskForm, ask_at}
 use Rattle.canon_func.specs.Laws.{TurnPartway, TurnThrough, GoesOn, HostCalled, HostPartway, HostThrough, PassesPartway, RefusedTurnIsPartway, ask_steps, host_asked_steps, host_given_steps, last_steps}
 use Rattle.canon_func.specs.Passing.{Arguments, ReturnedValues}
-use Rattle.canon_func.specs.Runs.{AskTurn, BeginsInAsk, Each, IsNoStart, SomeReturn}
+use Rattle.canon_func.specs.Runs.{AskTurn, BeginsInAsk, Each, IsNoStart, SomeReturn, living}
 use Rattle.canon_func.specs.Steps.{ask_turn}
 use Rattle.canon_func.specs.Stores.{Callee}
 use Rattle.canon_func.specs.declared.asks.Builtin.{Builtin}
@@ -85,11 +86,16 @@ module _ {T : Type 0} (its : AskForm T) (sound : AskSound its) (lawful : AskLawf
   given_partway results called (inl (f, told, bad, left, quiet)) = inl left
   given_partway results called (inr (at, place, inl (x, told, refused, quiet))) =
       inr (inl (x, ap (λ (d : Done (Unit {0})). (numbered (λ _. 0) d).answer) refused, sym (ap (λ (d : Done (Unit {0})). d.after) refused)))
-  given_partway results called (inr (at, place, inr (ended, f, low, ends, told, lowers))) =
+  given_partway results called (inr (at, place, inr (ended, ends, inl (short, far, unheld, left, quiet)))) =
       subst (λ k. Partway called (ExitScope (top_scope called.handles) ∷ Leave ∷ leaves_steps (leave k) (its.gives callee asked results)) after.ledger) (ended_is called ended ends)
       (ended_partway_of called ended after.ledger (Leave ∷ leaves_steps (leave ended) (its.gives callee asked results)) ends
       (compose_parts ended (leave ended) after.ledger (Leave ∷ []) (leaves_steps (leave ended) (its.gives callee asked results)) (left_through ended (leave ended) (ended_can_leave called ended ends) refl)
-      (leaves_partway (stop_of f) (leave ended) after.ledger (its.gives callee asked results) (sound.ungiven callee asked at from to results low answers trap (leave ended) after.ledger f lowers))))
+      (partway_none (leave ended) after.ledger (leaves_steps (leave ended) (its.gives callee asked results)) left)))
+  given_partway results called (inr (at, place, inr (ended, ends, inr (f, low, held, told, tells, lowers)))) =
+      subst (λ k. Partway called (ExitScope (top_scope called.handles) ∷ Leave ∷ leaves_steps (leave k) (its.gives callee asked results)) after.ledger) (ended_is called ended ends)
+      (ended_partway_of called ended after.ledger (Leave ∷ leaves_steps (leave ended) (its.gives callee asked results)) ends
+      (compose_parts ended (leave ended) after.ledger (Leave ∷ []) (leaves_steps (leave ended) (its.gives callee asked results)) (left_through ended (leave ended) (ended_can_leave called ended ends) refl)
+      (leaves_partway (stop_of f) (leave ended) after.ledger (its.gives callee asked results) (sound.ungiven callee asked at (moment held from.bytes) to results low answers trap (leave ended) after.ledger f lowers))))
 
   after_lifting : (params : its.Params) (lifted : LedgerState) → its.lifts before.store callee fuel asked words from.bytes (enter before.ledger) (Ok params) lifted → Through before.ledger FirstSteps lifted
       → StopsCalled its answers_so callee fuel asked index words from to answers trap before after e params lifted → PartwayStopped
@@ -162,8 +168,8 @@ module _ {T : Type 0} (gives : Giving T) (lawful : (n : ℕ) → IsLawful (gives
   ask_stops (error.Fault fault.OutOfMemory) l n index words from to answers trap (inl (h, none, quiet)) = short_partway (error.Fault fault.OutOfMemory) index words from.bytes l n h h.left
   ask_stops (error.Fault fault.OutOfMemory) l n index words from to answers trap (inr (inl (asked, h))) = stops_partway asked index words from to answers trap l n (error.Fault fault.OutOfMemory) h
   ask_stops (error.Fault fault.OutOfMemory) l n index words from to answers trap
-      (inr (inr (resumed, memory3, none, longer, h))) = served_partway (ask_turn index words from.guest.live from.bytes answers resumed memory3) l n
-      (error.Fault fault.OutOfMemory) (host_through gives lawful callee fuel (ask_turn index words from.guest.live from.bytes answers resumed memory3) l n h)
+      (inr (inr (resumed, memory3, none, longer, h))) = served_partway (ask_turn index words (living from.guest) from.bytes answers resumed memory3) l n
+      (error.Fault fault.OutOfMemory) (host_through gives lawful callee fuel (ask_turn index words (living from.guest) from.bytes answers resumed memory3) l n h)
   ask_stops e l n index words from to answers trap h = absurd h
 
 module _ {T R : Type 0} (args : Arguments) (its : ReturnedValues R) (gives : Giving T) (lawful : (n : ℕ) → IsLawful (gives.form n)) (callee : Callee) (fuel : ℕ) (law : ReadsRightly callee its) where

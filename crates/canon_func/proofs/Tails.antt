@@ -11,7 +11,7 @@ use Rattle.canon_func.specs.Asks.{Limits}
 use Rattle.canon_func.specs.Call.{AcceptsLater, Advances, CountsWithin, Left}
 use Rattle.canon_func.specs.HostAsks.{IsUnrefused}
 use Rattle.canon_func.specs.Passing.{ReturnedValues}
-use Rattle.canon_func.specs.Runs.{AskTurn, AsksFrom, Each, EndsAsking, EndsIn, Grows, IsNoPost, IsNoResume, IsNoStart, IsPrefixOfRun, IsTrap, MayTrap, OnReturn, OnStart, Leg, answers_in, asks_in, events_in, last_len, posts}
+use Rattle.canon_func.specs.Runs.{AskTurn, AsksFrom, Each, EndsAsking, EndsIn, Grows, IsNoPost, IsNoResume, IsNoStart, IsPrefixOfRun, IsTrap, MayTrap, OnReturn, OnStart, Leg, answers_in, asks_in, events_in, last_len, posts, living}
 use Rattle.canon_func.specs.Steps.{IsRest, RestCause, RestPasses, TurnsTaken, so_far}
 use Rattle.canon_func.specs.Stores.{Callee}
 use Rattle.canon_func.specs.declared.error.Error.{Error}
@@ -105,7 +105,7 @@ module _ {T R : Type 0} (its : ReturnedValues R) (gives : Giving T) (callee : Ca
       }
 
   pub rest_of_tail : (answer : Result R Error) (late_guest : Seen) → CountsWithin before.guest late_guest after.guest → (answers late : List Answer) (trap : Option Trap) (tail : List Event) → answers ≡ answers_in turns ++ late
-      → AsksFrom Lives (event.Start callee.func words before.bytes ∷ []) turns late_guest.live tail
+      → AsksFrom Lives (event.Start callee.func words before.bytes ∷ []) turns (living late_guest) tail
       → IsTail its gives callee limits Leaves before after (length turns) len served left answer late_guest late trap tail → IsRest its gives callee limits Lives Leaves words before after host left answer answers (so_far callee words before turns tail)
   rest_of_tail answer late_guest counts answers late trap tail all lived h = record {
     one_run = ok_then answer _ _ (λ (returned, memory, is). (words, before.bytes, returned, memory, record { reallocs = []; only_reallocs = tt; turns = turns; is = ap (λ es. call_first ++ es) is })) h.whole;

@@ -53,7 +53,7 @@ module _ {T : Type 0} (its : AskForm T) (sound : AskSound its) (lawful : AskLawf
   pub form_through : (t : AskTurn) (l n : HostSide T) → IsHostServedBy its answers_so callee fuel t l n → HostThrough its answers_so callee fuel t l n
   form_through t l n h =
       let lifts = lawful.taken l.store callee fuel h.asked t.words t.memory (enter l.ledger) h.lifted h.params h.lifts in
-      let gave = sound.given callee h.asked h.at (moment h.asking t.memory) (moment h.answered t.resumed_memory) h.results h.words t.answers None (leave h.ended) n.ledger h.lowers in
+      let gave = sound.given callee h.asked h.at (moment h.held t.memory) (moment h.answered t.resumed_memory) h.results h.words t.answers None (leave h.ended) n.ledger h.lowers in
       record {
         served = h;
         first = (0, refl, leaves_through (enter l.ledger) h.lifted (its.parts l.store callee h.asked t.words t.memory) lifts.0 lifts.1);

@@ -15,7 +15,7 @@ use Rattle.canon_context.specs.declared.fault.Fault.TheVariants as fault
 use Rattle.canon_host.specs.HostSide.{Giving, HostSide}
 use Rattle.canon_func.specs.Asks.{AreServed, IsServed, Limits}
 use Rattle.canon_func.specs.Call.{Advances, CountsWithin}
-use Rattle.canon_func.specs.Runs.{AskTurn, Each, Grows, Leg, answers_in, asks_in, events_in, last_len, since_last, legs_in}
+use Rattle.canon_func.specs.Runs.{AskTurn, Each, Grows, Leg, answers_in, asks_in, events_in, last_len, since_last, legs_in, living}
 use Rattle.canon_func.specs.Steps.{RisesAt, RunsUntil, ServesAsk, Stepping, TurnsTaken, ask_turn, so_far}
 use Rattle.canon_func.specs.Stores.{Callee}
 use Rattle.canon_func.specs.declared.error.Error.{Error}
@@ -186,11 +186,11 @@ module _ {T : Type 0} (gives : Giving T) (callee : Callee) (limits : Limits) (Li
       lives_more Lives start ts t (last ∷ []) es (are ∙ sym (append_assoc (events_of t.answers None) (event.Resume t.resumed_words t.resumed_memory ∷ []) (last ∷ []))) h
 
   module _ (now after : Moment) (served left : HostSide T) (P : List Leg → List Event → Type 0) (N : List Event → Type 0) (goes_on : (xs ys : List Event) → P [] xs → N ys → Lives [] (xs ++ ys))
-      (asks : (legs : List Leg) (xs ys : List Event) → P legs xs → N ys → Lives (legs ++ record { events = xs; live = now.guest.live } ∷ []) ys) (count index : ℕ) (asked : List ℕ) where
+      (asks : (legs : List Leg) (xs ys : List Event) → P legs xs → N ys → Lives (legs ++ record { events = xs; live = living now.guest } ∷ []) ys) (count index : ℕ) (asked : List ℕ) where
     pub stepping_more : (next : Step) (xs : List Answer) (es : List Event) → Stepping gives callee limits P words before now host served count (step.Import index asked) → Goes now after (marks_of xs) es
         → N es → ServesAsk gives callee limits.fuel index asked now after served left (Ok next) xs es → Stepping gives callee limits Lives words before after host left (count + 1) next
     stepping_more next xs es h goes moves (r, are) =
-        let t : AskTurn = ask_turn index asked now.guest.live now.bytes xs r.resumed r.memory in
+        let t : AskTurn = ask_turn index asked (living now.guest) now.bytes xs r.resumed r.memory in
         let e : so_far callee words before h.turns (event.Ask index asked now.bytes ∷ []) ++ es ≡ so_far callee words before (h.turns ++ t ∷ []) (step_event next after.bytes ∷ []) =
         ap (λ ys. so_far callee words before h.turns (event.Ask index asked now.bytes ∷ []) ++ ys) are ∙ joined_turn h.turns t (step_event next after.bytes ∷ []) in
         record {
@@ -210,7 +210,7 @@ module _ {T : Type 0} (gives : Giving T) (callee : Callee) (limits : Limits) (Li
         → N es → ServesAsk gives callee limits.fuel index asked now after served left (Err e) xs es
         → RunsUntil gives callee limits Lives words before after host left (Err e) (answers_in h.turns ++ xs) (so_far callee words before h.turns (event.Ask index asked now.bytes ∷ []) ++ es)
     ran_refused (error.Fault fault.GuestTrap) xs es h lt goes moves (r, rose, are) =
-        let t : AskTurn = ask_turn index asked now.guest.live now.bytes xs r.resumed r.memory in
+        let t : AskTurn = ask_turn index asked (living now.guest) now.bytes xs r.resumed r.memory in
         record {
           turns = h.turns ++ t ∷ [];
           late_guest = before.guest;
@@ -284,7 +284,7 @@ module _ {T : Type 0} (gives : Giving T) (callee : Callee) (limits : Limits) (Li
       lived = h.lived;
     }
 
-    pub ran_exhausted : (asks : (legs : List Leg) (xs : List Event) → Lives legs xs → Lives (legs ++ record { events = xs; live = now.guest.live } ∷ []) []) (index : ℕ) (asked : List ℕ) (h : Stepping gives callee limits Lives words before now host served count (step.Import index asked))
+    pub ran_exhausted : (asks : (legs : List Leg) (xs : List Event) → Lives legs xs → Lives (legs ++ record { events = xs; live = living now.guest } ∷ []) []) (index : ℕ) (asked : List ℕ) (h : Stepping gives callee limits Lives words before now host served count (step.Import index asked))
         → count ≡ limits.turns
         → RunsUntil gives callee limits Lives words before now host served (Err error.TurnsExhausted) (answers_in h.turns) (so_far callee words before h.turns (event.Ask index asked now.bytes ∷ []))
     ran_exhausted asks index asked h all = record {

@@ -290,15 +290,18 @@ module _ {T G P R : Type 0} (types : RustTypes P R) (May : TypedAnswering T P R)
         moved = tuple_moves index (typed_given types callee asked results) f h.ending (L.moves (guest_of a) (events_of by.answers by.trap) (guest_of b)) h.ends (unless h.ending _ _ (moved_by L a b (events_of by.answers by.trap)) by.moves);
       }
 
-  pub types_follow : FollowsSteps (ask_types types May) gives.answers (steps_of_types types May log L.seen L.moves asked) (λ told. log) L.seen L.moves log index a b callee asked words pad storage2
+module _ {T G P R : Type 0} (types : RustTypes P R) (May : TypedAnswering T P R) (L : GuestLaws G) (gives : Giving T) (log : Option (List LoggedEntry)) (index : ℕ) (a b : Parts T G) (export : Export) (asked : Asked) (words pad storage2 : List ℕ)
+    (is : IsHostAsk (export_callee a.component export) index words asked) where
+  pub types_follow : FollowsSteps (ask_types types May) gives.answers (steps_of_types types May log L.seen L.moves asked) (λ told. log) L.seen L.moves log index a b (export_callee a.component export) asked words pad storage2
   types_follow = record {
-    declines = declines;
-    lifts = λ l r lifted h. ((h.0, lifts l r lifted h.1), h.1.1);
+    declines = declines types May L gives log index a b export asked words pad storage2 is;
+    lifts = λ l r lifted h. ((h.0, lifts types May L gives log index a b export asked words pad storage2 is l r lifted h.1), h.1.1);
     fails = λ before after e h. absurd h;
     gives = λ before after params results h. (h.steps, h.same, (h.unlogged, h.may_give));
     stops = λ before after params why left h. (h.steps, h.same, (h.unlogged, h.may_give));
     logs = λ params told same. refl;
-    lowers = lowered;
-    state = λ s l at results r h. ap (λ (k : Parts T G). k.state) h.same;
-    id = λ s l at results r h. ap (λ (k : Parts T G). k.id) h.same;
+    ends = λ before left ws r h. h;
+    lowers = λ g s l at results r h. lowered types May L gives log index (record a { guest = g }) b export asked words pad storage2 is s l at results r h;
+    state = λ g s l at results r h. ap (λ (k : Parts T G). k.state) h.same;
+    id = λ g s l at results r h. ap (λ (k : Parts T G). k.id) h.same;
   }

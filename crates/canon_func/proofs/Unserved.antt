@@ -1,5 +1,5 @@
 -- What comes after the turns where the guest didn't return: it trapped, or its last ask isn't resumed.
-use Rattle.std.proofs.Common.{Err, List, None, Ok, Option, Result, Some, [], ap, append_assoc, arith, inl, inr, length, refl, subst, sym, ℕ, ◌++◌, ◌+◌, ◌∙◌, ◌∷◌, ◌≡◌, ◌≤◌, ◌<◌}
+use Rattle.std.proofs.Common.{false, Err, List, None, Ok, Option, Result, Some, [], ap, append_assoc, arith, inl, inr, length, refl, subst, sym, ℕ, ◌++◌, ◌+◌, ◌∙◌, ◌∷◌, ◌≡◌, ◌≤◌, ◌<◌}
 use Rattle.std.specs.Prelude.{slice_get, ◌≢◌}
 use Rattle.std.specs.Option.{option_and_then}
 use Rattle.std.proofs.lemmas.List.{append-nil}
@@ -77,7 +77,7 @@ late_trap_may n late (Some t) h = rw (ap (λ es. last_len n es) (sym (append-nil
 
 asked_prefix : (post : Option ℕ) (len index : ℕ) (asked memory : List ℕ) (late : List Answer) (trap : Option Trap) → TrapsLate (length memory) trap → TailPrefix post len (event.Ask index asked memory ∷ events_of late trap)
 asked_prefix post len index asked memory late trap h = record {
-  more = ask_turn index asked [] memory late [] [] ∷ [];
+  more = ask_turn index asked (record { blocks = []; holds = false }) memory late [] [] ∷ [];
   returned = [];
   memory = [];
   prefix = event.Ask index asked memory ∷ events_of late None;

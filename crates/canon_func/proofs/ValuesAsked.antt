@@ -184,15 +184,18 @@ module _ {T G : Type 0} (may : ValuesAnswering T) (L : GuestLaws G) (gives : Giv
         cause = by.cause;
       })
 
-  pub values_follow : FollowsSteps (ask_values may) gives.answers (steps_of_values gives log index L.seen L.moves asked may) (λ told. logged log (logged_entry index told)) L.seen L.moves log index a b callee asked words pad storage2
+module _ {T G : Type 0} (may : ValuesAnswering T) (L : GuestLaws G) (gives : Giving T) (log : Option (List LoggedEntry)) (index : ℕ) (a b : Parts T G) (export : Export) (asked : Asked) (words pad storage2 : List ℕ)
+    (is : IsHostAsk (export_callee a.component export) index words asked) where
+  pub values_follow : FollowsSteps (ask_values may) gives.answers (steps_of_values gives log index L.seen L.moves asked may) (λ told. logged log (logged_entry index told)) L.seen L.moves log index a b (export_callee a.component export) asked words pad storage2
   values_follow = record {
     declines = λ e why. ap (host_error index) why;
-    lifts = λ l r lifted h. (subst (λ ws. (over : ℕ) × LiftsParams (asked_origin callee asked a.memory) ws (asked_params callee asked) l a.fuel r lifted.ledger over) first_is h.0, h.1);
+    lifts = λ l r lifted h. (subst (λ ws. (over : ℕ) × LiftsParams (asked_origin (export_callee a.component export) asked a.memory) ws (asked_params (export_callee a.component export) asked) l a.fuel r lifted.ledger over) (first_is may L gives log index a b export asked words pad storage2 is) h.0, h.1);
     fails = λ before after e h. h;
     gives = λ before after params results h. (h.steps, h.same, (h.may_give, h.by_log, h.counted));
     stops = λ before after params why left h. (h.steps, h.same, (h.may_give, h.by_log, tt));
     logs = λ params told same. ap (λ ps. logged log (entry index ps told.results)) same;
-    lowers = lowered;
-    state = λ s l at results r h. ap (λ (k : Parts T G). k.state) h.same;
-    id = λ s l at results r h. ap (λ (k : Parts T G). k.id) h.same;
+    ends = λ before left ws r h. h;
+    lowers = λ g s l at results r h. lowered may L gives log index (record a { guest = g }) b export asked words pad storage2 is s l at results r h;
+    state = λ g s l at results r h. ap (λ (k : Parts T G). k.state) h.same;
+    id = λ g s l at results r h. ap (λ (k : Parts T G). k.id) h.same;
   }

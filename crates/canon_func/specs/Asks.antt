@@ -19,7 +19,7 @@ use Rattle.canon_host.specs.Asked.{asked_words}
 use Rattle.canon_host.specs.HostSide.{Giving, HostSide}
 use Rattle.canon_host.specs.declared.asked.Asked.{Asked}
 use Rattle.canon_func.specs.HostAsks.{AcceptsHost, HostStops, IsHostServed, NothingAsked}
-use Rattle.canon_func.specs.Runs.{AskTurn}
+use Rattle.canon_func.specs.Runs.{AskTurn, living}
 use Rattle.canon_func.specs.Stores.{Callee}
 use Rattle.canon_func.specs.declared.asks.Builtin.{Builtin}
 use Rattle.canon_func.specs.declared.asks.Builtin.TheVariants as builtin
@@ -125,7 +125,7 @@ module _ {T : Type 0} (gives : Giving T) (callee : Callee) (fuel : ℕ) where
       (BuiltinIsShort callee index words before after × (answers ≡ []) × (trap ≡ None))
       ⊎ ((asked : Asked) × HostStops gives callee fuel asked index words from to answers trap before after (error.Fault fault.OutOfMemory))
       ⊎ ((resumed memory3 : List ℕ) × (trap ≡ None) × (length memory3 ≤ length to.bytes)
-      × IsHostServed gives callee fuel (record { index = index; words = words; live = from.guest.live; memory = from.bytes; answers = answers; resumed_words = resumed; resumed_memory = memory3 }) before after)
+      × IsHostServed gives callee fuel (record { index = index; words = words; live = living from.guest; memory = from.bytes; answers = answers; resumed_words = resumed; resumed_memory = memory3 }) before after)
 
   -- Why an ask that was made at the first of these moments wasn't resumed, and what that left: of the guest and memory at the second, and of the
   -- host. Blocks were asked for meanwhile with these answers, and perhaps a trap.

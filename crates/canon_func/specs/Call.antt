@@ -45,7 +45,7 @@ use Rattle.canon_host.specs.HostSide.{Giving, HostSide}
 use Rattle.canon_func.specs.Asks.{AreServed, AskStops, AcceptsAsk, Limits, import_words}
 use Rattle.canon_func.specs.HostAsks.{IsUnrefused}
 use Rattle.canon_func.specs.Passing.{Arguments, ReturnedValues}
-use Rattle.canon_func.specs.Runs.{AskTurn, AsksLive, BeginsInAsk, ByLegs, Each, EndsIn, Grows, IsNoPost, IsNoReturn, IsNoStart, IsOneRun, IsPrefixOfRun, IsReallocAnswer, IsReturn, IsTrap, Leg, MayStart, OnAsk, OnReturn, OnStart, SomeReturn, answers_in, asks_in}
+use Rattle.canon_func.specs.Runs.{AskTurn, AsksLive, BeginsInAsk, ByLegs, Each, EndsIn, Grows, IsNoPost, IsNoReturn, IsNoStart, IsOneRun, IsPrefixOfRun, IsReallocAnswer, IsReturn, IsTrap, Leg, MayStart, OnAsk, OnReturn, OnStart, SomeReturn, answers_in, asks_in, living}
 use Rattle.canon_func.specs.Stores.{Callee}
 use Rattle.canon_func.specs.declared.error.Error.{Error}
 use Rattle.canon_func.specs.declared.error.Error.TheVariants as error
@@ -304,7 +304,7 @@ OnAnswered (Err _) P = P
 -- One guest made its way from before to after, by a leg to each ask: by the leg's events, and with the leg's blocks at the ask. The events
 -- after the last ask led to the guest after, for every answer except out of memory.
 abbrev pub LivesUntil : {G U : Type 0} → (G → Seen) → (GuestIn G → List Event → GuestIn G → Type 0) → GuestIn G → GuestIn G → Result U Error → List Leg → List Event → Type 0
-LivesUntil seen moves before after answer = ByLegs moves (λ g. (seen g.guest).live) (λ g rest. OnAnswered answer (moves g rest after)) before
+LivesUntil seen moves before after answer = ByLegs moves (λ g. living (seen g.guest)) (λ g rest. OnAnswered answer (moves g rest after)) before
 
 -- A call that wasn't refused before the guest was entered, by its parameters, what its results are, how its guest went from ask to ask,
 -- what a post-return may leave, what functions of the host may give, its callee, what it may use, the moments and the host before and
@@ -332,7 +332,7 @@ pub record IsCallOf {T R : Type 0} (args : Arguments) (its : ReturnedValues R) (
   pub tail : List Event
   pub starts : MayStart callee.func turns late late_trap tail later
   -- One guest went from ask to ask by the events between them, and at each ask those blocks lived in it.
-  pub lived : AsksLive Lives turns late_guest.live tail events
+  pub lived : AsksLive Lives turns (living late_guest) tail events
   pub asks : answer ≢ Err error.TurnsExhausted → asks_in events ≤ limits.turns
   -- each answer was aligned and its block ended inside memory, but one that the call was refused for; and each answer has its mark
   pub accepted : Accepted (lowering_ending answer) (length after.bytes) answers

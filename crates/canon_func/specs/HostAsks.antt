@@ -1,8 +1,8 @@
 -- How an ask for a function of the host is served (CanonicalABI.md, "canon lower").
-use Rattle.std.specs.Prelude.{Err, List, None, Ok, Option, Result, Some, [], if◌then◌else◌, nat_le, slice_get, length, ℕ, ◌+◌, ◌≡◌, ◌≢◌, ◌⊎◌}
+use Rattle.std.specs.Prelude.{Err, List, None, Ok, Option, Result, Some, [], if◌then◌else◌, nat_le, slice_get, length, ℕ, ◌+◌, ◌<◌, ◌≡◌, ◌≤◌, ◌≢◌, ◌⊎◌}
 use Rattle.canon_model.specs.Flat.{max_results}
 use Rattle.canon_model.specs.Layout.{members_flat}
-use Rattle.canon_memory.specs.Guest.{Moment, Seen, moment}
+use Rattle.canon_memory.specs.Guest.{IsHeld, IsUnheld, Moment, Seen, moment}
 use Rattle.canon_ledger.specs.Handles.{top_scope}
 use Rattle.canon_ledger.specs.Ledger.{Done, LedgerState, enter, leave, validate_scope_exit}
 use Rattle.canon_ledger.specs.declared.fault.ResourceFault.{ResourceFault}
@@ -18,13 +18,13 @@ use Rattle.canon_model.specs.Memory.{cap}
 use Rattle.canon_host.specs.Asked.{asked_words, row_words}
 use Rattle.canon_host.specs.Forms.{InView}
 use Rattle.canon_host.specs.HostSide.{Answering, Giving, HostSide}
-use Rattle.canon_host.specs.Serves.{IsNoPlace, IsResultPlace}
+use Rattle.canon_host.specs.Serves.{IsNoPlace, IsResultPlace, results_place}
 use Rattle.canon_host.specs.declared.asked.Asked.{Asked}
 use Rattle.canon_host.specs.declared.error.HostError.{HostError}
 use Rattle.canon_host.specs.declared.error.HostError.TheVariants as host
 use Rattle.canon_func.specs.AskForms.{AskForm, ask_at}
 use Rattle.canon_func.specs.AskValues.{asked_params, asked_results}
-use Rattle.canon_func.specs.Runs.{AskTurn}
+use Rattle.canon_func.specs.Runs.{AskTurn, living}
 use Rattle.canon_func.specs.Stores.{Callee}
 use Rattle.canon_func.specs.declared.error.Error.{Error}
 use Rattle.canon_func.specs.declared.error.Error.TheVariants as error
@@ -46,6 +46,11 @@ asked_exit l = validate_scope_exit (top_scope l.handles) l
 -- nothing was asked for, and memory is the same
 abbrev pub NothingAsked : List ℕ → List ℕ → List Answer → Option Trap → Type 0
 NothingAsked memory memory2 answers trap = (answers ≡ []) × (trap ≡ None) × (memory2 ≡ memory)
+
+-- The guest as it asked, and once it was told of the place for results that don't go in a row.
+pub record IsToldPlace (callee : Callee) (asked : Asked) (at : ℕ) (asking held : Seen) : Type 0 where
+  pub near : members_flat (asked_results callee asked) ≤ max_results → held ≡ asking
+  pub far : max_results < members_flat (asked_results callee asked) → IsHeld asking held (results_place callee.types.types asked at)
 
 -- the word in which the guest is resumed, if the results go in a row
 abbrev pub resumed_with : Callee → Asked → List ℕ → List ℕ
@@ -85,8 +90,8 @@ module _ {T : Type 0} (its : AskForm T) (answers_so : Answering T) (callee : Cal
 
   -- ---- an ask that was resumed
 
-  -- A scope was opened; the parameters were lifted; the function was called once; the scope ended and was left; the results were
-  -- lowered; and the guest was resumed with their words, if they go in a row.
+  -- A scope was opened; the parameters were lifted; the function was called once; the scope ended and was left; the guest was told
+  -- of the place for the results; they were lowered; and it was resumed with their words, if they go in a row.
   pub record IsHostServedBy (t : AskTurn) (before after : HostSide T) : Type 0 where
     pub asked : Asked
     pub is : IsHostAsk callee t.index t.words asked
@@ -102,11 +107,13 @@ module _ {T : Type 0} (its : AskForm T) (answers_so : Answering T) (callee : Cal
     pub gave : Gives before t.index asked t.memory lifted params (Ok results) after.state called
     pub place : IsResultPlace callee.types.types asked t.memory t.words at
     pub ends : asked_exit called ≡ record { answer = Ok tt; after = ended }
-    -- the guest as it asked, and once the results were lowered
+    -- the guest as it asked, once it was told of the place, and once the results were lowered
     pub asking : Seen
+    pub held : Seen
     pub answered : Seen
-    pub lives : asking.live ≡ t.live
-    pub lowers : its.lowers callee asked at (moment asking t.memory) (moment answered t.resumed_memory) results words t.answers None (leave ended) after.ledger (Ok tt)
+    pub lives : living asking ≡ t.live
+    pub tells : IsToldPlace callee asked at asking held
+    pub lowers : its.lowers callee asked at (moment held t.memory) (moment answered t.resumed_memory) results words t.answers None (leave ended) after.ledger (Ok tt)
     pub resumed : t.resumed_words ≡ resumed_with callee asked words
     pub count : length t.resumed_words ≡ row_words (asked_results callee asked)
     pub told : after.log ≡ its.logged_with before.log t.index params results
@@ -116,14 +123,17 @@ module _ {T : Type 0} (its : AskForm T) (answers_so : Answering T) (callee : Cal
   -- ---- an ask that wasn't
 
   module _ (asked : Asked) (index : ℕ) (words : List ℕ) (from to : Moment) (answers : List Answer) (trap : Option Trap) (before after : HostSide T) (e : Error) where
-    -- after the call: the place for the results, the end of the scope, or lowering the results was refused
+    -- after the call: the place for the results or the end of the scope was refused, memory was wanting to tell the guest of the place, or
+    -- lowering the results was refused
     abbrev pub StopsGiven : its.Results → LedgerState → Type 0
     StopsGiven results called =
         ((f : Fault) × (e ≡ asked_error index f) × IsNoPlace callee.types.types asked from.bytes words f × (after.ledger ≡ called) × NothingAsked from.bytes to.bytes answers trap)
         ⊎ ((at : ℕ) × IsResultPlace callee.types.types asked from.bytes words at
         × (((x : ResourceFault) × (e ≡ asked_error index (fault.Resource x)) × (asked_exit called ≡ record { answer = Err x; after = after.ledger }) × NothingAsked from.bytes to.bytes answers trap)
-        ⊎ ((ended : LedgerState) × (f : Fault) × (low : List ℕ) × (asked_exit called ≡ record { answer = Ok tt; after = ended }) × (e ≡ asked_error index f)
-        × its.lowers callee asked at from to results low answers trap (leave ended) after.ledger (Err f))))
+        ⊎ ((ended : LedgerState) × (asked_exit called ≡ record { answer = Ok tt; after = ended })
+        × (((e ≡ error.Fault fault.OutOfMemory) × (max_results < members_flat (asked_results callee asked)) × IsUnheld from.guest to.guest × (after.ledger ≡ leave ended) × NothingAsked from.bytes to.bytes answers trap)
+        ⊎ ((f : Fault) × (low : List ℕ) × (held : Seen) × (e ≡ asked_error index f) × IsToldPlace callee asked at from.guest held
+        × its.lowers callee asked at (moment held from.bytes) to results low answers trap (leave ended) after.ledger (Err f))))))
 
     -- from the call on: there was no room for results, the function gave none, or it stopped later
     abbrev pub StopsCalled : its.Params → LedgerState → Type 0

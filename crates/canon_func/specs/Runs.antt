@@ -1,9 +1,10 @@
 -- The events of a run of a guest.
-use Rattle.std.specs.Prelude.{List, None, Option, Some, [], length, ℕ, ⊤, ◌++◌, ◌+◌, ◌∷◌, ◌≡◌, ◌≤◌, ◌⊎◌}
+use Rattle.std.specs.Prelude.{Bool, List, None, Option, Some, [], length, ℕ, ⊤, ◌++◌, ◌+◌, ◌∷◌, ◌≡◌, ◌≤◌, ◌⊎◌}
 use Rattle.canon_model.specs.Memory.{Block}
 use Rattle.canon_model.specs.Requests.{Call}
 use Rattle.canon_memory.specs.declared.event.Event.{Event}
 use Rattle.canon_memory.specs.declared.event.Event.TheVariants as event
+use Rattle.canon_memory.specs.Guest.{Seen}
 use Rattle.canon_memory.specs.Realloc.{call}
 use Rattle.canon_lowering.specs.Lowering.{Answer, Trap, events_of}
 
@@ -107,12 +108,20 @@ Grows len (_ ∷ events) last = Grows len events last
 
 -- ---- one run
 
--- an import that was asked for, with the blocks that lived then, how the blocks were answered that the host asked for meanwhile, and how
+-- the blocks that live, and whether a place that the guest is told to hold lives too
+pub record Living : Type 0 where
+  pub blocks : List Block
+  pub holds : Bool
+
+abbrev pub living : Seen → Living
+living s = record { blocks = s.live; holds = s.holds }
+
+-- an import that was asked for, with what lived then, how the blocks were answered that the host asked for meanwhile, and how
 -- the guest went on
 pub record AskTurn : Type 0 where
   pub index : ℕ
   pub words : List ℕ
-  pub live : List Block
+  pub live : Living
   pub memory : List ℕ
   pub answers : List Answer
   pub resumed_words : List ℕ
@@ -126,16 +135,16 @@ abbrev pub answers_in : List AskTurn → List Answer
 answers_in [] = []
 answers_in (t ∷ turns) = t.answers ++ answers_in turns
 
--- ---- the blocks that lived at each ask
+-- ---- what lived at each ask
 
--- a leg of a guest's way: the events up to an ask, from the ask before it on, and the blocks that lived as it asked
+-- a leg of a guest's way: the events up to an ask, from the ask before it on, and what lived as it asked
 pub record Leg : Type 0 where
   pub events : List Event
-  pub live : List Block
+  pub live : Living
 
--- From one state by the events of each leg to a next, in which the leg's blocks live; and from the last by the events that are left to
--- such an end.
-abbrev pub ByLegs : {S : Type 0} → (S → List Event → S → Type 0) → (S → List Block) → (S → List Event → Type 0) → S → List Leg → List Event → Type 0
+-- From one state by the events of each leg to a next, in which that lives which did at the leg's end; and from the last by the events that
+-- are left to such an end.
+abbrev pub ByLegs : {S : Type 0} → (S → List Event → S → Type 0) → (S → Living) → (S → List Event → Type 0) → S → List Leg → List Event → Type 0
 ByLegs moves live Ends s [] rest = Ends s rest
 ByLegs {S} moves live Ends s (leg ∷ legs) rest = (next : S) × moves s leg.events next × (live next ≡ leg.live) × ByLegs moves live Ends next legs rest
 
@@ -159,13 +168,13 @@ since_last front (t ∷ turns) = since_last (served_in t) turns
 
 -- The guest made its way by these events, by the turns and by what came after them: in legs to the asks of the turns and to one more ask
 -- after them, and by the events that are left.
-abbrev pub AsksFrom : (List Leg → List Event → Type 0) → List Event → List AskTurn → List Block → List Event → Type 0
+abbrev pub AsksFrom : (List Leg → List Event → Type 0) → List Event → List AskTurn → Living → List Event → Type 0
 AsksFrom Lives front turns late_live (event.Ask index words memory ∷ more) =
     Lives (legs_in front turns ++ record { events = since_last front turns ++ event.Ask index words memory ∷ []; live = late_live } ∷ []) more
 AsksFrom Lives front turns late_live tail = Lives (legs_in front turns) (since_last front turns ++ tail)
 
 -- the same by all events, which end in those of the turns and what came after them
-abbrev pub AsksLive : (List Leg → List Event → Type 0) → List AskTurn → List Block → List Event → List Event → Type 0
+abbrev pub AsksLive : (List Leg → List Event → Type 0) → List AskTurn → Living → List Event → List Event → Type 0
 AsksLive Lives turns late_live tail events = (front : List Event) × (events ≡ front ++ (events_in turns ++ tail)) × AsksFrom Lives front turns late_live tail
 
 -- what came after the turns: where it is one more ask, which isn't resumed, blocks were asked for with these answers, and else none

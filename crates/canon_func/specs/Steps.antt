@@ -4,7 +4,6 @@ use Rattle.std.specs.declared.alloc.Global.{Global}
 use Rattle.canon_model.specs.Homes.{host_texts}
 use Rattle.canon_model.specs.Flat.{max_params}
 use Rattle.canon_model.specs.Layout.{members_flat}
-use Rattle.canon_model.specs.Memory.{Block}
 use Rattle.canon_model.specs.Reach.{badly_spelled, misaligned, no_case, no_scalar, out_of_bounds}
 use Rattle.canon_model.specs.Shape.{Members}
 use Rattle.canon_model.specs.Text.{in_utf16, in_utf8}
@@ -43,7 +42,7 @@ use Rattle.canon_func.specs.HostAsks.{HostStopsBy, IsHostServedBy, IsUnrefused}
 use Rattle.canon_func.specs.AskValues.{asked_results}
 use Rattle.canon_func.specs.Call.{AcceptsLater, AfterTurns, AskCause, AsksByTypes, Concludes, CountsWithin, HasFault, IsPastFuel, Left, StopsStartedOf, refused_by, result_words, scope_exit, words_within}
 use Rattle.canon_func.specs.Passing.{Arguments, ReturnedValues}
-use Rattle.canon_func.specs.Runs.{AskTurn, AsksFrom, AsksLive, Each, EndsIn, Grows, IsNoPost, IsNoStart, IsOneRun, IsPrefixOfRun, IsReturn, IsTrap, Leg, MayStart, OnReturn, OnStart, answers_in, asks_in, events_in, last_len, legs_in, posts, since_last}
+use Rattle.canon_func.specs.Runs.{AskTurn, AsksFrom, AsksLive, Each, EndsIn, Grows, IsNoPost, IsNoStart, IsOneRun, IsPrefixOfRun, IsReturn, IsTrap, Leg, MayStart, OnReturn, OnStart, answers_in, asks_in, events_in, last_len, legs_in, posts, since_last, living, Living}
 use Rattle.canon_func.specs.Stores.{Callee}
 use Rattle.canon_func.specs.declared.error.Error.{Error}
 use Rattle.canon_lowering.specs.Stages.{bare}
@@ -124,7 +123,7 @@ abbrev pub SameButHost : {T G : Type 0} → Parts T G → Parts T G → Type 0
 SameButHost before after = after ≡ record before { state = after.state; guest = after.guest; memory = after.memory; ledger = after.ledger }
 
 -- an ask of a guest that left this memory, where these blocks lived, and was resumed in another
-abbrev pub ask_turn : ℕ → List ℕ → List Block → List ℕ → List Answer → List ℕ → List ℕ → AskTurn
+abbrev pub ask_turn : ℕ → List ℕ → Living → List ℕ → List Answer → List ℕ → List ℕ → AskTurn
 ask_turn index words live memory answers resumed memory2 = record { index = index; words = words; live = live; memory = memory; answers = answers; resumed_words = resumed; resumed_memory = memory2 }
 
 -- a request that trapped found memory at least so long
@@ -141,7 +140,7 @@ module _ {T : Type 0} (its : AskForm T) (answers_so : Answering T) (callee : Cal
   -- An ask of a function of the host was served, and storage has the words of the results that go in a row; or it wasn't served.
   abbrev pub HostAskedBy : Asked → ℕ → List ℕ → Moment → Moment → HostSide T → HostSide T → List ℕ → Result (Unit {0}) Error → List Answer → List Event → Type 0
   HostAskedBy asked index words before after host left storage (Ok x) answers events =
-      IsHostServedBy its answers_so callee fuel (ask_turn index words before.guest.live before.bytes answers (take (row_words (asked_results callee asked)) storage) after.bytes) host left × (events ≡ events_of answers None)
+      IsHostServedBy its answers_so callee fuel (ask_turn index words (living before.guest) before.bytes answers (take (row_words (asked_results callee asked)) storage) after.bytes) host left × (events ≡ events_of answers None)
   HostAskedBy asked index words before after host left storage (Err e) answers events =
       (trap : Option Trap) × HostStopsBy its answers_so callee fuel asked index words before after answers trap host left e × (events ≡ events_of answers trap) × TrapsLate (length before.bytes) trap × RisesAt e before after
 
@@ -154,7 +153,7 @@ module _ {T : Type 0} (gives : Giving T) (callee : Callee) (fuel : ℕ) where
   pub record Resumes (index : ℕ) (words : List ℕ) (before after : Moment) (host left : HostSide T) (answers : List Answer) : Type 0 where
     pub resumed : List ℕ
     pub memory : List ℕ
-    pub served : IsServed gives callee fuel (ask_turn index words before.guest.live before.bytes answers resumed memory) host left
+    pub served : IsServed gives callee fuel (ask_turn index words (living before.guest) before.bytes answers resumed memory) host left
     pub longer : length before.bytes ≤ length memory
     pub shorter : length memory ≤ length after.bytes
 
@@ -231,7 +230,7 @@ module _ {T : Type 0} (gives : Giving T) (callee : Callee) (limits : Limits) whe
     pub longer : len ≤ length after.bytes
     pub is : events ≡ so_far callee words before turns tail
     pub stopped : Stopped (length turns) len before after served left answer late_guest late late_trap tail
-    pub lived : AsksFrom Lives (event.Start callee.func words before.bytes ∷ []) turns late_guest.live tail
+    pub lived : AsksFrom Lives (event.Start callee.func words before.bytes ∷ []) turns (living late_guest) tail
 
   -- or memory ran out for its start
   abbrev pub MayRun : (List Leg → List Event → Type 0) → List ℕ → Moment → Moment → HostSide T → HostSide T → Result (List ℕ) Error → List Answer → List Event → Type 0
@@ -326,7 +325,7 @@ module _ {T R : Type 0} (its : ReturnedValues R) (gives : Giving T) (callee : Ca
     pub tail : List Event
     pub answers_are : answers ≡ answers_in turns ++ late
     pub starts : MayStart callee.func turns late late_trap tail events
-    pub lived : AsksLive Lives turns late_guest.live tail events
+    pub lived : AsksLive Lives turns (living late_guest) tail events
     pub asks : answer ≢ Err error.TurnsExhausted → asks_in events ≤ limits.turns
     pub grows : Grows (length before.bytes) events (length after.bytes)
     pub start : Each (OnStart (λ ws m. (ws ≡ words) × (m ≡ before.bytes))) events

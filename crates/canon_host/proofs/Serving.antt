@@ -1,26 +1,29 @@
 -- The steps of an ask, one after another.
-use Rattle.std.proofs.Common.{[], Err, List, Ok, Result, Vec, ap, false, inl, inr, length, true, refl, subst, subst₂, sym, ℕ, ◌++◌, ◌-◌, ◌∙◌, ◌≡◌, ◌≤◌}
+use Rattle.std.proofs.Common.{[], Err, List, Ok, Result, Vec, ap, arith, false, inl, inr, length, true, refl, subst, subst₂, sym, ℕ, ◌++◌, ◌-◌, ◌<◌, ◌∙◌, ◌≡◌, ◌≤◌}
 use Rattle.std.proofs.Math.Seq.{drop-append_seam, drop-length, take-append_seam}
 use Rattle.std.proofs.lemmas.List.{append-nil, length-drop, take-append-drop}
 use Rattle.std.specs.Prelude.{IfErr, IfSome, OnOk, Option, Some, drop, replicate, take}
 use Rattle.std.specs.declared.alloc.Global.{Global}
 use Rattle.canon_context.specs.Asks.{SameButHandles}
-use Rattle.canon_context.specs.Core.{Parts, SameButLedger, component_types, encoding_by, stage_of}
+use Rattle.canon_context.specs.Core.{Parts, SameButLedger, component_types, encoding_by, guest_of, stage_of}
 use Rattle.canon_context.specs.Host.{Closure, Gave, HostSteps}
 use Rattle.canon_context.specs.Lowers.{ending_of}
 use Rattle.canon_context.specs.Quiet.{have_block, have_handle}
 use Rattle.canon_context.specs.declared.fault.Fault.{Fault}
+use Rattle.canon_context.specs.declared.fault.Fault.TheVariants as fault
 use Rattle.canon_context.specs.declared.host.HostStop.{HostStop}
 use Rattle.canon_context.specs.declared.host.HostView.{HostView}
 use Rattle.canon_ledger.specs.Ledger.{LedgerState, enter}
 use Rattle.canon_lowering.specs.Attempt.{LowersMembers}
 use Rattle.canon_lowering.specs.Lowering.{Ending}
-use Rattle.canon_memory.specs.Guest.{GuestIn, Seen}
+use Rattle.canon_memory.specs.Guest.{GuestIn, HoldsPlace, IsHeld, MovesByNone, Seen}
+use Rattle.canon_memory.specs.Realloc.{block}
 use Rattle.canon_memory.specs.declared.event.Event.{Event}
 use Rattle.canon_model.specs.Homes.{host_texts}
 use Rattle.canon_model.specs.Flat.{max_results}
-use Rattle.canon_model.specs.Layout.{members_flat}
-use Rattle.canon_model.specs.Shape.{Members, member_count}
+use Rattle.canon_model.specs.Layout.{members_flat, size}
+use Rattle.canon_model.specs.Memory.{memory_of}
+use Rattle.canon_model.specs.Shape.{Members, member_count, of_places, product}
 use Rattle.canon_model.specs.Text.{Encoding}
 use Rattle.canon_model.specs.Tree.{Trees}
 use Rattle.canon_types.specs.Table.{param_members, result_members}
@@ -33,10 +36,10 @@ use Rattle.canon_val.specs.declared.val.Val.{Val}
 use Rattle.canon_val.specs.declared.val.Val.TheVariants as val
 use Rattle.canon_value_parts.proofs.Values.{have_count}
 use Rattle.canon_host.specs.Asked.{RestStays, row_words}
-use Rattle.canon_host.specs.Serves.{Answers, AnswersBy, AskValues, Calling, CallsFunction, CallsBlank, ConcludesAsk, ConcludesBy, EndsAsk, AnswersInRow, LiftsAsked, LoweringRelation, LowersGiven, Serves, ServesBy, ServesEntered, ServesEnteredBy, Steps, Values, blank, value_steps, params_and_results}
+use Rattle.canon_host.specs.Serves.{Answers, AnswersBy, AskValues, Calling, CallsFunction, CallsBlank, ConcludesAsk, ConcludesBy, EndingRelation, Ends, EndsAsk, AnswersInRow, IsResultPlace, WasToldPlace, WasNotTold, LiftsAsked, LoweringRelation, LowersGiven, Serves, ServesBy, ServesEntered, ServesEnteredBy, Steps, TellsPlace, Values, left_from, blank, value_steps, params_and_results}
 use Rattle.canon_host.specs.declared.asked.Asked.{Asked}
 use Rattle.canon_host.specs.declared.error.HostError.{HostError}
-use Rattle.canon_lowering.specs.Stages.{Stage}
+use Rattle.canon_lowering.specs.Stages.{GoesBy, Stage}
 use Rattle.canon_host.specs.declared.error.HostError.TheVariants as error
 
 -- ---- the call
@@ -66,6 +69,11 @@ module _ {F T G : Type 0} (g : Closure F (HostView T) Val (Result (Unit {0}) Hos
         steps = steps;
         same = same;
       }
+
+-- the place, once the guest was told of it
+abbrev pub with_place : ℕ → Result (Unit {0}) Fault → Result ℕ Fault
+with_place at (Ok x) = Ok at
+with_place at (Err e) = Err e
 
 -- ---- results that are lowered
 
@@ -111,17 +119,39 @@ rest_stays results words ws n is count =
     ap (λ k. drop k (ws ++ drop n words)) (sym is ∙ sym count) ∙ (drop-append_seam ws (drop n words) ∙ ap (λ k. drop k words) is)
 
 -- the ask ends
-module _ {T G R : Type 0} (L : LoweringRelation T G R) (asked : Asked) where
-  pub concluded : (before left after : Parts T G) (at : ℕ) (results : R) (words words2 : List ℕ) (r : Result (Unit {0}) Fault) → EndsAsk asked before words (Ok at) left → L left at results r after words2
-      → RestStays (result_members (component_types left) asked.func) words words2 → ConcludesBy L asked before results words r after words2
-  concluded before left after at results words words2 (Ok x) (place, (ended, ends, is)) h rest =
-      (at, ended, place, ends, subst (λ k. L k at results (Ok tt) after words2) is h, subst (λ (k : Parts T G). RestStays (result_members (component_types k) asked.func) words words2) is rest)
-  concluded before left after at results words words2 (Err e) (place, (ended, ends, is)) h rest =
-      inr (at, place, inr (ended, ends, subst (λ k. L k at results (Err e) after words2) is h, subst (λ (k : Parts T G). RestStays (result_members (component_types k) asked.func) words words2) is rest))
+module _ {T G R : Type 0} (E : EndingRelation T G) (L : LoweringRelation T G R) (asked : Asked) where
+  pub concluded : (before left after : Parts T G) (at : ℕ) (results : R) (words words2 : List ℕ) (r : Result (Unit {0}) Fault) → E before words (Ok at) left → L left at results r after words2
+      → RestStays (result_members (component_types left) asked.func) words words2 → ConcludesBy E L asked before results words r after words2
+  concluded before left after at results words words2 (Ok x) ends h rest = record { at = at; left = left; ends = ends; lowers = h; rest = rest }
+  concluded before left after at results words words2 (Err e) ends h rest = inr (record { at = at; left = left; ends = ends; lowers = h; rest = rest })
 
-  pub not_ended : (before after : Parts T G) (results : R) (words : List ℕ) (e : Fault) → EndsAsk asked before words (Err e) after → ConcludesBy L asked before results words (Err e) after words
-  not_ended before after results words e (inl (bad, same)) = inl (bad, same, refl)
-  not_ended before after results words e (inr (at, place, (x, is, ends))) = inr (at, place, inl (x, is, ends, refl))
+  pub not_ended : (before after : Parts T G) (results : R) (words : List ℕ) (e : Fault) → E before words (Err e) after → ConcludesBy E L asked before results words (Err e) after words
+  not_ended before after results words e ends = inl (ends, refl)
+
+-- it was told of the place, or memory was wanting for that
+module _ {T G : Type 0} (seen : G → Seen) (moves : GuestIn G → List Event → GuestIn G → Type 0) (goes_on : (g h k : GuestIn G) (xs ys : List Event) → moves g xs h → moves h ys k → moves g (xs ++ ys) k) (asked : Asked) (before after : Parts T G) (at n : ℕ)
+    (far : max_results < members_flat (result_members (component_types before) asked.func)) (is : n ≡ size false (product of_places (result_members (component_types before) asked.func))) (same : after ≡ record before { guest = after.guest }) where
+  told_went : MovesByNone moves before.guest after.guest → GoesBy (stage_of seen moves before) (stage_of seen moves after) []
+  told_went none more k on =
+      goes_on (guest_of before) (guest_of (record before { guest = after.guest })) k [] more (none (memory_of before.memory before.wide))
+      (subst (λ (x : Parts T G). moves (guest_of x) more k) same on)
+
+  pub told_place : (r : Result (Unit {0}) Fault) → HoldsPlace (seen before.guest) (seen after.guest) (block at n) r → OnOk r (MovesByNone moves before.guest after.guest) → IfErr r (λ e. e ≡ fault.OutOfMemory) → TellsPlace seen moves asked before at r after
+  told_place (Ok x) holds none short = record {
+    near = λ near. absurd (omega (arith, near, far));
+    far = λ _. subst (λ m. IsHeld (seen before.guest) (seen after.guest) (block at m)) is holds;
+    went = told_went none;
+    same = same;
+  }
+  told_place (Err e) holds none short = (short, far, record { unheld = holds; same = same })
+
+-- the guest was told, or memory was wanting for that
+module _ {T G : Type 0} (seen : G → Seen) (moves : GuestIn G → List Event → GuestIn G → Type 0) (asked : Asked) where
+  pub ended_told : (before ended left after : Parts T G) (words : List ℕ) (at : ℕ) (r : Result (Unit {0}) Fault) → IsResultPlace (component_types before) asked before.memory words at → Ends before (Ok tt) ended → left ≡ left_from ended
+      → TellsPlace seen moves asked left at r after → EndsAsk seen moves asked before words (with_place at r) after
+  ended_told before ended left after words at (Ok x) place ends is told = (place, (ended, ends, subst (λ k. WasToldPlace seen moves asked k at after) is told))
+  ended_told before ended left after words at (Err e) place ends is (short, far, untold) =
+      inr (at, place, inr (ended, ends, short, subst (λ (k : Parts T G). max_results < members_flat (result_members (component_types k) asked.func)) is far, subst (λ k. WasNotTold seen moves asked k after) is untold))
 
 -- a core whose ledger alone differs
 pub with_ledger : {T G : Type 0} (before after : Parts T G) (l : LedgerState) → after ≡ record before { ledger = after.ledger } → after.ledger ≡ l → after ≡ record before { ledger = l }
@@ -194,13 +224,18 @@ found_at Is f f2 asked ty options made after words2 words3 o ef found ety eopt h
 
 -- ---- the data of the host
 
+ended_state : {T G : Type 0} (seen : G → Seen) (moves : GuestIn G → List Event → GuestIn G → Type 0) (asked : Asked) (before after : Parts T G) (words : List ℕ) (r : Result ℕ Fault) → EndsAsk seen moves asked before words r after → after.state ≡ before.state
+ended_state {T} {G} seen moves asked before after words (Ok at) (place, (ended, ends, told)) = ap (λ (k : Parts T G). k.state) told.same ∙ ap (λ (k : Parts T G). k.state) ends.1
+ended_state {T} {G} seen moves asked before after words (Err e) (inl (none, same)) = ap (λ (k : Parts T G). k.state) same
+ended_state {T} {G} seen moves asked before after words (Err e) (inr (at, place, inl (x, is, ends))) = ap (λ (k : Parts T G). k.state) ends.1
+ended_state {T} {G} seen moves asked before after words (Err e) (inr (at, place, inr (ended, ends, is, far, untold))) = ap (λ (k : Parts T G). k.state) untold.same ∙ ap (λ (k : Parts T G). k.state) ends.1
+
 -- nothing after the call changes them
 pub concluded_state : {T G : Type 0} (seen : G → Seen) (moves : GuestIn G → List Event → GuestIn G → Type 0) (asked : Asked) (before after : Parts T G) (results : List Val) (words words2 : List ℕ) (r : Result (Unit {0}) Fault)
     → ConcludesAsk seen moves asked before results words r after words2 → after.state ≡ before.state
-concluded_state {T} {G} seen moves asked before after results words words2 (Ok x) h = ap (λ (k : Parts T G). k.state) h.4.same ∙ ap (λ (k : Parts T G). k.state) h.3.1
-concluded_state {T} {G} seen moves asked before after results words words2 (Err e) (inl (none, same, words_same)) = ap (λ (k : Parts T G). k.state) same
-concluded_state {T} {G} seen moves asked before after results words words2 (Err e) (inr (at, place, inl (x, is, ends, words_same))) = ap (λ (k : Parts T G). k.state) ends.1
-concluded_state {T} {G} seen moves asked before after results words words2 (Err e) (inr (at, place, inr (ended, ends, lowered, rest))) = ap (λ (k : Parts T G). k.state) lowered.same ∙ ap (λ (k : Parts T G). k.state) ends.1
+concluded_state {T} {G} seen moves asked before after results words words2 (Ok x) h = ap (λ (k : Parts T G). k.state) h.lowers.same ∙ ended_state seen moves asked before h.left words (Ok h.at) h.ends
+concluded_state {T} {G} seen moves asked before after results words words2 (Err e) (inl (ends, words_same)) = ended_state seen moves asked before after words (Err e) ends
+concluded_state {T} {G} seen moves asked before after results words words2 (Err e) (inr h) = ap (λ (k : Parts T G). k.state) h.lowers.same ∙ ended_state seen moves asked before h.left words (Ok h.at) h.ends
 
 -- what is served by some steps is served by steps that do the same, or more that is so
 module _ {T G A P R S : Type 0} (how : Steps T G A P R S) (Declines : Parts T G → HostError → Type 0) (Lifts : Parts T G → List ℕ → Result A Fault → Parts T G → Type 0) (Gives : Parts T G → P → Parts T G → R → Type 0)

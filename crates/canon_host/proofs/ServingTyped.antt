@@ -7,7 +7,7 @@ use Rattle.canon_context.specs.declared.fault.Fault.{Fault}
 use Rattle.canon_context.specs.declared.host.HostStop.{HostStop}
 use Rattle.canon_context.specs.declared.host.HostView.{HostView}
 use Rattle.canon_host.proofs.Serving.{entered_by, served_by}
-use Rattle.canon_host.specs.Serves.{AnswersBy, ConcludesBy, ServesEnteredBy, stopped}
+use Rattle.canon_host.specs.Serves.{AnswersBy, ConcludesBy, EndsAsk, ServesEnteredBy, stopped}
 use Rattle.canon_host.specs.ServesTyped.{FitRustTypes, CallsTyped, FitsFunc, LiftsTyped, LowersTyped, ServesTyped, Untold, typed_steps}
 use Rattle.canon_context.specs.Host.{StaticClosure}
 use Rattle.canon_host.specs.declared.asked.Asked.{Asked}
@@ -41,11 +41,11 @@ module _ {F T G P R : Type 0} (g : StaticClosure F (HostView T) P (Result R Host
     (seen : G → Seen) (moves : GuestIn G → List Event → GuestIn G → Type 0) (asked : Asked) where
   -- the call, and what follows it
   module _ (before after : Parts T G) (params : P) (words words2 : List ℕ) where
-    pub answered_ok : (called : Parts T G) (results : R) → CallsTyped g f before params (Ok results) called → ConcludesBy (LowersTyped seen moves walks gives asked) asked called results words (Ok tt) after words2
+    pub answered_ok : (called : Parts T G) (results : R) → CallsTyped g f before params (Ok results) called → ConcludesBy (EndsAsk seen moves asked) (LowersTyped seen moves walks gives asked) asked called results words (Ok tt) after words2
         → Untold (λ told. AnswersBy (typed_steps g f reading walks gives seen moves asked) asked before params words told after words2) (Ok tt)
     answered_ok called results calls ends = (record { params = params; results = results }, (called, refl, calls, ends))
 
-    pub answered_err : (called : Parts T G) (results : R) (x : Fault) → CallsTyped g f before params (Ok results) called → ConcludesBy (LowersTyped seen moves walks gives asked) asked called results words (Err x) after words2
+    pub answered_err : (called : Parts T G) (results : R) (x : Fault) → CallsTyped g f before params (Ok results) called → ConcludesBy (EndsAsk seen moves asked) (LowersTyped seen moves walks gives asked) asked called results words (Err x) after words2
         → AnswersBy (typed_steps g f reading walks gives seen moves asked) asked before params words (Err (error.Fault x)) after words2
     answered_err called results x calls ends = inr (inr (results, called, x, refl, calls, ends))
 

@@ -1,5 +1,5 @@
 -- What an ask that a function over Rust types serves is answered with.
-use Rattle.std.proofs.Common.{List, Ok, Option, Result, ap, arith, inl, inr, refl, subst, sym, true, ⊎_elim, ℕ, ◌<◌, ◌∙◌, ◌∷◌, ◌≡◌, ◌≤◌, []}
+use Rattle.std.proofs.Common.{List, None, Ok, Option, Result, ap, arith, inl, inr, refl, subst, subst₂, sym, true, ⊎_elim, ℕ, IsTrue, ◌++◌, ◌<◌, ◌∙◌, ◌∷◌, ◌≡◌, ◌≤◌, ◌⊎◌, []}
 use Rattle.std.specs.Prelude.{false, take}
 use Rattle.std.proofs.lemmas.Bool.{cases_lt}
 use Rattle.canon_args.specs.Params.{InParts}
@@ -10,7 +10,7 @@ use Rattle.canon_context.specs.Host.{StaticClosure}
 use Rattle.canon_context.specs.declared.host.HostStop.{HostStop}
 use Rattle.canon_context.specs.declared.host.HostView.{HostView}
 use Rattle.canon_host.proofs.TypedSteps.{concluded_through, was_called}
-use Rattle.canon_host.specs.Serves.{Ends, IsResultPlace}
+use Rattle.canon_host.specs.Serves.{Ends, IsResultPlace, WasToldPlace, left_from}
 use Rattle.canon_host.specs.ServesTyped.{CallsTyped, LiftsTyped, LowersTyped}
 use Rattle.canon_host.specs.TypedAsks.{AnswersAreGiven, AskAnswered, AskThrough, ServedIsAnswered, WasCalled, given_parts, given_steps}
 use Rattle.canon_host.specs.declared.asked.Asked.{Asked}
@@ -23,13 +23,14 @@ use Rattle.canon_lower_parts.specs.Lowers.{EndsBy}
 use Rattle.canon_lowering.specs.Attempt.{AreHeld, LowersMembers, handle_numbers, value_place}
 use Rattle.canon_lowering.specs.Lowering.{AllLawful, Ending, Requested, Trap, done, events_of, marks_of}
 use Rattle.canon_lowering.specs.Storing.{narrow}
-use Rattle.canon_memory.specs.Guest.{Goes, GuestIn, Seen}
+use Rattle.canon_memory.specs.Guest.{Goes, GuestIn, IsHeld, Mark, Moment, Seen, moment}
 use Rattle.canon_memory.specs.declared.event.Event.{Event}
 use Rattle.canon_model.proofs.Frames.{blocks_are_read}
 use Rattle.canon_model.specs.Homes.{host_texts}
 use Rattle.canon_model.specs.Flat.{RepFlatAt, max_results}
 use Rattle.canon_model.specs.Layout.{members_flat}
 use Rattle.canon_model.specs.Leaves.{leaves, members_leaves}
+use Rattle.canon_model.specs.Memory.{Block}
 use Rattle.canon_model.specs.Rep.{RepMem}
 use Rattle.canon_model.specs.Requests.{host_asks, members_requests}
 use Rattle.canon_model.specs.Shape.{Members, Shape, of_places, product}
@@ -45,17 +46,28 @@ done_by : (gives : List (List Part)) (ending : Ending) → EndsBy {T = Unit {0}}
 done_by gives ending (inl is) = is
 done_by gives ending (inr (is, some, refused)) = absurd (cc)
 
+-- what was seen before a place was held stays, but for what lives
+pub held_goes : (s t : Seen) (bytes : List ℕ) (after : Moment) (marks : List Mark) (events : List Event) {place : Block} → IsHeld s t place → Goes (moment t bytes) after marks events → Goes (moment s bytes) after marks events
+held_goes s t bytes after marks events held goes =
+    let from = subst (λ (x : Seen). Goes (moment x bytes) after marks events) held.same goes in
+    record { no_shorter = from.no_shorter; traps_later = from.traps_later; shortages_later = from.shortages_later; marks = from.marks; events = from.events }
+
 module _ {F T G P R : Type 0} (g : StaticClosure F (HostView T) P (Result R HostStop)) (f : F) (reading : Reading P) (walks : R → Tree → Type 0) (gives : Instance → Shape → R → List (List Part))
     (seen : G → Seen) (moves : GuestIn G → List Event → GuestIn G → Type 0) where
   module _ (asked : Asked) (before after : Parts T G) (words words2 : List ℕ) (params : P) (results : R) (lifted called : Parts T G) (was : WasCalled g f reading walks gives seen moves asked before words params (Ok results) lifted called)
       (last : Through called.ledger (given_steps (given_parts gives asked before results) called.ledger) after.ledger) (called_is : called ≡ record before { state = called.state; ledger = called.ledger })
       (at : ℕ) (place : IsResultPlace (component_types before) asked before.memory words at) (ended : LedgerState) (left : ended ≡ (do_step (ExitScope (top_scope called.ledger.handles)) called.ledger).after)
-      (h : LowersTyped seen moves walks gives asked (record before { state = called.state; ledger = leave ended }) at results (Ok tt) after words2) where
+      (guest : G) (told : WasToldPlace seen moves asked (record before { state = called.state; ledger = leave ended }) at (record before { guest = guest; state = called.state; ledger = leave ended }))
+      (h : LowersTyped seen moves walks gives asked (record before { guest = guest; state = called.state; ledger = leave ended }) at results (Ok tt) after words2) where
     abbrev through : AskThrough g f reading walks gives seen moves asked before after words
     through = record { params = params; results = results; lifted = lifted; called = called; was = was; last = last }
 
     same_but_handles : SameButHandles called after
     same_but_handles = h.same ∙ ap (λ (k : Parts T G). record k { guest = after.guest; memory = after.memory; ledger = after.ledger }) (sym called_is)
+
+    -- the core as the results were lowered
+    abbrev from : Parts T G
+    from = record before { guest = guest }
 
     abbrev ms : Members
     ms = result_members (component_types before) asked.func
@@ -77,7 +89,8 @@ module _ {F T G P R : Type 0} (g : StaticClosure F (HostView T) P (Result R Host
     -- ---- in a row
 
     in_row : members_flat ms ≤ max_results → LowersMembers false (stage_of seen moves before) (stage_of seen moves after) (host_texts enc) ms (take (members_flat ms) words2) 0 (InParts (walks results)) h.handles done
-    in_row few = subst (λ e. LowersMembers false (stage_of seen moves before) (stage_of seen moves after) (host_texts enc) ms (take (members_flat ms) words2) 0 (InParts (walks results)) h.handles e) is_done (h.lowered.near few)
+    in_row few = subst (λ e. LowersMembers false (stage_of seen moves before) (stage_of seen moves after) (host_texts enc) ms (take (members_flat ms) words2) 0 (InParts (walks results)) h.handles e) is_done
+        (subst (λ (u : G). LowersMembers false (stage_of seen moves (record before { guest = u })) (stage_of seen moves after) (host_texts enc) ms (take (members_flat ms) words2) 0 (InParts (walks results)) h.handles h.ending) (told.near few) (h.lowered.near few))
 
     row_shown : (few : members_flat ms ≤ max_results) → AllLawful (in_row few).answers → RepFlatAt true enc (narrow after.memory) (take (members_flat ms) words2) 0 s (parts (in_row few).shown.it)
     row_shown few lawful = blocks_are_read.flat (in_row few).fresh true enc (narrow after.memory) (take (members_flat ms) words2) 0 s (parts (in_row few).shown.it)
@@ -103,13 +116,24 @@ module _ {F T G P R : Type 0} (g : StaticClosure F (HostView T) P (Result R Host
 
     -- ---- by a pointer
 
-    in_area : max_results < members_flat ms → StoresTuple (stage_of seen moves before) (stage_of seen moves after) enc ms at (InParts (walks results)) h.handles done
-    in_area many = subst (λ e. StoresTuple (stage_of seen moves before) (stage_of seen moves after) enc ms at (InParts (walks results)) h.handles e) is_done (h.lowered.far many)
+    in_area : max_results < members_flat ms → StoresTuple (stage_of seen moves from) (stage_of seen moves after) enc ms at (InParts (walks results)) h.handles done
+    in_area many = subst (λ e. StoresTuple (stage_of seen moves from) (stage_of seen moves after) enc ms at (InParts (walks results)) h.handles e) is_done (h.lowered.far many)
 
-    area_shown : (many : max_results < members_flat ms) → AllLawful (in_area many).answers → AreHeld (stage_of seen moves before) (in_area many).answers (value_place false s at ∷ [])
+    -- the place lives, or no answer came near it
+    area_held : (many : max_results < members_flat ms) → IsTrue (seen before.guest).holds ⊎ AreHeld (stage_of seen moves before) (in_area many).answers (value_place false s at ∷ [])
+        → AreHeld (stage_of seen moves from) (in_area many).answers (value_place false s at ∷ [])
+    area_held many (inl holds) = inl ((told.far many).lives holds)
+    area_held many (inr (inl lives)) = inl (λ i p. (told.far many).grows i (lives i p))
+    area_held many (inr (inr tidy)) = inr tidy
+
+    area_shown : (many : max_results < members_flat ms) → AllLawful (in_area many).answers → AreHeld (stage_of seen moves from) (in_area many).answers (value_place false s at ∷ [])
         → RepMem true enc (narrow after.memory) at s (parts (in_area many).shown.it)
     area_shown many lawful held = blocks_are_read.memory (value_place false s at ∷ (in_area many).fresh) true enc (narrow after.memory) at s (parts (in_area many).shown.it)
         ((omega (arith, (place many).2, (in_area many).lowering.goes.no_shorter), λ i l u. inl (l, u)), ((in_area many).shown.it, refl, (in_area many).shown.rep lawful held))
+
+    area_goes : (many : max_results < members_flat ms) (t : Option Trap) → Goes (moment_of seen from) (moment_of seen after) (marks_of (in_area many).answers) (events_of (in_area many).answers t)
+        → Goes (moment_of seen before) (moment_of seen after) (marks_of (in_area many).answers) (events_of (in_area many).answers t)
+    area_goes many t goes = held_goes (seen before.guest) (seen guest) before.memory (moment_of seen after) (marks_of (in_area many).answers) (events_of (in_area many).answers t) (told.far many) goes
 
     area_answered : max_results < members_flat ms → AskAnswered g f reading walks gives seen moves asked before after words words2
     area_answered many = record {
@@ -120,13 +144,14 @@ module _ {F T G P R : Type 0} (g : StaticClosure F (HostView T) P (Result R Host
       trees = (in_area many).shown.it;
       walked = (in_area many).shown.is;
       answers = (in_area many).answers;
-      goes = subst (λ (t : Option Trap). Goes (moment_of seen before) (moment_of seen after) (marks_of (in_area many).answers) (events_of (in_area many).answers t)) (in_area many).lowering.cause (in_area many).lowering.goes;
-      went = subst (λ (t : Option Trap). GoesBy (stage_of seen moves before) (stage_of seen moves after) (events_of (in_area many).answers t)) (in_area many).lowering.cause (in_area many).lowering.moves;
+      goes = area_goes many None (subst (λ (t : Option Trap). Goes (moment_of seen from) (moment_of seen after) (marks_of (in_area many).answers) (events_of (in_area many).answers t)) (in_area many).lowering.cause (in_area many).lowering.goes);
+      went = λ more k on. told.went (events_of (in_area many).answers None ++ more) k
+          (subst (λ (t : Option Trap). GoesBy (stage_of seen moves from) (stage_of seen moves after) (events_of (in_area many).answers t)) (in_area many).lowering.cause (in_area many).lowering.moves more k on);
       requested = subst (λ (t : Option Trap). Requested (members_requests false (host_asks enc) ms (in_area many).shown.it) done (in_area many).answers t) (in_area many).lowering.cause
           ((in_area many).requested (in_area many).shown.it (in_area many).shown.is);
       given = given_so (handle_numbers (members_leaves ms (in_area many).shown.it)) (in_area many).shown.handles;
       near = λ few. absurd (omega (arith, few, many));
-      far = λ n. area_shown many;
+      far = λ n lawful held. area_shown many lawful (area_held many held);
     }
 
     pub lowered_answered : AskAnswered g f reading walks gives seen moves asked before after words words2
@@ -143,13 +168,18 @@ module _ {F T G P R : Type 0} (g : StaticClosure F (HostView T) P (Result R Host
   called_core asked before lifted called words params results lifts calls = calls.same ∙ ap (λ (x : Parts T G). record x { state = called.state; ledger = called.ledger }) lifts.1
 
   pub served_answered : AreTaken reading → ServedIsAnswered g f reading walks gives seen moves
-  served_answered law asked before after words words2 (told, (params, lifted, lifts, (called, same, calls, (at, ended, place, e, lowers, rest)))) =
+  served_answered law asked before after words words2 (told, (params, lifted, lifts, (called, same, calls, ends))) =
+      let (place, (ended, e, is_told)) = ends.ends in
+      let at = ends.at in
+      let guest = ends.left.guest in
+      let core : ended ≡ record before { state = called.state; ledger = ended.ledger } = ended_core asked before lifted called ended words params told.results lifts calls e in
+      let left_is : ends.left ≡ record before { guest = guest; state = called.state; ledger = leave ended.ledger } = is_told.same ∙ ap (λ (x : Parts T G). record x { guest = guest; ledger = leave ended.ledger }) core in
       lowered_answered asked before after words words2 params told.results lifted called
       (was_called g f reading walks gives seen moves law asked before after words words2 params (Ok told.results) lifted called lifts calls)
-      (concluded_through g f reading walks gives seen moves law asked before after words words2 params told.results lifted called lifts calls (at, ended, place, e, lowers, rest)) (called_core asked before lifted called words params told.results lifts calls) at
-      (subst (λ (x : Parts T G). IsResultPlace (component_types x) asked x.memory words at) (called_core asked before lifted called words params told.results lifts calls) place) ended.ledger e.0.1
-      (subst (λ (x : Parts T G). LowersTyped seen moves walks gives asked (record x { ledger = leave ended.ledger }) at told.results (Ok tt) after words2)
-      (ended_core asked before lifted called ended words params told.results lifts calls e) lowers)
+      (concluded_through g f reading walks gives seen moves law asked before after words words2 params told.results lifted called lifts calls ends) (called_core asked before lifted called words params told.results lifts calls) at
+      (subst (λ (x : Parts T G). IsResultPlace (component_types x) asked x.memory words at) (called_core asked before lifted called words params told.results lifts calls) place) ended.ledger e.0.1 guest
+      (subst₂ (λ (x y : Parts T G). WasToldPlace seen moves asked x at y) (ap (λ (x : Parts T G). left_from x) core) left_is is_told)
+      (subst (λ (x : Parts T G). LowersTyped seen moves walks gives asked x at told.results (Ok tt) after words2) left_is ends.lowers)
 
 -- ---- the ways of their handles
 

@@ -8,7 +8,7 @@ use Rattle.canon_context.specs.declared.fault.Fault.{Fault}
 use Rattle.canon_context.specs.declared.host.HostStop.{HostStop}
 use Rattle.canon_context.specs.declared.host.HostView.{HostView}
 use Rattle.canon_ledger.proofs.LeavingLemmas.{ended_leaves}
-use Rattle.canon_host.specs.Serves.{ConcludesBy, Ends}
+use Rattle.canon_host.specs.Serves.{ConcludesBy, Ends, EndsAsk}
 use Rattle.canon_host.specs.ServesTyped.{CallsTyped, LiftsTyped, LowersTyped}
 use Rattle.canon_host.specs.TypedAsks.{RefusedIsPartway, ServedIsThrough, WasCalled, asked_parts, asked_steps, given_parts, given_steps, param_words}
 use Rattle.canon_host.specs.declared.asked.Asked.{Asked}
@@ -18,7 +18,7 @@ use Rattle.canon_resources.specs.Steps.{leaves_steps}
 use Rattle.canon_ledger.proofs.LedgerLemmas.{compose, compose_parts}
 use Rattle.canon_ledger.specs.Books.{DidSurely}
 use Rattle.canon_ledger.specs.Handles.{top_scope}
-use Rattle.canon_ledger.specs.Ledger.{Done, ExitScope, Leave, LedgerState, Partway, Through, do_step, enter, leave, leaving, numbered, validate_scope_exit}
+use Rattle.canon_ledger.specs.Ledger.{Done, ExitScope, Leave, LedgerState, LedgerStep, Partway, Through, do_step, enter, leave, leaving, numbered, validate_scope_exit}
 use Rattle.canon_ledger.specs.declared.fault.ResourceFault.{ResourceFault}
 use Rattle.canon_reading.specs.Reading.{AreTaken, Reading, setting_in}
 use Rattle.canon_reading.specs.Spots.{flat_in}
@@ -31,6 +31,11 @@ use Rattle.canon_model.specs.Tree.{Tree}
 use Rattle.canon_types.specs.Instance.{Instance}
 use Rattle.canon_types.specs.Table.{param_members, result_members}
 use Rattle.canon_context.specs.Faults.{stop_of}
+
+-- up to the first of some steps
+pub partway_none : (l n : LedgerState) (steps : List LedgerStep) → n ≡ l → Partway l steps n
+partway_none l n [] is = is
+partway_none l n (s ∷ steps) is = inl is
 
 -- ---- the end of the scope
 
@@ -58,6 +63,14 @@ module _ (l ended : LedgerState) (did : DidSurely (validate_scope_exit (top_scop
     0,
     accepted,
     subst (λ k. Partway k (Leave ∷ leaves_steps (leave k) handles) n) ended_is (compose_parts ended (leave ended) n (Leave ∷ []) (leaves_steps (leave ended) handles) left (leaves_partway why (leave ended) n handles stops)),
+  ))
+
+  -- none of them is
+  pub untold_partway : (n : LedgerState) (handles : List (List Part)) → n ≡ leave ended → Partway l (given_steps handles l) n
+  untold_partway n handles is = inr (inr (
+    0,
+    accepted,
+    subst (λ k. Partway k (Leave ∷ leaves_steps (leave k) handles) n) ended_is (compose_parts ended (leave ended) n (Leave ∷ []) (leaves_steps (leave ended) handles) left (partway_none (leave ended) n (leaves_steps (leave ended) handles) is)),
   ))
 
 -- it is refused
@@ -98,18 +111,24 @@ module _ {F T G P R : Type 0} (g : StaticClosure F (HostView T) P (Result R Host
       abbrev Handles : Component → List (List Part)
       Handles c = gives c.types (product of_places (result_members c.types.types asked.func)) results
 
-      pub concluded_through : ConcludesBy (LowersTyped seen moves walks gives asked) asked called results words (Ok tt) after words2 → Through called.ledger (given_steps (given_parts gives asked before results) called.ledger) after.ledger
-      concluded_through (at, ended, place, e, lowers, rest) =
-          given_through called.ledger ended.ledger e.0 after.ledger (given_parts gives asked before results) lowers.handles
-          (subst (λ c. LeavesTake (leave ended.ledger) (Handles c) lowers.handles after.ledger) (same_component ended e) lowers.passed)
+      pub concluded_through : ConcludesBy (EndsAsk seen moves asked) (LowersTyped seen moves walks gives asked) asked called results words (Ok tt) after words2 → Through called.ledger (given_steps (given_parts gives asked before results) called.ledger) after.ledger
+      concluded_through h =
+          let (place, (ended, e, told)) = h.ends in
+          let passed = subst (λ (k : Parts T G). LeavesTake k.ledger (Handles k.component) h.lowers.handles after.ledger) told.same h.lowers.passed in
+          given_through called.ledger ended.ledger e.0 after.ledger (given_parts gives asked before results) h.lowers.handles
+          (subst (λ c. LeavesTake (leave ended.ledger) (Handles c) h.lowers.handles after.ledger) (same_component ended e) passed)
 
-      concluded_partway : (x : Fault) → ConcludesBy (LowersTyped seen moves walks gives asked) asked called results words (Err x) after words2
+      concluded_partway : (x : Fault) → ConcludesBy (EndsAsk seen moves asked) (LowersTyped seen moves walks gives asked) asked called results words (Err x) after words2
           → Partway called.ledger (given_steps (given_parts gives asked before results) called.ledger) after.ledger
-      concluded_partway x (inl (none, same, words_same)) = inl (ap (λ (y : Parts T G). y.ledger) same)
-      concluded_partway x (inr (at, place, inl (why, is, e, words_same))) = unended called.ledger after.ledger why (given_parts gives asked before results) e.0
-      concluded_partway x (inr (at, place, inr (ended, e, lowers, rest))) =
+      concluded_partway x (inl (inl (none, same), words_same)) = inl (ap (λ (y : Parts T G). y.ledger) same)
+      concluded_partway x (inl (inr (at, place, inl (why, is, e)), words_same)) = unended called.ledger after.ledger why (given_parts gives asked before results) e.0
+      concluded_partway x (inl (inr (at, place, inr (ended, e, is, far, untold)), words_same)) =
+          untold_partway called.ledger ended.ledger e.0 after.ledger (given_parts gives asked before results) (ap (λ (y : Parts T G). y.ledger) untold.same)
+      concluded_partway x (inr h) =
+          let (place, (ended, e, told)) = h.ends in
+          let passed = subst (λ (k : Parts T G). LeavesStop (stop_of x) k.ledger (Handles k.component) after.ledger) told.same h.lowers.passed.0 in
           given_partway called.ledger ended.ledger e.0 after.ledger (given_parts gives asked before results) (stop_of x)
-          (subst (λ c. LeavesStop (stop_of x) (leave ended.ledger) (Handles c) after.ledger) (same_component ended e) lowers.passed.0)
+          (subst (λ c. LeavesStop (stop_of x) (leave ended.ledger) (Handles c) after.ledger) (same_component ended e) passed)
 
   pub served_through : ServedIsThrough g f reading walks gives seen moves
   served_through asked before after words words2 (told, (params, lifted, lifts, (called, same, calls, ends))) = record {

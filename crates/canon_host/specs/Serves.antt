@@ -1,6 +1,6 @@
 -- How one ask is served, step by step: from one core to another, with the words before and after. A refusal leaves what the steps before
 -- it left.
-use Rattle.std.specs.Prelude.{◌++◌, ◌<◌, ◌≡◌, ◌≤◌, ◌⊎◌, Err, IfErr, List, Ok, OnOk, Result, Vec, false, replicate, take, ℕ, length}
+use Rattle.std.specs.Prelude.{[], ◌++◌, ◌<◌, ◌≡◌, ◌≤◌, ◌⊎◌, Err, IfErr, List, Ok, OnOk, Result, Vec, false, replicate, take, ℕ, length}
 use Rattle.std.specs.declared.alloc.Global.{Global}
 use Rattle.canon_context.specs.Asks.{SameButHandles}
 use Rattle.canon_context.specs.Core.{Parts, SameButLedger, component_types, encoding_by, stage_of}
@@ -17,11 +17,14 @@ use Rattle.canon_ledger.specs.Books.{DidSurely}
 use Rattle.canon_ledger.specs.Handles.{top_scope}
 use Rattle.canon_ledger.specs.Ledger.{enter, leave, validate_scope_exit}
 use Rattle.canon_ledger.specs.declared.fault.ResourceFault.{ResourceFault}
-use Rattle.canon_memory.specs.Guest.{GuestIn, Seen}
+use Rattle.canon_lowering.specs.Attempt.{value_place}
+use Rattle.canon_lowering.specs.Stages.{GoesBy}
+use Rattle.canon_memory.specs.Guest.{GuestIn, IsHeld, IsUnheld, Seen}
 use Rattle.canon_memory.specs.declared.event.Event.{Event}
 use Rattle.canon_model.specs.Flat.{max_results}
 use Rattle.canon_model.specs.Layout.{members_flat}
-use Rattle.canon_model.specs.Shape.{member_count}
+use Rattle.canon_model.specs.Memory.{Block}
+use Rattle.canon_model.specs.Shape.{member_count, of_places, product}
 use Rattle.canon_types.specs.Table.{TypeTable, param_members, result_members}
 use Rattle.canon_types.specs.declared.types.TypeFunc.{TypeFunc}
 use Rattle.canon_value_parts.specs.Args.{IsArea, IsNoArea, LowersResults, args_words}
@@ -49,31 +52,62 @@ IsNoPlace types asked bytes words e = (max_results < members_flat (result_member
 abbrev pub Ends : {T G : Type 0} → Parts T G → Result (Unit {0}) ResourceFault → Parts T G → Type 0
 Ends before result after = DidSurely (validate_scope_exit (top_scope before.ledger.handles) before.ledger) result after.ledger × SameButLedger before after
 
--- The pointer is tested, and the scope ends and is left. It is told where the results are to be stored.
-module _ {T G : Type 0} (asked : Asked) where
+-- and is left
+abbrev pub left_from : {T G : Type 0} → Parts T G → Parts T G
+left_from ended = record ended { ledger = leave ended.ledger }
+
+-- the bytes at which results are to be stored that don't go in a row
+abbrev pub results_place : TypeTable → Asked → ℕ → Block
+results_place types asked at = value_place false (product of_places (result_members types asked.func)) at
+
+module _ {T G : Type 0} (seen : G → Seen) (moves : GuestIn G → List Event → GuestIn G → Type 0) (asked : Asked) where
+  -- The guest was told of the place for results that don't go in a row. It went by no event.
+  pub record WasToldPlace (before : Parts T G) (at : ℕ) (after : Parts T G) : Type 0 where
+    pub near : members_flat (result_members (component_types before) asked.func) ≤ max_results → after.guest ≡ before.guest
+    pub far : max_results < members_flat (result_members (component_types before) asked.func) → IsHeld (seen before.guest) (seen after.guest) (results_place (component_types before) asked at)
+    pub went : GoesBy (stage_of seen moves before) (stage_of seen moves after) []
+    pub same : after ≡ record before { guest = after.guest }
+
+  -- there was no memory to list it
+  pub record WasNotTold (before after : Parts T G) : Type 0 where
+    pub unheld : IsUnheld (seen before.guest) (seen after.guest)
+    pub same : after ≡ record before { guest = after.guest }
+
+  abbrev pub TellsPlace : Parts T G → ℕ → Result (Unit {0}) Fault → Parts T G → Type 0
+  TellsPlace before at (Ok done) after = WasToldPlace before at after
+  TellsPlace before at (Err e) after = (e ≡ fault.OutOfMemory) × (max_results < members_flat (result_members (component_types before) asked.func)) × WasNotTold before after
+
+  -- The pointer is tested, the scope ends and is left, and the guest is told of the place. It is told where the results are to be stored.
   abbrev pub EndsAsk : Parts T G → List ℕ → Result ℕ Fault → Parts T G → Type 0
-  EndsAsk before words (Ok at) after = IsResultPlace (component_types before) asked before.memory words at × ((ended : Parts T G) × Ends before (Ok tt) ended × (after ≡ record ended { ledger = leave ended.ledger }))
+  EndsAsk before words (Ok at) after = IsResultPlace (component_types before) asked before.memory words at × ((ended : Parts T G) × Ends before (Ok tt) ended × WasToldPlace (left_from ended) at after)
   EndsAsk before words (Err e) after =
       (IsNoPlace (component_types before) asked before.memory words e × (after ≡ before))
-      ⊎ ((at : ℕ) × IsResultPlace (component_types before) asked before.memory words at × ((x : ResourceFault) × (e ≡ fault.Resource x) × Ends before (Err x) after))
+      ⊎ ((at : ℕ) × IsResultPlace (component_types before) asked before.memory words at
+      × (((x : ResourceFault) × (e ≡ fault.Resource x) × Ends before (Err x) after)
+      ⊎ ((ended : Parts T G) × Ends before (Ok tt) ended × (e ≡ fault.OutOfMemory) × (max_results < members_flat (result_members (component_types (left_from ended)) asked.func)) × WasNotTold (left_from ended) after)))
+
+-- How the steps before the results are lowered end: the core before, the words, the address or why there is none, and the core after.
+abbrev pub EndingRelation : Type 0 → Type 0 → Type 1
+EndingRelation T G = Parts T G → List ℕ → Result ℕ Fault → Parts T G → Type 0
 
 -- How results of the type R are lowered to the first words, or stored at an address: the core before, the address, the results, the answer,
 -- and the core and the words after.
 abbrev pub LoweringRelation : Type 0 → Type 0 → Type 0 → Type 1
 LoweringRelation T G R = Parts T G → ℕ → R → Result (Unit {0}) Fault → Parts T G → List ℕ → Type 0
 
--- The pointer is tested, the scope ends and is left, and the results are lowered as L says. Words behind those that results take stay, and
--- all words where it ends before.
-module _ {T G R : Type 0} (L : LoweringRelation T G R) (asked : Asked) where
+-- The ask ends as E says, and the results are lowered as L says. Words behind those that results take stay, and all words where it ends
+-- before.
+module _ {T G R : Type 0} (E : EndingRelation T G) (L : LoweringRelation T G R) (asked : Asked) where
+  pub record Lowers (before : Parts T G) (results : R) (words : List ℕ) (result : Result (Unit {0}) Fault) (after : Parts T G) (words2 : List ℕ) : Type 0 where
+    pub at : ℕ
+    pub left : Parts T G
+    pub ends : E before words (Ok at) left
+    pub lowers : L left at results result after words2
+    pub rest : RestStays (result_members (component_types left) asked.func) words words2
+
   abbrev pub ConcludesBy : Parts T G → R → List ℕ → Result (Unit {0}) Fault → Parts T G → List ℕ → Type 0
-  ConcludesBy before results words (Ok x) after words2 =
-      (at : ℕ) × (ended : Parts T G) × IsResultPlace (component_types before) asked before.memory words at × Ends before (Ok tt) ended × L (record ended { ledger = leave ended.ledger }) at results (Ok tt) after words2
-      × RestStays (result_members (component_types ended) asked.func) words words2
-  ConcludesBy before results words (Err e) after words2 =
-      (IsNoPlace (component_types before) asked before.memory words e × (after ≡ before) × (words2 ≡ words))
-      ⊎ ((at : ℕ) × IsResultPlace (component_types before) asked before.memory words at
-      × (((x : ResourceFault) × (e ≡ fault.Resource x) × Ends before (Err x) after × (words2 ≡ words))
-      ⊎ ((ended : Parts T G) × Ends before (Ok tt) ended × L (record ended { ledger = leave ended.ledger }) at results (Err e) after words2 × RestStays (result_members (component_types ended) asked.func) words words2)))
+  ConcludesBy before results words (Ok x) after words2 = Lowers before results words (Ok tt) after words2
+  ConcludesBy before results words (Err e) after words2 = (E before words (Err e) after × (words2 ≡ words)) ⊎ Lowers before results words (Err e) after words2
 
 -- How a function in one of its forms is served. Parameters are lifted as a value of the type A; P is what is told of them, R the results,
 -- and S what a call leaves that gives none.
@@ -88,6 +122,7 @@ pub record Steps (T G A P R S : Type 0) : Type 1 where
   -- it is called once, and gives results, or none
   pub gives : Parts T G → P → Parts T G → R → Type 0
   pub stops : Parts T G → P → HostStop → Parts T G → S → Type 0
+  pub ends : EndingRelation T G
   pub lowers : LoweringRelation T G R
 
 abbrev pub stopped : HostStop → HostError
@@ -103,11 +138,11 @@ module _ {T G A P R S : Type 0} (how : Steps T G A P R S) (asked : Asked) where
   -- The function is called with these parameters, and the ask ends.
   abbrev pub AnswersBy : Parts T G → P → List ℕ → Result (Values P R) HostError → Parts T G → List ℕ → Type 0
   AnswersBy before params words (Ok told) after words2 =
-      (called : Parts T G) × (told.params ≡ params) × how.gives before params called told.results × ConcludesBy how.lowers asked called told.results words (Ok tt) after words2
+      (called : Parts T G) × (told.params ≡ params) × how.gives before params called told.results × ConcludesBy how.ends how.lowers asked called told.results words (Ok tt) after words2
   AnswersBy before params words (Err e) after words2 =
       (how.fails before e after × (words2 ≡ words))
       ⊎ (((left : S) × (why : HostStop) × (e ≡ stopped why) × how.stops before params why after left × (words2 ≡ words))
-      ⊎ ((results : R) × (called : Parts T G) × (x : Fault) × (e ≡ error.Fault x) × how.gives before params called results × ConcludesBy how.lowers asked called results words (Err x) after words2))
+      ⊎ ((results : R) × (called : Parts T G) × (x : Fault) × (e ≡ error.Fault x) × how.gives before params called results × ConcludesBy how.ends how.lowers asked called results words (Err x) after words2))
 
   -- its parameters are lifted before
   abbrev pub ServesEnteredBy : Parts T G → List ℕ → Result (Values P R) HostError → Parts T G → List ℕ → Type 0
@@ -165,7 +200,7 @@ module _ {T G : Type 0} (seen : G → Seen) (moves : GuestIn G → List Event �
     pub same : SameButHandles before after
 
   abbrev pub ConcludesAsk : Parts T G → List Val → List ℕ → Result (Unit {0}) Fault → Parts T G → List ℕ → Type 0
-  ConcludesAsk before results words result after words2 = ConcludesBy LowersGiven asked before results words result after words2
+  ConcludesAsk before results words result after words2 = ConcludesBy (EndsAsk seen moves asked) LowersGiven asked before results words result after words2
 
 -- ---- all of them
 
@@ -190,6 +225,7 @@ module _ {T G : Type 0} (C : Calling T G) (seen : G → Seen) (moves : GuestIn G
     fails = λ before e after. (e ≡ error.Fault fault.OutOfMemory) × (after ≡ before);
     gives = λ before params after results. C before params (Ok tt) after results;
     stops = λ before params why after results. C before params (Err why) after results;
+    ends = EndsAsk seen moves asked;
     lowers = LowersGiven seen moves asked;
   }
 

@@ -8,7 +8,7 @@ use Rattle.canon_context.specs.declared.fault.Fault.{Fault}
 use Rattle.canon_context.specs.declared.fault.Fault.TheVariants as fault
 use Rattle.canon_context.specs.declared.host.HostStop.{HostStop}
 use Rattle.canon_context.specs.declared.host.HostView.{HostView}
-use Rattle.canon_host.specs.Serves.{LoweringRelation, ServesBy, Steps, Values}
+use Rattle.canon_host.specs.Serves.{EndsAsk, LoweringRelation, ServesBy, Steps, Values}
 use Rattle.canon_context.specs.Host.{StaticClosure, StaticGave}
 use Rattle.canon_host.specs.declared.asked.Asked.{Asked}
 use Rattle.canon_host.specs.declared.error.HostError.{HostError}
@@ -78,6 +78,7 @@ module _ {T G P R : Type 0} (Declines : Parts T G → HostError → Type 0) (Lif
     fails = λ before e after. ⊥;
     gives = λ before params after results. C before params (Ok results) after;
     stops = λ before params why after left. C before params (Err why) after;
+    ends = EndsAsk seen moves asked;
     lowers = LowersTyped seen moves walks gives asked;
   }
 

@@ -1,5 +1,5 @@
 -- Laws of an ask that a function over Rust types serves: what its parameters are, and what its ledger goes through.
-use Rattle.std.specs.Prelude.{Err, List, None, Ok, Result, [], false, length, take, true, ℕ, ◌<◌, ◌∷◌, ◌≡◌, ◌≤◌, ◌⊎◌}
+use Rattle.std.specs.Prelude.{Err, IsTrue, List, None, Ok, Result, [], false, length, take, true, ℕ, ◌<◌, ◌∷◌, ◌≡◌, ◌≤◌, ◌⊎◌}
 use Rattle.canon_args.specs.Exactly.{passed_steps}
 use Rattle.canon_context.specs.Asks.{SameButHandles}
 use Rattle.canon_context.specs.Core.{Parts, component_types, encoding_by, moment_of, stage_of}
@@ -142,7 +142,7 @@ module _ {F T G P R : Type 0} (g : StaticClosure F (HostView T) P (Result R Host
     (seen : G → Seen) (moves : GuestIn G → List Event → GuestIn G → Type 0) where
   -- What the function gave was lowered: trees that it walks, by their requests, all of which were answered, and with the handles that the
   -- ledger gave; nothing else was asked of the guest. As far as the answers kept the law of `realloc`, the words in a row represent the trees
-  -- strictly, and so does memory where the pointer says, if that place lived or no answer came near it.
+  -- strictly, and so does memory where the pointer says, if the guest holds places, or that place lived, or no answer came near it.
   pub record AskAnswered (asked : Asked) (before after : Parts T G) (words words2 : List ℕ) : Type 0 where
     pub through : AskThrough g f reading walks gives seen moves asked before after words
     pub same : SameButHandles through.called after
@@ -159,7 +159,7 @@ module _ {F T G P R : Type 0} (g : StaticClosure F (HostView T) P (Result R Host
     pub near : members_flat (result_members (component_types before) asked.func) ≤ max_results → AllLawful answers
         → RepFlatAt true (encoding_by before asked.options) (narrow after.memory) (take (members_flat (result_members (component_types before) asked.func)) words2) 0 (product of_places (result_members (component_types before) asked.func)) (parts trees)
     pub far : max_results < members_flat (result_members (component_types before) asked.func) → AllLawful answers
-        → AreHeld (stage_of seen moves before) answers (value_place false (product of_places (result_members (component_types before) asked.func)) at ∷ [])
+        → IsTrue (seen before.guest).holds ⊎ AreHeld (stage_of seen moves before) answers (value_place false (product of_places (result_members (component_types before) asked.func)) at ∷ [])
         → RepMem true (encoding_by before asked.options) (narrow after.memory) at (product of_places (result_members (component_types before) asked.func)) (parts trees)
 
   -- An ask that was served is answered so.

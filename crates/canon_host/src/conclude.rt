@@ -6,9 +6,9 @@ ghost use Rattle.canon_model.specs.Layout.{members_flat};
 ghost use Rattle.canon_model.specs.Shape.{member_count};
 ghost use Rattle.canon_types.specs.Table.{result_members, tuple_members};
 ghost use Rattle.canon_context.specs.Asks.{SameButHandles};
-ghost use Rattle.canon_context.specs.Core.{SameButLedger, component_types};
+ghost use Rattle.canon_context.specs.Core.{component_types};
 ghost use Rattle.canon_host.specs.Asked.{HasWordsEnough, IsAsked, RestStays};
-ghost use Rattle.canon_host.specs.Serves.{ConcludesAsk, EndsAsk, IsNoPlace, IsResultPlace, LowersGiven};
+ghost use Rattle.canon_host.specs.Serves.{ConcludesAsk, EndsAsk, IsNoPlace, IsResultPlace, LowersGiven, TellsPlace};
 
 use crate::Asked;
 use crate::asked::{first_words, params_words, results_words};
@@ -34,17 +34,17 @@ pub(crate) fn conclude<T, G: Guest>(
     }
 }
 
-/// Tests the pointer for the results, ends the scope of the ask and leaves it. Answers the address at which results are to be stored that
-/// don't go in a row.
-pub(crate) fn end_ask<T, G>(
+/// Tests the pointer for the results, ends the scope of the ask and leaves it, and tells the guest of the place for results. Answers the
+/// address at which results are to be stored that don't go in a row.
+pub(crate) fn end_ask<T, G: Guest>(
     core: &mut Core<T, G>,
     asked: &Asked,
     storage: &[ValRaw],
 ) -> Result<u64, Fault>
     requires asked { IsAsked core.old.component asked.now }
     requires room { HasWordsEnough (component_types core.old) asked.now storage.now }
-    ensures ends { EndsAsk asked.now core.old storage.now result core.new }
-    ensures same { SameButLedger core.old core.new }
+    ensures ends { EndsAsk G.seen G.moves asked.now core.old storage.now result core.new }
+    ensures same { core.new ≡ record core.old { guest = core.new.guest; ledger = core.new.ledger } }
 {
     let at = match place_of(core, asked, storage) {
         Ok(at) => at,
@@ -54,7 +54,25 @@ pub(crate) fn end_ask<T, G>(
         return Err(Fault::Resource(fault));
     }
     core.leave();
-    Ok(at)
+    match tell_place(core, asked, at) {
+        Ok(()) => Ok(at),
+        Err(fault) => Err(fault),
+    }
+}
+
+/// Tells the guest of the place for results that don't go in a row.
+fn tell_place<T, G: Guest>(core: &mut Core<T, G>, asked: &Asked, at: u64) -> Result<(), Fault>
+    requires asked { IsAsked core.old.component asked.now }
+    ensures tells { TellsPlace G.seen G.moves asked.now core.old at result core.new }
+    ensures same { core.new ≡ record core.old { guest = core.new.guest } }
+{
+    let types = core.component().types.types();
+    let tuple = asked.func.results;
+    if results_words(types, tuple).is_some() {
+        return Ok(());
+    }
+    let size = types.tuple(tuple).abi.size32;
+    core.hold(at, size)
 }
 
 /// The address at which results are to be stored that don't go in a row; the last of an ask's words gives it.

@@ -4,7 +4,7 @@ ghost use Rattle.std.specs.Prelude.{◌≡◌, ◌≤◌, ◌<◌, length, take}
 ghost use Rattle.canon_context.specs.Asks.{SameButHandles};
 ghost use Rattle.canon_context.specs.Core.{component_types};
 ghost use Rattle.canon_host.specs.Asked.{HasWordsEnough, IsAsked, RestStays};
-ghost use Rattle.canon_host.specs.Serves.{AnswersBy, ConcludesBy, IsResultPlace, ServesEnteredBy};
+ghost use Rattle.canon_host.specs.Serves.{AnswersBy, ConcludesBy, EndsAsk, IsResultPlace, ServesEnteredBy};
 ghost use Rattle.canon_host.specs.ServesTyped.{FitRustTypes, CallsTyped, LiftsTyped, LowersTyped, ServesTyped, Untold, typed_steps};
 ghost use Rattle.canon_context.specs.Host.{StaticKeeps};
 ghost use Rattle.canon_types.specs.Table.{result_members};
@@ -150,7 +150,7 @@ fn conclude<T, G: Guest, R: Lower>(
     requires fits { R.fits core.old.component.types (Tuple asked.now.func.results) }
     requires asked { IsAsked core.old.component asked.now }
     requires room { HasWordsEnough (component_types core.old) asked.now storage.old }
-    ensures concludes { ConcludesBy (LowersTyped G.seen G.moves R.walks R.gives asked.now) asked.now core.old results.old storage.old result core.new storage.new }
+    ensures concludes { ConcludesBy (EndsAsk G.seen G.moves asked.now) (LowersTyped G.seen G.moves R.walks R.gives asked.now) asked.now core.old results.old storage.old result core.new storage.new }
     ensures same { SameButHandles core.old core.new }
 {
     match end_ask(core, asked, storage) {

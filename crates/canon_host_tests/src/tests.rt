@@ -5,6 +5,7 @@ ghost use Rattle.canon_types.specs.Table.{HasFunc};
 ghost use Rattle.canon_context.specs.Core.{component_types};
 
 mod functions;
+mod places;
 mod views;
 mod wrapped;
 

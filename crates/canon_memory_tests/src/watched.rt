@@ -252,3 +252,37 @@ fn given_again(alloc: Global) -> Marks {
 fn a_block_is_given_again_once_the_guest_ran(rt: HostRuntime) {
     assert!(rt; given_again(rt.alloc()) == Some(([true, true], [true, true])));
 }
+
+/// What is seen of a guest that is told of a place of 8 bytes at 16, may run, and is then asked for two blocks.
+fn told_of_a_place(alloc: Global, first: u64, later: u64, runs: bool) -> Marks {
+    let mut memory = Memory::new(alloc, 64).ok()?;
+    let mut guest = watched_giver(alloc, first, later, false);
+    guest.hold(16, 8).ok()?;
+    if runs {
+        let _step = guest.resume(&mut memory, &[]);
+    }
+    let _first = guest.realloc(&mut memory, 0, 0, 4, 8);
+    let _later = guest.realloc(&mut memory, 0, 0, 4, 8);
+    marks_of(&guest)
+}
+
+#[test]
+fn a_block_that_meets_a_place_that_is_held_is_unlawful(rt: HostRuntime) {
+    let told = [
+        told_of_a_place(rt.alloc(), 24, 32, false),
+        told_of_a_place(rt.alloc(), 20, 32, false),
+        told_of_a_place(rt.alloc(), 32, 16, false),
+    ];
+    assert!(rt;
+        told == [
+            Some(([true, true], [true, true])),
+            Some(([false, true], [true, true])),
+            Some(([true, false], [true, true]))
+        ]
+    );
+}
+
+#[test]
+fn a_place_is_held_until_the_guest_runs(rt: HostRuntime) {
+    assert!(rt; told_of_a_place(rt.alloc(), 16, 32, true) == Some(([true, true], [true, true])));
+}

@@ -21,7 +21,7 @@ use Rattle.canon_context.specs.declared.fault.Fault.TheVariants as fault
 use Rattle.canon_val.specs.declared.val.Val.{Val}
 use Rattle.canon_types.specs.Refusal.{first_error}
 use Rattle.canon_func.specs.Call.{Adding, IsCall, IsCallOf, LivesUntil, OnAnswered, call_refusal, dynamic, dynamic_results, refused_by, with_results}
-use Rattle.canon_func.specs.Runs.{Leg}
+use Rattle.canon_func.specs.Runs.{Leg, living}
 use Rattle.canon_func.specs.Passing.{Arguments, ReturnedValues}
 use Rattle.canon_func.specs.Typed.{done_by}
 use Rattle.canon_func.specs.Stores.{Callee, Named, callee_of}
@@ -34,7 +34,7 @@ use Rattle.canon_transcript.specs.declared.transcript.Answer.{Answer}
 use Rattle.canon_transcript.specs.declared.transcript.Answer.TheVariants as answer
 use Rattle.canon_transcript.specs.declared.transcript.Head.TheVariants as head
 use Rattle.canon_transcript.specs.declared.transcript.Record.{Record}
-use Rattle.canon_player.specs.Session.{ActsBy, Called, Idle, IsEnd, LeavesSame, LivesBy, State, Tells, Themselves, WasItemCalled, answer_values, entry_view, host_side_of, answer_outcome, plan_of, plan_with, served_view}
+use Rattle.canon_player.specs.Session.{ActsBy, Called, Idle, IsEnd, LeavesSame, LivesBy, State, Tells, Themselves, WasItemCalled, answer_values, entry_view, living_of, host_side_of, answer_outcome, plan_of, plan_with, served_view}
 use Rattle.canon_player.specs.Steps.{CallsOnce}
 use Rattle.canon_player.specs.Session as session
 use Rattle.canon_player.specs.Stores.{ScriptStore, answers_of, callee_at, limits_of, state_of, with_plan}
@@ -122,7 +122,7 @@ lives_as args its P Q Leaves gives callee limits before after host left called e
   late_trap = h.late_trap;
   tail = h.tail;
   starts = h.starts;
-  lived = asks_so P Q f h.turns h.late_guest.live h.tail events h.lived;
+  lived = asks_so P Q f h.turns (living h.late_guest) h.tail events h.lived;
   asks = h.asks;
   accepted = h.accepted;
   marks = h.marks;
@@ -171,7 +171,7 @@ module _ {R : Type 0} (args : Arguments) (its : ReturnedValues R) (Told : R → 
   -- the guest acted by its plan from ask to ask
   lives_by : (legs : List Leg) (es : List Event) → EnteredLives loaded left called legs es → LivesBy starts player_ends legs es
   lives_by legs es h =
-      legs_as StoreMoves ActsBy (λ j. (journaled j.guest).live) (λ g. g.guest.allocator.live) (λ j rest. OnAnswered called (StoreMoves j rest (guest_of left.core))) (λ g rest. ActsBy g rest player_ends)
+      legs_as StoreMoves ActsBy (λ j. living (journaled j.guest)) (λ g. living_of g.guest.allocator) (λ j rest. OnAnswered called (StoreMoves j rest (guest_of left.core))) (λ g rest. ActsBy g rest player_ends)
       (λ j. record { guest = j.guest.guest.plan; len = j.len; wide = false }) (λ j xs k moved. (moved.moves.new_marks, moved.moves.does)) (λ j. refl)
       (λ j xs moved. let did : StoreMoves j xs (guest_of left.core) = on_answered called _ short moved in (did.moves.new_marks, did.moves.does)) (guest_of loaded.core) legs es h
 
@@ -298,7 +298,7 @@ entered_with callee params before left called results h = record {
   moves = on_answered_with called results _ h.moves;
   so = lives_as (dynamic callee params) (dynamic_results callee) (EnteredLives before left called) (EnteredLives before left (with_results called results)) LeavesSame (GivesAnswers (answers_of before)) callee (limits_of before)
       (moment_of journaled before.core) (moment_of journaled left.core) (side_of before) (side_of left) (with_results called results) h.events
-      (legs_so StoreMoves (λ j. (journaled j.guest).live) (λ j rest. OnAnswered called (StoreMoves j rest (guest_of left.core))) (λ j rest. OnAnswered (with_results called results) (StoreMoves j rest (guest_of left.core)))
+      (legs_so StoreMoves (λ j. living (journaled j.guest)) (λ j rest. OnAnswered called (StoreMoves j rest (guest_of left.core))) (λ j rest. OnAnswered (with_results called results) (StoreMoves j rest (guest_of left.core)))
       (λ j es moved. on_answered_with called results _ moved) (guest_of before.core)) h.so;
 }
 

@@ -28,7 +28,7 @@ use Rattle.canon_func.specs.Asks.{Limits, allowed}
 use Rattle.canon_func.specs.Call.{IsCallOf, call_refusal, dynamic, dynamic_results, entry_refusal}
 use Rattle.canon_func.specs.Drop.{IsCutOff, IsDropped, destructor_at, destructor_events, drop_refusal}
 use Rattle.canon_func.specs.Passing.{Arguments, ReturnedValues}
-use Rattle.canon_func.specs.Runs.{ByLegs, Leg}
+use Rattle.canon_func.specs.Runs.{ByLegs, Leg, Living}
 use Rattle.canon_func.specs.Stores.{Callee}
 use Rattle.canon_func.specs.Typed.{FitsParams, FitsResults, params_shape, typed_args, typed_results}
 use Rattle.canon_func.specs.declared.error.Error.{Error}
@@ -202,9 +202,13 @@ LeavesSame memory after = after ≡ memory
 abbrev pub ActsBy : GuestIn Plan → List Event → GuestIn Plan → Type 0
 ActsBy before events after = (new_marks : List Mark) × CarriesOut before.guest before.len events new_marks after.guest after.len
 
+-- what lives with a scripted guest, which holds no places
+abbrev pub living_of : Allocator → Living
+living_of a = record { blocks = a.live; holds = false }
+
 -- One guest made its way so from before to after, in legs to its asks, at each of which the leg's blocks lived by its plan.
 abbrev pub LivesBy : GuestIn Plan → GuestIn Plan → List Leg → List Event → Type 0
-LivesBy before after = ByLegs ActsBy (λ g. g.guest.allocator.live) (λ g rest. ActsBy g rest after) before
+LivesBy before after = ByLegs ActsBy (λ g. living_of g.guest.allocator) (λ g rest. ActsBy g rest after) before
 
 -- The guest was entered, and acted by its plan in its memory, from the length before to the length after; its traps are counted;
 -- the asks and the results were within these limits; the store is trapped where the call was refused. After an answer that is Ok, memory is

@@ -141,7 +141,7 @@ module _ (post : Option ℕ) where
 
   asked : (index : ℕ) (words memory : List ℕ) (events : List Event) → IsServedOn post events → RunsOn post (event.Ask index words memory ∷ events)
   asked index words memory events s = record {
-    turns = record { index = index; words = words; live = []; memory = memory; answers = s.answers; resumed_words = s.words; resumed_memory = s.memory } ∷ s.runs.turns;
+    turns = record { index = index; words = words; live = record { blocks = []; holds = false }; memory = memory; answers = s.answers; resumed_words = s.words; resumed_memory = s.memory } ∷ s.runs.turns;
     returned = s.runs.returned;
     after = s.runs.after;
     is = ap (λ l. event.Ask index words memory ∷ l) (s.is ∙ ap (λ l. events_of s.answers None ++ event.Resume s.words s.memory ∷ l) s.runs.is

@@ -18,3 +18,10 @@ lent_compared s vs ws xs ys us zs b e f h g same = compared s vs ws xs ys b h g 
 pub short_compared : (s : Shape) (vs ws : List Val) (e : ReplayError) (r : Result Bool ReplayError) → IsErr r × IsErrAnd r (λ f. f ≡ e) → e ≡ error.OutOfMemory → ComparesImages s vs ws r
 short_compared s vs ws e (Ok b) h short = absurd h.1
 short_compared s vs ws e (Err f) h short = subst (λ (x : ReplayError). ComparesImages s vs ws (Err x)) (sym (h.1 ∙ short)) tt
+
+-- no other error is answered
+pub compares_short : (s : Shape) (vs ws : List Val) (e : ReplayError) → ComparesImages s vs ws (Err e) → e ≡ error.OutOfMemory
+compares_short s vs ws (error.BadRecording p) h = absurd h
+compares_short s vs ws (error.NotARun k) h = absurd h
+compares_short s vs ws error.TooLong h = absurd h
+compares_short s vs ws error.OutOfMemory h = refl

@@ -19,7 +19,7 @@ use Rattle.canon_replay.specs.Outcomes.{has_passed, is_going, is_unlawful, outco
 use Rattle.canon_replay.specs.Stores.{ReplayStore, guest_in_store}
 use Rattle.canon_replay.specs.declared.outcome.Outcome.{Outcome}
 use Rattle.canon_replay.specs.declared.outcome.Outcome.TheVariants as outcome
-use Rattle.canon_replay.proofs.Places.{leaves_there, place_after, place_before, place_there, take_there}
+use Rattle.canon_replay.proofs.Places.{IsPlaceIn, leaves_there, place_after, place_before, place_there, take_there}
 
 -- ---- outcomes
 
@@ -54,11 +54,11 @@ module _ (k : ℕ) (call : MadeCall) (before after : ReplayStore) (result : Resu
     events_h = ap (λ (r : List (List Event)). call_events r k) same ∙ sym is
 
     -- the place, by the recorded events of the call
-    there : h.call ≡ k → ((place_in_call k h ≡ h.at) × (h.at < length call.events)) ⊎ ((place_in_call k h ≡ length call.events) × (length call.events ≤ h.at))
+    there : h.call ≡ k → IsPlaceIn (length call.events) h.at (place_in_call k h)
     there c = go (place_there k h c)
       where
-        go : ((place_in_call k h ≡ h.at) × (h.at < length (call_events h.recorded k))) ⊎ ((place_in_call k h ≡ length (call_events h.recorded k)) × (length (call_events h.recorded k) ≤ h.at))
-            → ((place_in_call k h ≡ h.at) × (h.at < length call.events)) ⊎ ((place_in_call k h ≡ length call.events) × (length call.events ≤ h.at))
+        go : IsPlaceIn (length (call_events h.recorded k)) h.at (place_in_call k h)
+            → IsPlaceIn (length call.events) h.at (place_in_call k h)
         go (inl (p, lt)) = inl (p, subst (λ (es : List Event). h.at < length es) events_h lt)
         go (inr (p, le)) = inr (p ∙ ap length events_h, subst (λ (es : List Event). length es ≤ h.at) events_h le)
 
@@ -66,7 +66,7 @@ module _ (k : ℕ) (call : MadeCall) (before after : ReplayStore) (result : Resu
     within_there : h.call ≡ k → place_in_call k h ≤ length call.events
     within_there c = by (there c)
       where
-        by : ((place_in_call k h ≡ h.at) × (h.at < length call.events)) ⊎ ((place_in_call k h ≡ length call.events) × (length call.events ≤ h.at)) → place_in_call k h ≤ length call.events
+        by : IsPlaceIn (length call.events) h.at (place_in_call k h) → place_in_call k h ≤ length call.events
         by (inl (p, lt)) = omega (arith, p, lt)
         by (inr (p, le)) = omega (arith, p)
 
@@ -84,7 +84,7 @@ module _ (k : ℕ) (call : MadeCall) (before after : ReplayStore) (result : Resu
         alike : AreAlike events (take f.count call.events)
         alike = subst (λ (es : List Event). AreAlike events (take f.count es)) (sym is) f.alike
 
-        at_place : f.count ≡ h.at → ((place_in_call k h ≡ h.at) × (h.at < length call.events)) ⊎ ((place_in_call k h ≡ length call.events) × (length call.events ≤ h.at)) → AreAlike events (take (place_in_call k h) call.events)
+        at_place : f.count ≡ h.at → IsPlaceIn (length call.events) h.at (place_in_call k h) → AreAlike events (take (place_in_call k h) call.events)
         at_place c (inl (p, lt)) = subst (λ (i : ℕ). AreAlike events (take i call.events)) (c ∙ sym p) alike
         at_place c (inr (p, le)) = subst (AreAlike events) (ap (λ (i : ℕ). take i call.events) c ∙ take_there call.events h.at le ∙ ap (λ (i : ℕ). take i call.events) (sym p)) alike
 
@@ -99,7 +99,7 @@ module _ (k : ℕ) (call : MadeCall) (before after : ReplayStore) (result : Resu
         l2 : Leaves why call.events h.at g.live len events
         l2 = subst (λ (es : List Event). Leaves why es h.at g.live len events) (sym is) l
 
-        by : ((place_in_call k h ≡ h.at) × (h.at < length call.events)) ⊎ ((place_in_call k h ≡ length call.events) × (length call.events ≤ h.at)) → Leaves why call.events (place_in_call k h) g.live len events
+        by : IsPlaceIn (length call.events) h.at (place_in_call k h) → Leaves why call.events (place_in_call k h) g.live len events
         by (inl (p, lt)) = subst (λ (i : ℕ). Leaves why call.events i g.live len events) (sym p) l2
         by (inr (p, le)) = subst (λ (i : ℕ). Leaves why call.events i g.live len events) (sym p) (leaves_there why call.events h.at g.live len events le l2)
 
@@ -119,7 +119,8 @@ module _ (k : ℕ) (call : MadeCall) (before after : ReplayStore) (result : Resu
           there_left = subst (λ (i : ℕ). Leaves stop.Differs call.events i g.live len events) (sym (place_after k h lt ∙ ap length events_h))
               (subst (λ (es : List Event). Leaves stop.Differs es (length es) g.live len events) (sym is) l)
 
-      pub departs : h.stop ≢ Some stop.Unfit → (Follows k g h events → AnswersOtherwise (place_in_call k h) call before results result) → Follows k g h events ⊎ TrapsInCall k g h len events ⊎ Overruns k g h len events → Departs k call before (outcome_at k h)
+      pub departs : h.stop ≢ Some stop.Unfit → (Follows k g h events → AnswersOtherwise (place_in_call k h) call before results result)
+          → Follows k g h events ⊎ TrapsInCall k g h len events ⊎ Overruns k g h len events → Departs k call before (outcome_at k h)
       departs fit otherwise (inl f) = subst (Departs k call before) (sym (differs_at k h (ap is_unlawful f.going)))
           (refl, (within_followed f, inr (after, result, results, events, made, answered, inr (followed_to f, otherwise f))))
       departs fit otherwise (inr (inl (why, s, c, l))) = stops why (λ unfit. fit (s ∙ ap (λ (w : Stop). Some w) unfit)) s c l
@@ -147,7 +148,7 @@ module _ (k : ℕ) (call : MadeCall) (before after : ReplayStore) (result : Resu
         let (stands, c, le) = all_passed e in
         subst (AreAlike events) (at_end (there c)) (followed_to f)
       where
-        at_end : ((place_in_call k h ≡ h.at) × (h.at < length call.events)) ⊎ ((place_in_call k h ≡ length call.events) × (length call.events ≤ h.at)) → take (place_in_call k h) call.events ≡ call.events
+        at_end : IsPlaceIn (length call.events) h.at (place_in_call k h) → take (place_in_call k h) call.events ≡ call.events
         at_end (inl (p, lt)) = absurd (omega (arith, lt, (all_passed e).2))
         at_end (inr (p, le)) = take_all call.events (place_in_call k h) (omega (arith, p))
     all_alike e (inr (inl (why, s, c, l))) = absurd (some_stop (sym s ∙ (all_passed e).0))
@@ -166,7 +167,7 @@ module _ (k : ℕ) (call : MadeCall) (before after : ReplayStore) (result : Resu
             tested : has_passed k h ≡ false → nat_le (length (call_events h.recorded k)) h.at ≡ false
             tested x = sym (rw f.going rw (eq-eqb h.call k c) refl) ∙ x
 
-        at_place : h.call ≡ k → ((place_in_call k h ≡ h.at) × (h.at < length call.events)) ⊎ ((place_in_call k h ≡ length call.events) × (length call.events ≤ h.at)) → place_in_call k h < length call.events
+        at_place : h.call ≡ k → IsPlaceIn (length call.events) h.at (place_in_call k h) → place_in_call k h < length call.events
         at_place c (inl (p, lt)) = omega (arith, p, lt)
         at_place c (inr (p, le)) = absurd (omega (arith, short c, le))
 
@@ -182,7 +183,7 @@ not_entered k call before going at refused = subst (Departs k call before) (sym 
     place_at : (guest_in_store before).call ≡ k → (guest_in_store before).at ≡ 0 → place_in_call k (guest_in_store before) ≡ 0
     place_at c z = by (place_there k (guest_in_store before) c)
       where
-        by : ((place_in_call k (guest_in_store before) ≡ (guest_in_store before).at) × ((guest_in_store before).at < length (call_events (guest_in_store before).recorded k))) ⊎ ((place_in_call k (guest_in_store before) ≡ length (call_events (guest_in_store before).recorded k)) × (length (call_events (guest_in_store before).recorded k) ≤ (guest_in_store before).at)) → place_in_call k (guest_in_store before) ≡ 0
+        by : IsPlaceIn (length (call_events (guest_in_store before).recorded k)) (guest_in_store before).at (place_in_call k (guest_in_store before)) → place_in_call k (guest_in_store before) ≡ 0
         by (inl (p, lt)) = p ∙ z
         by (inr (p, le)) = omega (arith, p, le, z)
 

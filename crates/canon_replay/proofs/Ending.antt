@@ -14,10 +14,10 @@ module _ (k : ℕ) (f : Named) (store : ReplayStore) (results recorded : List Va
   outcome_there o is = is ∙ ap (λ (s : ReplayStore). outcome_at k (guest_in_store s)) same
 
   pub ended_early : (o : Outcome) → has_passed k (guest_in_store store) ≡ false → o ≡ outcome_at k (guest_in_store mid) → EndsOk k f store results recorded (Some o)
-  ended_early o no is = (outcome_there o is, inl no)
+  ended_early o lacks is = (outcome_there o is, inl lacks)
 
   pub ended_same : has_passed k (guest_in_store store) ≡ true → ComparesImages (results_shape_in (component_types mid.core) (type_of mid f)) results recorded (Ok true) → EndsOk k f store results recorded None
-  ended_same yes one = (yes, subst (λ (s : ReplayStore). HaveOneImage (results_shape_in (component_types s.core) (type_of s f)) results recorded) same one)
+  ended_same passed one = (passed, subst (λ (s : ReplayStore). HaveOneImage (results_shape_in (component_types s.core) (type_of s f)) results recorded) same one)
 
   pub ended_otherwise : (o : Outcome) → ComparesImages (results_shape_in (component_types mid.core) (type_of mid f)) results recorded (Ok false) → o ≡ outcome_at k (guest_in_store mid) → EndsOk k f store results recorded (Some o)
   ended_otherwise o others is = (outcome_there o is, inr (subst (λ (s : ReplayStore). HaveOtherImages (results_shape_in (component_types s.core) (type_of s f)) results recorded) same others))

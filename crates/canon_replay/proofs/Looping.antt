@@ -40,7 +40,7 @@ module _ (first : ReplayStore) (calls : List Again) where
     ready = ready;
     component = refl;
     same = refl;
-    count = count;
+    count = omega (arith, count);
     few = omega (arith, count, few);
     known = known;
     events = events;

@@ -36,6 +36,14 @@ use Rattle.canon_replay.proofs.Places.{recorded_same}
 pub results_written : (items new : List Val) (n : ℕ) → n ≡ length new → take n (new ++ drop (length new) items) ≡ new
 results_written items new n is = ap (λ k. take k (new ++ drop (length new) items)) is ∙ take-append_seam new (drop (length new) items)
 
+-- Ok isn't out of memory
+pub ok_answered : IsNotShort (Ok tt)
+ok_answered s = cc
+
+-- nor is another error
+pub err_answered : (e : Error) → ¬ (e ≡ error.Fault fault.OutOfMemory) → IsNotShort (Err e)
+err_answered e other s = other (cc)
+
 module _ (k : ℕ) (a : Again) (before after : ReplayStore) (ready : IsReady k before) (lt : k < length (guest_in_store before).recorded) where
   abbrev g : Replaying
   g = guest_in_store before
@@ -90,15 +98,12 @@ module _ (k : ℕ) (a : Again) (before after : ReplayStore) (ready : IsReady k b
         let kept = same_in adding.events moves in
         let made : WasMadeAgain call before after (Ok tt) results adding.events = record { is = adding.so; moves = moves } in
         subst (Departs k call before) (sym is)
-        (departs k call before after (Ok tt) results adding.events refl kept made (λ s. ok_short s) (fits adding.events moves).0 (λ f. otherwise adding.events kept f why) (follows adding.events moves))
+        (departs k call before after (Ok tt) results adding.events refl kept made ok_answered (fits adding.events moves).0 (λ f. otherwise adding.events kept f why) (follows adding.events moves))
       where
-        ok_short : IsNotShort (Ok tt)
-        ok_short s = cc
-
         otherwise : (events : List Event) → h.recorded ≡ g.recorded → Follows k g h events
             → (has_passed k h ≡ false) ⊎ HaveOtherImages (results_shape_in (component_types after.core) (type_of after (named_export before a.export))) results a.results.items
             → AnswersOtherwise (place_in_call k h) call before results (Ok tt)
-        otherwise events kept f (inl no) = inl (not_all k call before after (Ok tt) results events refl kept some no f)
+        otherwise events kept f (inl lacks) = inl (not_all k call before after (Ok tt) results events refl kept some lacks f)
         otherwise events kept f (inr other) = inr (subst (λ (c : Component). HaveOtherImages (results_shape_in c.types.types (type_in c (slice_get c.exports.items a.export))) results a.results.items) same other)
 
     pub after_err : (e : Error) → ¬ (e ≡ error.Fault fault.OutOfMemory) → IfSome (type_of before (named_export before a.export)) (λ t. slots ≡ length (types_of (component_types before.core) t.results))
@@ -109,11 +114,11 @@ module _ (k : ℕ) (a : Again) (before after : ReplayStore) (ready : IsReady k b
         entered none =
             let adding = calls.call none in
             let moved = adding.moves in
-            let moves = unless_short (Err e) (JournaledReplays (guest_of before.core) adding.events (guest_of after.core)) (λ s. other (same_error s)) moved in
-            departs k call before after (Err e) results adding.events refl (same_in adding.events moves) (record { is = adding.so; moves = moved }) (λ s. other (same_error s)) (fits adding.events moves).0 (λ f. tt) (follows adding.events moves)
+            let moves = unless_short (Err e) (JournaledReplays (guest_of before.core) adding.events (guest_of after.core)) answered moved in
+            departs k call before after (Err e) results adding.events refl (same_in adding.events moves) (record { is = adding.so; moves = moved }) answered (fits adding.events moves).0 (λ f. tt) (follows adding.events moves)
           where
-            same_error : Err {A = Unit {0}} e ≡ Err (error.Fault fault.OutOfMemory) → e ≡ error.Fault fault.OutOfMemory
-            same_error s = cc
+            answered : IsNotShort (Err e)
+            answered = err_answered e other
 
         refused : (r : Error) → refused_by (Err e) ≡ Some r → Departs k call before (outcome_at k h)
         refused r is = subst (λ (s : ReplayStore). Departs k call before (outcome_at k (guest_in_store s))) (sym stands)
@@ -129,7 +134,8 @@ module _ (k : ℕ) (a : Again) (before after : ReplayStore) (ready : IsReady k b
   -- ---- as the code has it
 
   -- what is recorded stays, unless memory was short
-  pub recorded_stays : (f : Named) (params : List Val) (slots : ℕ) (result : Result (Unit {0}) Error) (results : List Val) → CallsAgain f params slots before after result results → result ≢ Err (error.Fault fault.OutOfMemory) → h.recorded ≡ g.recorded
+  pub recorded_stays : (f : Named) (params : List Val) (slots : ℕ) (result : Result (Unit {0}) Error) (results : List Val) → CallsAgain f params slots before after result results
+      → result ≢ Err (error.Fault fault.OutOfMemory) → h.recorded ≡ g.recorded
   recorded_stays f params slots result results calls answered = by (refused_by result) refl
     where
       by : (o : Option Error) → refused_by result ≡ o → h.recorded ≡ g.recorded
@@ -139,13 +145,15 @@ module _ (k : ℕ) (a : Again) (before after : ReplayStore) (ready : IsReady k b
       by (Some r) is = ap (λ (s : ReplayStore). (guest_in_store s).recorded) (subst (λ o. IfSome o (λ x. after ≡ before)) is calls.unchanged)
 
   module _ (f : Named) (params : List Val) (slots : ℕ) (results : List Val) (final : ReplayStore) (named : f ≡ named_export before a.export) (passed : params ≡ a.params.items) (stays : final ≡ after) where
-    pub made_ok : (r : Result (Option Outcome) ReplayError) → 0 < length (call_events g.recorded k) → CallsAgain f params slots before after (Ok tt) results → IfOk r (λ o. EndsOk k f after results a.results.items o) → IfOk r (λ o. MakesAgain k call before final o)
+    pub made_ok : (r : Result (Option Outcome) ReplayError) → 0 < length (call_events g.recorded k) → CallsAgain f params slots before after (Ok tt) results
+        → IfOk r (λ o. EndsOk k f after results a.results.items o) → IfOk r (λ o. MakesAgain k call before final o)
     made_ok (Ok o) some calls ends = subst (λ (s : ReplayStore). MakesAgain k call before s o) (sym stays)
         (after_ok slots results o some (subst₂ (λ (x : Named) (ps : List Val). CallsAgain x ps slots before after (Ok tt) results) named passed calls)
         (ap (λ (parts : Parts (Unit {0}) (Recorded Replaying)). parts.component) calls.same) (subst (λ (x : Named). EndsOk k x after results a.results.items o) named ends))
     made_ok (Err e) some calls ends = tt
 
-    pub made_err : (e : Error) (o : Outcome) → ¬ (e ≡ error.Fault fault.OutOfMemory) → IfSome (type_of before f) (λ t. slots ≡ length (types_of (component_types before.core) t.results)) → CallsAgain f params slots before after (Err e) results
+    pub made_err : (e : Error) (o : Outcome) → ¬ (e ≡ error.Fault fault.OutOfMemory) → IfSome (type_of before f) (λ t. slots ≡ length (types_of (component_types before.core) t.results))
+        → CallsAgain f params slots before after (Err e) results
         → o ≡ outcome_at k h → MakesAgain k call before final (Some o)
     made_err e o other slots_are calls is = subst (Departs k call before) (sym is)
         (after_err slots results e other (subst (λ (x : Named). IfSome (type_of before x) (λ t. slots ≡ length (types_of (component_types before.core) t.results))) named slots_are)

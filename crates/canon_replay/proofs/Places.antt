@@ -33,6 +33,10 @@ recorded_same g h events m = chain_same g.guest h.guest g.len h.len m.calls m.ch
 
 -- ---- places
 
+-- the place in a call of so many events, of a guest that passed so many
+abbrev pub IsPlaceIn : ℕ → ℕ → ℕ → Type 0
+IsPlaceIn count at place = ((place ≡ at) × (at < count)) ⊎ ((place ≡ count) × (count ≤ at))
+
 module _ (k : ℕ) (g : Replaying) where
   abbrev count : ℕ
   count = length (call_events g.recorded k)
@@ -43,10 +47,10 @@ module _ (k : ℕ) (g : Replaying) where
   pub place_after : k < g.call → place_in_call k g ≡ count
   place_after lt = rw (le-ltb g.call k (omega (arith, lt))) rw (ne_eqb g.call k (λ e. omega (arith, lt, e))) refl
 
-  pub place_there : g.call ≡ k → ((place_in_call k g ≡ g.at) × (g.at < count)) ⊎ ((place_in_call k g ≡ count) × (count ≤ g.at))
+  pub place_there : g.call ≡ k → IsPlaceIn count g.at (place_in_call k g)
   place_there e = go (nat_lt g.at count) refl
     where
-      go : (b : Bool) → nat_lt g.at count ≡ b → ((place_in_call k g ≡ g.at) × (g.at < count)) ⊎ ((place_in_call k g ≡ count) × (count ≤ g.at))
+      go : (b : Bool) → nat_lt g.at count ≡ b → IsPlaceIn count g.at (place_in_call k g)
       go true is = inl (rw (le-ltb g.call k (omega (arith, e))) rw (eq-eqb g.call k e) rw is refl, ltb-true g.at count is)
       go false is = inr (rw (le-ltb g.call k (omega (arith, e))) rw (eq-eqb g.call k e) rw is refl, ltb-false g.at count is)
 

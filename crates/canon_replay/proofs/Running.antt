@@ -63,11 +63,13 @@ module _ (post : Option ℕ) (returned after : List ℕ) where
 
   turns_follow : (len : ℕ) (turns : List AskTurn) → Grows len (events_in turns ++ returned_tail) (2 ^ 32) → StepsFollow true len (events_in turns ++ returned_tail)
   turns_follow len [] (le, h) = ((le, grows_to (length after) (2 ^ 32) (posts post returned) h), posts_follow post)
-  turns_follow len (t ∷ turns) (le, h) =
-      ((le, grows_to (length t.memory) (2 ^ 32) ((events_of t.answers None ++ event.Resume t.resumed_words t.resumed_memory ∷ events_in turns) ++ returned_tail) h),
-      answers_follow (length t.memory) t.answers t.resumed_words t.resumed_memory turns (λ g. turns_follow (length t.memory) turns g) h)
+  turns_follow len (t ∷ turns) (le, h) = (
+    (le, grows_to (length t.memory) (2 ^ 32) ((events_of t.answers None ++ event.Resume t.resumed_words t.resumed_memory ∷ events_in turns) ++ returned_tail) h),
+    answers_follow (length t.memory) t.answers t.resumed_words t.resumed_memory turns (λ g. turns_follow (length t.memory) turns g) h,
+  )
 
-  answers_end : (len : ℕ) (answers : List Answer) (words memory : List ℕ) (turns : List AskTurn) → ((n : ℕ) → EndsAsReturned n (events_in turns ++ returned_tail)) → EndsAsReturned len ((events_of answers None ++ event.Resume words memory ∷ events_in turns) ++ returned_tail)
+  answers_end : (len : ℕ) (answers : List Answer) (words memory : List ℕ) (turns : List AskTurn) → ((n : ℕ) → EndsAsReturned n (events_in turns ++ returned_tail))
+      → EndsAsReturned len ((events_of answers None ++ event.Resume words memory ∷ events_in turns) ++ returned_tail)
   answers_end len [] words memory turns on = record { stepped = (on len).stepped; last = (on (length memory)).last }
   answers_end len (x ∷ xs) words memory turns on =
       let more = answers_end len xs words memory turns on in

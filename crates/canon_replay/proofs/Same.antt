@@ -1,5 +1,5 @@
 -- What a call that was replayed tells of what was recorded.
-use Rattle.std.proofs.Common.{List, None, Option, Some, [], ap, append_assoc, inl, inr, refl, subst, sym, ℕ, ◌+◌, ◌++◌, ◌∙◌, ◌∷◌, ◌≡◌, ◌⊎◌}
+use Rattle.std.proofs.Common.{List, None, Option, Some, [], ap, append_assoc, false, inl, inr, refl, subst, sym, ℕ, ◌+◌, ◌++◌, ◌∙◌, ◌∷◌, ◌≡◌, ◌⊎◌}
 use Rattle.canon_model.specs.Requests.{host_asks, params_requests}
 use Rattle.canon_model.specs.Tree.{Trees}
 use Rattle.canon_memory.specs.declared.event.Event.{Event}
@@ -69,7 +69,8 @@ asks_for callee call events answers trap later is run words memory more starts a
     let behind = answers_run callee.func callee.post answers trap later (subst (IsOneRun callee.func callee.post) is run) in
     let none : trap ≡ None = behind.0 in
     let whole : events ≡ events_of answers None ++ event.Start callee.func words memory ∷ more = is ∙ (ap (λ (t : Option Trap). events_of answers t ++ later) none ∙ ap (λ (l : List Event). events_of answers None ++ l) starts) in
-    let (rest, parts, r, others, e, first, after) = alike_behind answers (event.Start callee.func words memory ∷ more) call.events (subst (λ (l : List Event). AreAlike l call.events) whole alike) in
+    let (rest, parts, behind_start) = alike_behind answers (event.Start callee.func words memory ∷ more) call.events (subst (λ (l : List Event). AreAlike l call.events) whole alike) in
+    let (r, others, e, first, after) = behind_start in
     let (recorded, started) = start_alike callee.func words memory r first in
     record {
       answers = answers;
@@ -84,7 +85,8 @@ asks_for callee call events answers trap later is run words memory more starts a
     all_met ts have last none =
         let m = met ts have in
         let ended : m.left ≡ [] = (subst (Each (OnStart (λ ws n. m.left ≡ []))) starts m.all).0 in
-        subst (λ (t : Option Trap). Meets last (params_requests false (host_asks callee.encoding) callee.params ts) answers t []) none (subst (λ l. Meets last (params_requests false (host_asks callee.encoding) callee.params ts) answers trap l) ended (m.met last))
+        subst (λ (t : Option Trap). Meets last (params_requests false (host_asks callee.encoding) callee.params ts) answers t []) none
+        (subst (λ l. Meets last (params_requests false (host_asks callee.encoding) callee.params ts) answers trap l) ended (m.met last))
 
 tells : (call : MadeCall) (before after : ReplayStore) → CallReplayed call before after → TellsRecorded call before
 tells call before after h = record { asks = asks; results = h.results; represents = returns_alike _ h.events call.events h.alike h.made.is.only_results; same = h.same }
@@ -93,7 +95,9 @@ tells call before after h = record { asks = asks; results = h.results; represent
     callee = callee_of before (named_export before call.export)
 
     by_start : MayStart callee.func h.made.is.turns h.made.is.late h.made.is.late_trap h.made.is.tail h.made.is.later → AsksForParams callee call.params call.events
-    by_start (inl (e, others)) = absurd (no_run callee.func callee.post (subst (IsOneRun callee.func callee.post) e (answers_run callee.func callee.post h.made.is.answers h.made.is.trap h.made.is.later (subst (IsOneRun callee.func callee.post) h.made.is.in_parts h.made.is.one_run)).1))
+    by_start (inl (e, turns, late, late_trap, tail)) =
+        let run = answers_run callee.func callee.post h.made.is.answers h.made.is.trap h.made.is.later (subst (IsOneRun callee.func callee.post) h.made.is.in_parts h.made.is.one_run) in
+        absurd (no_run callee.func callee.post (subst (IsOneRun callee.func callee.post) e run.1))
     by_start (inr s) = asks_for callee call h.events h.made.is.answers h.made.is.trap h.made.is.later h.made.is.in_parts h.made.is.one_run s.words s.memory (events_in h.made.is.turns ++ h.made.is.tail) s.is h.alike h.made.is.requested
 
     asks : AsksForParams callee call.params call.events

@@ -1,5 +1,5 @@
 -- What calls that were replayed tell of what was recorded. Proved as the contract of a function in src/laws.rt.
-use Rattle.std.specs.Prelude.{List, None, [], ℕ, ⊤, ◌++◌, ◌∷◌, ◌≡◌}
+use Rattle.std.specs.Prelude.{List, None, [], false, ℕ, ⊤, ◌++◌, ◌∷◌, ◌≡◌}
 use Rattle.canon_model.specs.Requests.{host_asks, params_requests}
 use Rattle.canon_model.specs.Tree.{Trees}
 use Rattle.canon_memory.specs.declared.event.Event.{Event}

@@ -120,6 +120,7 @@ fn returned(
     requires few { length (call_events (guest_in_store store.old).recorded k) < 2 ^ 32 }
     ensures same { store.new ≡ store.old }
     ensures passed { IfOk result (λ o. EndsOk k func.now store.old results.items recorded.items o) }
+    ensures short { IfErr result (λ e. e ≡ ReplayError.OutOfMemory) }
 {
     if !has_passed_in(store, k) {
         return Ok(Some(outcome_in(store, k)));

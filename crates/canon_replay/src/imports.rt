@@ -97,7 +97,8 @@ fn answer_with<
     requires room { HasRoomFor (component_types cx.core.now) cx.ty storage.old }
     ensures serves { (asks : List ServedAsk) (log : List LoggedEntry) (n : ℕ) → answer_told answer.entry ≡ recorded_answer asks log n
         → IfSome (slice_get (component_types cx.entry.core.now).funcs cx.entry.ty)
-        (λ t. AnswersInRow (λ told. ServesWith (GivesNext asks) (Some log) n G.seen G.moves (record { ty = cx.entry.ty; func = t; options = cx.entry.options }) AnyValues cx.entry.core.now storage.old told cx.exit.0.now storage.new) result) }
+        (λ t. AnswersInRow (λ told. ServesWith (GivesNext asks) (Some log) n G.seen G.moves (record { ty = cx.entry.ty; func = t; options = cx.entry.options })
+        AnyValues cx.entry.core.now storage.old told cx.exit.0.now storage.new) result) }
     ensures same { cx.exit.0.now ≡ record cx.entry.core.now { state = cx.exit.0.now.state; guest = cx.exit.0.now.guest; memory = cx.exit.0.now.memory; ledger = cx.exit.0.now.ledger } }
 {
     func.entrypoint(alloc, cx, storage)
@@ -115,7 +116,8 @@ fn answer_by<T, G: Guest>(
     requires room { HasRoomFor (component_types cx.core.now) cx.ty storage.old }
     ensures serves { (asks : List ServedAsk) (log : List LoggedEntry) (n : ℕ) → answer_told answer.entry ≡ recorded_answer asks log n
         → IfSome (slice_get (component_types cx.entry.core.now).funcs cx.entry.ty)
-        (λ t. AnswersInRow (λ told. ServesWith (GivesNext asks) (Some log) n G.seen G.moves (record { ty = cx.entry.ty; func = t; options = cx.entry.options }) AnyValues cx.entry.core.now storage.old told cx.exit.0.now storage.new) result) }
+        (λ t. AnswersInRow (λ told. ServesWith (GivesNext asks) (Some log) n G.seen G.moves (record { ty = cx.entry.ty; func = t; options = cx.entry.options })
+        AnyValues cx.entry.core.now storage.old told cx.exit.0.now storage.new) result) }
     ensures same { cx.exit.0.now ≡ record cx.entry.core.now { state = cx.exit.0.now.state; guest = cx.exit.0.now.guest; memory = cx.exit.0.now.memory; ledger = cx.exit.0.now.ledger } }
 {
     let func = HostFunc::func_new(move |_view: &mut HostView<

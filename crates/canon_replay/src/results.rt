@@ -37,7 +37,12 @@ fn image_of_tuple(
     ensures image { IfOk result (λ bytes. HaveImage (shape_of types.now (InterfaceType.Tuple tuple)) values.items bytes.items) }
     ensures short { IfErr result (λ e. e ≡ ReplayError.OutOfMemory) }
 {
-    match image(alloc, types, &InterfaceType::Tuple(tuple), &Val::Tuple(values)) {
+    match image(
+        alloc,
+        types,
+        &InterfaceType::Tuple(tuple),
+        &Val::Tuple(values),
+    ) {
         Ok(bytes) => Ok(bytes),
         Err(_) => Err(ReplayError::OutOfMemory),
     }

@@ -30,6 +30,22 @@ pub fn core_of(
     requires narrow { IsFalse memory.wide }
     ensures options { IfOk result (λ c. length c.component.options.items ≡ 1) }
 {
+    let guest = ScriptedGuest::new(alloc, 1024);
+    core_over(alloc, guest, string_encoding, types, memory)
+}
+
+/// The same over this guest.
+pub fn core_over<G: Drop>(
+    alloc: Global,
+    guest: G,
+    string_encoding: StringEncoding,
+    types: ComponentTypes,
+    memory: Memory,
+) -> Result<Core<u32, G>, OutOfMemory>
+    requires narrow { IsFalse memory.wide }
+    ensures types { IfOk result (λ c. component_types c ≡ types) }
+    ensures options { IfOk result (λ c. length c.component.options.items ≡ 1) }
+{
     let options = CanonicalOptions {
         instance: RuntimeInstance::from_u32(3),
         string_encoding,
@@ -42,7 +58,6 @@ pub fn core_of(
         exports: Vec::new(alloc),
         imports: Vec::new(alloc),
     };
-    let guest = ScriptedGuest::new(alloc, 1024);
     Core::new(
         alloc,
         StoreId::from_u64(6),

@@ -1,11 +1,15 @@
-use Rattle.std.proofs.Common.{List, [], ap, append-nil, append_assoc, arith, length, refl, subst, sym, ◌++◌, ◌∙◌, ◌∷◌, ◌≡◌}
+use Rattle.std.proofs.Common.{List, [], ap, append-nil, append_assoc, arith, length, map, refl, subst, sym, ◌∙◌, ◌∷◌, ◌≡◌}
 use Rattle.std.specs.Vec.Iter.{into_iter_items}
+use Rattle.canon_recording.specs.Recordings.{served_asks}
 use Rattle.canon_recording.specs.declared.recording.Recorded.{Recorded}
+use Rattle.canon_replay.specs.Calls.{told_again}
 use Rattle.canon_replay.proofs.Splitting.{ArePartsOf, no_items_left, one_part}
 use Rattle.canon_replay.proofs.again.parts_of.Goals as goal
 
 pub loop-call-init : goal.loop-call-init
-loop-call-init c = (refl, record { events = refl; asks = refl; again = refl }, c.into_iter-call-iterator.ensures.into_iter_gives.1)
+loop-call-init c =
+    let given = c.into_iter-call-iterator.ensures.into_iter_gives in
+    (refl, record { events = c.new.ensures.items; asks = ap served_asks c.new-2.ensures.items; again = ap (map told_again) c.new-3.ensures.items }, given.1 ∙ (c.args.r.calls.ok.0 ∙ sym (ap length given.0)))
 
 pub loop-call-preserved : goal.loop-call-preserved
 loop-call-preserved c =
@@ -27,4 +31,4 @@ returns c =
     let empty : into_iter_items at.call-iterator ≡ [] = no_items_left _ (sym at.invariant.2 ∙ none.0) in
     let all = sym (append-nil at.yielded) ∙ rw empty at at.invariant.0 ∙ c.into_iter-call-iterator.ensures.into_iter_gives.0 in
     let are = subst (λ (l : List Recorded). ArePartsOf l at.parts) all at.invariant.1 in
-    (are.events, are.asks, are.again)
+    record { parts = (are.events, are.asks, are.again); short = tt }

@@ -7,4 +7,4 @@ use Rattle.canon_replay.proofs.calls.have_recorded.Goals as goal
 pub returns : goal.returns
 returns c =
     let types = c.types-types.ensures ∙ ap (λ x. x.types.types) (c.component.ensures.component ∙ ap (λ k. k.component) c.core.ensures) in
-    rw c.ty-ty.ensures.found (subst (λ t. ComparesImages (shape_of t (ty.Tuple c.ty-ty.result.now.results)) c.args.results.items c.args.recorded.items c.have_one_image.result) types c.have_one_image.ensures)
+    rw c.ty-ty.ensures.found (subst (λ t. ComparesImages (shape_of t (ty.Tuple c.ty-ty.result.now.results)) c.args.results.items c.args.recorded.items c.have_one_image.result) types c.have_one_image.ensures.compares)

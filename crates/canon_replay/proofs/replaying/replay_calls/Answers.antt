@@ -8,7 +8,8 @@ use Rattle.canon_replay.proofs.replaying.replay_calls.Goals as goal
 pub loop-call-init : goal.loop-call-init
 loop-call-init c =
     let given = c.into_iter-call-iterator.ensures.into_iter_gives in
-    (subst (AreReplayed c.args.store.now c.args.calls.items 0 c.args.store.now) (sym given.0) (loop_begins c.args.store.now c.args.calls.items c.requires.ready c.requires.known c.requires.count c.requires.few_calls c.requires.events), given.1)
+    let begins = loop_begins c.args.store.now c.args.calls.items c.requires.ready c.requires.known c.requires.count c.requires.few_calls c.requires.events in
+    (subst (AreReplayed c.args.store.now c.args.calls.items 0 c.args.store.now) (sym given.0) begins, given.1 ∙ (c.args.calls.ok.0 ∙ sym (ap length given.0)))
 
 pub make_again-requires : goal.make_again-requires
 make_again-requires c =
@@ -25,7 +26,7 @@ loop-call-preserved c =
     let steps = c.in-Some.ensures.steps in
     let left = into_iter_items c.next.new.self in
     let are = subst (AreReplayed c.args.store.now c.args.calls.items at.k at.store) steps.0 at.invariant.0 in (
-      loop_goes_on c.args.store.now c.args.calls.items at.k at.store c.in-Some.call left are c.make_again.new.store c.in-Ok.ensures.makes,
+      loop_goes_on c.args.store.now c.args.calls.items at.k at.store c.in-Some.call left are c.make_again.new.store (rw c.in-Ok-None.field-0-is at c.in-Ok-None.ensures.makes),
       let was = at.invariant.1 in
           let gone = steps.1 in
           let short = ap length steps.0 in
@@ -37,7 +38,7 @@ returns-in-Ok-Some-clause-replays c =
     let at = c.loop-call in
     let left = into_iter_items c.next.new.self in
     let are = subst (AreReplayed c.args.store.now c.args.calls.items at.k at.store) c.in-Some.ensures.steps.0 at.invariant.0 in
-    loop_departs c.args.store.now c.args.calls.items at.k at.store c.in-Some.call left are c.make_again.new.store c.in-Ok-Some.outcome c.in-Ok-Some.ensures.makes
+    loop_departs c.args.store.now c.args.calls.items at.k at.store c.in-Some.call left are c.make_again.new.store c.in-Ok-Some.outcome (rw c.in-Ok-Some.field-0-is at c.in-Ok-Some.ensures.makes)
 
 pub returns-clause-replays : goal.returns-clause-replays
 returns-clause-replays c =

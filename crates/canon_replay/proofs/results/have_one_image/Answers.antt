@@ -10,7 +10,8 @@ returns-in_err-bytes c = record {
 
 pub returns-in_err-other : goal.returns-in_err-other
 returns-in_err-other c = record {
-  compares = short_compared (shape_of c.args.types.now (type.Tuple c.args.tuple)) c.args.values.items c.args.others.items c.in_err-other.field-0.0 c.from_residual-in_err-other.result c.from_residual-in_err-other.ensures c.in_err-other.ensures.short;
+  compares = short_compared (shape_of c.args.types.now (type.Tuple c.args.tuple)) c.args.values.items c.args.others.items c.in_err-other.field-0.0 c.from_residual-in_err-other.result
+      c.from_residual-in_err-other.ensures c.in_err-other.ensures.short;
 }
 
 pub returns : goal.returns
