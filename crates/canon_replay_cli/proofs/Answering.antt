@@ -72,9 +72,9 @@ module _ (asked : ReplayCommand) (input : List ℕ) (left : Option (List ℕ)) w
     by_number : (P : Type 0) → (s.0 ≡ 6 → P) → (s.0 ≡ 7 → P) → (s.0 ≡ 8 → P) → (s.0 ≡ 0 → P) → (s.0 ≡ 4 → P) → (s.0 ≡ 5 → P) → (s.0 ≡ 9 → P) → P
     by_number P a b c d e f g = elim status as (λ _. P) [
       | inl told ↦ elim told as (λ _. P) [
-          | inl r ↦ elim r as (λ _. P) [ inl x ↦ absurd (used x) | inr y ↦ elim y as (λ _. P) [ inl x ↦ absurd (no_fault x) | inr z ↦ elim z as (λ _. P) [ inl x ↦ a x | inr w ↦ elim w as (λ _. P) [ inl x ↦ b x | inr x ↦ c x ] ] ] ]
-          | inr r ↦ elim r as (λ _. P) [ inl x ↦ d x | inr y ↦ elim y as (λ _. P) [ inl x ↦ e x | inr x ↦ f x ] ]
-        ]
+        | inl r ↦ elim r as (λ _. P) [ inl x ↦ absurd (used x) | inr y ↦ elim y as (λ _. P) [ inl x ↦ absurd (no_fault x) | inr z ↦ elim z as (λ _. P) [ inl x ↦ a x | inr w ↦ elim w as (λ _. P) [ inl x ↦ b x | inr x ↦ c x ] ] ] ]
+        | inr r ↦ elim r as (λ _. P) [ inl x ↦ d x | inr y ↦ elim y as (λ _. P) [ inl x ↦ e x | inr x ↦ f x ] ]
+      ]
       | inr nine ↦ g nine
     ]
 

@@ -1,3 +1,3 @@
 pub mod Answering
 pub mod Recordable
-pub mod Taking
+pub mod TakingCalls

@@ -4,7 +4,7 @@ use Rattle.canon_context.specs.declared.component.Component.{Component}
 use Rattle.canon_recording.specs.Fits.{IsRecordable}
 use Rattle.canon_script.specs.Script.{Play, ScriptItem, call_item, drop_item, item_view, new_item, typed_item}
 use Rattle.canon_player.specs.Stores.{IsScripted}
-use Rattle.canon_replay_cli.specs.declared.scripts.Scripted.{Scripted}
+use Rattle.canon_replay_cli.specs.declared.scripted.Scripted.{Scripted}
 
 -- it is a call with dynamic values
 abbrev pub IsCallItem : ScriptItem → Type 0

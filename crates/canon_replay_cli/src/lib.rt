@@ -6,6 +6,7 @@ mod command;
 mod lines;
 mod program;
 mod record;
+mod scripted;
 mod scripts;
 mod taking;
 

@@ -10,7 +10,8 @@ ghost use Rattle.canon_replay.specs.Calls.{IsReplayed};
 ghost use Rattle.canon_replay_cli.specs.Lines as spec;
 ghost use Rattle.canon_replay_cli.specs.Replays.{IsNoReplayTask, IsReplayText, ReplayTask, replay_task_of};
 
-use crate::scripts::{Scripted, scripted_of_json};
+use crate::scripted::Scripted;
+use crate::scripts::scripted_of_json;
 use canon_json::{ScriptError, bytes_of_json, has_len};
 use canon_recording::{Recording, ReplayError, decode};
 use canon_replay::{Outcome, replay};

@@ -12,7 +12,8 @@ ghost use Rattle.canon_replay_cli.specs.Recorded.{IsNotWritten, IsPlayRecorded, 
 ghost use Rattle.canon_replay_cli.specs.Scripts.{IsNoRecordable};
 ghost use Rattle.canon_replay_cli.specs.declared.record.RecordError.TheVariants as error;
 
-use crate::scripts::{Scripted, scripted_of_json};
+use crate::scripted::Scripted;
+use crate::scripts::scripted_of_json;
 use crate::taking::recording_of;
 use canon_json::ScriptError;
 use canon_player::play;
@@ -50,7 +51,9 @@ pub fn record_bytes(alloc: Global, v: &Value) -> Result<Vec<u8>, RecordError>
         Err(refusal) => return Err(error_of(refusal)),
     };
     let Scripted {
-        component, items, ..
+        component,
+        items,
+        ..
     } = scripted;
     match recording_of(alloc, items, records) {
         Ok(recording) => bytes_of(alloc, &component, &recording),

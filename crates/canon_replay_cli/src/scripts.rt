@@ -3,29 +3,16 @@
 ghost use Rattle.std.specs.Prelude.{◌≡◌, ◌↔◌, IfOk, IsTrue, Some, map};
 ghost use Rattle.serde_json.specs.View.{view};
 ghost use Rattle.canon_json.specs.declared.error.ScriptError.TheVariants as refused;
-ghost use Rattle.canon_context.specs.Component.{IsComponent};
-ghost use Rattle.canon_recording.specs.Fits.{IsRecordable};
 ghost use Rattle.canon_script.specs.Script.{Play, item_view, script_of};
 ghost use Rattle.canon_replay_cli.specs.Scripts.{AreCallItems, IsCallItem, IsNoRecordable, IsScriptedBy};
 
+use crate::scripted::Scripted;
 use canon_json::ScriptError;
 use canon_player::component_of;
 use canon_recording::recordable;
 use canon_script::{Item, Script, script_of_json};
-use canon_value::Component;
 use serde_json::Value;
 use std::alloc::Global;
-
-/// The component of a script, its calls, and what each of them may use.
-#[derive(Drop)]
-pub(crate) struct Scripted {
-    pub(crate) component: Component,
-    pub(crate) items: Vec<Item>,
-    pub(crate) fuel: u64,
-    pub(crate) turns: u64,
-    ghost sound: { IsComponent component },
-    ghost recordable: { IsRecordable component },
-}
 
 /// The script that a JSON value stands for, if its items are calls and those of its component may be recorded. `BadScript` says that it is
 /// none.

@@ -24,10 +24,10 @@ pub(crate) fn recording_of(
     let mut calls = Vec::new(alloc);
     let mut records = records.into_iter();
     for item in items {
-        let Some(record) = records.next() else {
+        let Some(played) = records.next() else {
             return Ok(Recording { calls });
         };
-        let Some(call) = recorded_of(alloc, item, record)? else {
+        let Some(call) = recorded_of(alloc, item, played)? else {
             return Ok(Recording { calls });
         };
         calls.push(call)?;
@@ -35,13 +35,9 @@ pub(crate) fn recording_of(
     Ok(Recording { calls })
 }
 
-/// The call of an item and its record, unless it didn't answer Ok, or its guest broke the law of `realloc` by order of the script.
-fn recorded_of(
-    alloc: Global,
-    item: Item,
-    record: Record,
-) -> Result<Option<Recorded>, OutOfMemory>
-    ensures taken { IfOk result (λ o. IsTakenCall (item_view item) record o) }
+/// The call of an item and of what it did, unless it didn't answer Ok, or its guest broke the law of `realloc` by order of the script.
+fn recorded_of(alloc: Global, item: Item, played: Record) -> Result<Option<Recorded>, OutOfMemory>
+    ensures taken { IfOk result (λ o. IsTakenCall (item_view item) played o) }
 {
     let Item::Call(call) = item else {
         return Ok(None);
@@ -51,7 +47,7 @@ fn recorded_of(
         served,
         answer,
         ..
-    } = record;
+    } = played;
     if breaks_law(&call.reallocs, events.as_slice()) {
         return Ok(None);
     }

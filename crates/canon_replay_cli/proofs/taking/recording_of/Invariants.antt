@@ -1,6 +1,6 @@
 use Rattle.std.proofs.Common.{length, ◌≡◌}
 use Rattle.std.specs.Vec.Iter.{into_iter_items, into_iter_len}
-use Rattle.canon_replay_cli.proofs.Taking.{AreTaken}
+use Rattle.canon_replay_cli.proofs.TakingCalls.{AreTaken}
 use Rattle.canon_replay_cli.proofs.taking.recording_of.Given as goal
 
 -- those so far were taken
