@@ -1,5 +1,5 @@
 -- What contracts see of a guest.
-use Rattle.std.specs.Prelude.{ℕ, ◌≤◌, ◌≡◌, ◌++◌, Bool, IsTrue, List, [], ◌∷◌, length, Option, Result, Ok, Err}
+use Rattle.std.specs.Prelude.{ℕ, ◌≤◌, ◌≡◌, ◌++◌, Bool, IsFalse, IsTrue, List, [], ◌∷◌, length, Option, Result, Ok, Err}
 use Rattle.canon_model.specs.Memory.{Block, Memory, Within}
 use Rattle.canon_model.specs.Requests.{Call}
 use Rattle.canon_memory.specs.declared.error.GuestFault.{GuestFault}
@@ -85,15 +85,18 @@ Reallocates before after c (Err fault.OutOfMemory) = WasShort before after
 
 -- ---- what `hold` does
 
--- Whatever lived lives on, the place lives too if it holds places, and no other byte. Nothing else of it changed.
+-- Whatever lived lives on, the place lives too if it holds places, and no other byte. Nothing else of it changed, and nothing at all if it
+-- holds none.
 pub record IsHeld (before after : Seen) (place : Block) : Type 0 where
+  pub still : IsFalse before.holds → after ≡ before
   pub same : after ≡ record before { live = after.live }
   pub grows : Within before.live after.live
   pub only : Within after.live (place ∷ before.live)
   pub lives : IsTrue before.holds → Within (place ∷ []) after.live
 
--- There was no memory to list a place.
+-- It holds places, and there was no memory to list this one.
 pub record IsUnheld (before after : Seen) : Type 0 where
+  pub holds : IsTrue before.holds
   pub same : after ≡ record before { shortages = after.shortages }
   pub later : before.shortages ≤ after.shortages
   pub rose : Rose before.shortages after.shortages

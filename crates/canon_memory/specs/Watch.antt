@@ -1,5 +1,5 @@
 -- A guest that is watched: each answer of its `realloc` is tested against the law of `realloc`, over the blocks that it
--- gave since it last ran.
+-- gave and the places that it was told of since it last ran.
 use Rattle.std.specs.Prelude.{ℕ, ◌+◌, ◌%◌, ◌<◌, ◌≤◌, ◌≡◌, ◌⊎◌, ◌↔◌, ◌++◌, ◌&&◌, min, not, Bool, IsTrue, true, Result, Ok, Err, if◌then◌else◌, List, [], ◌∷◌, length, nat_eq, slice_index, take}
 use Rattle.std.proofs.Common.{refl, sym, ap, ◌∙◌}
 use Rattle.std.specs.List.{All, filter}
@@ -120,7 +120,7 @@ watched_seen seen w = record (seen w.guest) { marks = w.marks; live = all_live w
 abbrev pub Marks : {G : Type 0} → Watching G → Watching G → List ℕ → List ℕ → Call → ℕ → Type 0
 Marks w x before after c answer = (mark : Mark) × (x.marks ≡ w.marks ++ mark ∷ []) × IsExactMark w.whole (all_live w) (all_live x) before after c answer mark
 
--- A place is listed beside those that were, or for want of memory isn't.
+-- A place is listed beside those that were; or it isn't, and want of memory is counted. Nothing else of the watch changes.
 abbrev pub Lists : {G E : Type 0} → Watching G → Watching G → Block → Result (Unit {0}) E → Type 0
-Lists w x place (Ok done) = x.held ≡ w.held ++ place ∷ []
-Lists w x place (Err e) = x.held ≡ w.held
+Lists w x place (Ok done) = x ≡ record w { guest = x.guest; held = w.held ++ place ∷ [] }
+Lists w x place (Err e) = x ≡ record w { guest = x.guest; shortages = x.shortages }

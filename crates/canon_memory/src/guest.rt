@@ -69,7 +69,7 @@ pub trait Guest {
         ensures does { Reallocates (moment (seen self.old) memory.old.bytes) (moment (seen self.new) memory.new.bytes) (call old old_size align new_size) result }
         ensures moves { OnAnswer result (moves (guest_in self.old memory.old) (realloc_events (call old old_size align new_size) memory.old.bytes result) (guest_in self.new memory.new)) };
 
-    /// Tells it that these bytes will be written before it runs again: the place that it gave for an import's results. None of its
+    /// Tells it that these bytes may be written before it runs again: the place that it gave for an import's results. None of its
     /// code runs. A guest that doesn't watch its answers does nothing. An error is want of memory to list the place.
     fn hold(&mut self, start: u64, size: u32) -> Result<(), AllocError>
         ensures holds { HoldsPlace (seen self.old) (seen self.new) (block start size) result }

@@ -53,7 +53,7 @@ impl<G> Watched<G> {
     }
 
     /// The same, but no byte outside the blocks is watched, and no answer is marked as tidy. A request costs a copy of memory up
-    /// to where the last block ends that lives, so the first one costs none.
+    /// to where the last block or place ends that lives, so the first one for parameters costs none.
     pub fn lawful_only(alloc: Global, guest: G) -> Self
         ensures { result ≡ record { guest = guest; whole = false; held = []; live = []; marks = []; shortages = 0 } }
     {
@@ -123,10 +123,10 @@ impl<G> Watched<G> {
 #[tactic(auto, using(crate::proofs::Watch::after_step))]
 impl<G: Guest> Guest for Watched<G> {
     ghost use Rattle.std.specs.Prelude.{◌≡◌, ◌<◌, ◌^◌, IfOk, IsFalse, OnErr, OnOk, []};
-    ghost use Rattle.canon_memory.specs.Guest.{Goes, HasCause, HoldsPlace, MovesByNone, OnAnswer, Reallocates, guest_in, moment};
+    ghost use Rattle.canon_memory.specs.Guest.{Goes, HasCause, HoldsPlace, IsHeld, MovesByNone, OnAnswer, Reallocates, guest_in, moment};
     ghost use Rattle.canon_memory.specs.Journal.{dtor_events, post_events, realloc_events, resume_events, start_events};
     ghost use Rattle.canon_memory.specs.Realloc.{block, call};
-    ghost use Rattle.canon_memory.specs.Watch.{Lists, Marks, WatchedMoves, watched_seen};
+    ghost use Rattle.canon_memory.specs.Watch.{Lists, Marks, WatchedMoves, other_blocks, watched_seen};
 
     ghost seen = { λ w. watched_seen G.seen w };
 
@@ -148,7 +148,7 @@ impl<G: Guest> Guest for Watched<G> {
         ensures goes { Goes (moment (watched_seen G.seen self.old) memory.old.bytes) (moment (watched_seen G.seen self.new) memory.new.bytes) [] (start_events func words.now memory.old.bytes memory.new.bytes result) }
         ensures moves { OnAnswer result (WatchedMoves G.moves (guest_in self.old memory.old) (start_events func words.now memory.old.bytes memory.new.bytes result) (guest_in self.new memory.new)) }
         ensures cause { HasCause (watched_seen G.seen self.old) (watched_seen G.seen self.new) result }
-        ensures let_go { self.new.held ≡ [] }
+        ensures let_go { (self.new.held ≡ []) × (self.new.live ≡ []) × (self.new.whole ≡ self.old.whole) }
     {
         self.let_go();
         match self.guest.start(memory, func, words) {
@@ -162,7 +162,7 @@ impl<G: Guest> Guest for Watched<G> {
         ensures goes { Goes (moment (watched_seen G.seen self.old) memory.old.bytes) (moment (watched_seen G.seen self.new) memory.new.bytes) [] (resume_events words.now memory.old.bytes memory.new.bytes result) }
         ensures moves { OnAnswer result (WatchedMoves G.moves (guest_in self.old memory.old) (resume_events words.now memory.old.bytes memory.new.bytes result) (guest_in self.new memory.new)) }
         ensures cause { HasCause (watched_seen G.seen self.old) (watched_seen G.seen self.new) result }
-        ensures let_go { self.new.held ≡ [] }
+        ensures let_go { (self.new.held ≡ []) × (self.new.live ≡ []) × (self.new.whole ≡ self.old.whole) }
     {
         self.let_go();
         match self.guest.resume(memory, words) {
@@ -187,6 +187,7 @@ impl<G: Guest> Guest for Watched<G> {
         ensures width { memory.new.wide ≡ memory.old.wide }
         ensures does { Reallocates (moment (watched_seen G.seen self.old) memory.old.bytes) (moment (watched_seen G.seen self.new) memory.new.bytes) (call old old_size align new_size) result }
         ensures moves { OnAnswer result (WatchedMoves G.moves (guest_in self.old memory.old) (realloc_events (call old old_size align new_size) memory.old.bytes result) (guest_in self.new memory.new)) }
+        ensures unlists { IfOk result (λ _. self.new.held ≡ other_blocks self.old.held (block old old_size)) }
         ensures exact { IfOk result (λ answer. Marks self.old self.new memory.old.bytes memory.new.bytes (call old old_size align new_size) answer) }
         ensures kept { OnErr result ((self.new.marks ≡ self.old.marks) × (self.new.held ≡ self.old.held) × (self.new.live ≡ self.old.live) × (self.new.whole ≡ self.old.whole)) }
     {
@@ -227,6 +228,7 @@ impl<G: Guest> Guest for Watched<G> {
         ensures holds { HoldsPlace (watched_seen G.seen self.old) (watched_seen G.seen self.new) (block start size) result }
         ensures moves { OnOk result (MovesByNone (λ w events x. WatchedMoves G.moves w events x) self.old self.new) }
         ensures lists { Lists self.old self.new (block start size) result }
+        ensures inner { OnOk result (IsHeld (G.seen self.old.guest) (G.seen self.new.guest) (block start size)) }
     {
         if let Err(error) = self.held.reserve(1) {
             self.count(GuestFault::OutOfMemory);
@@ -255,7 +257,7 @@ impl<G: Guest> Guest for Watched<G> {
         ensures moves { OnAnswer result (WatchedMoves G.moves (guest_in self.old memory.old) (post_events func words.now memory.old.bytes result) (guest_in self.new memory.new)) }
         ensures leaves { OnOk result (G.leaves memory.old.bytes memory.new.bytes) }
         ensures cause { HasCause (watched_seen G.seen self.old) (watched_seen G.seen self.new) result }
-        ensures let_go { self.new.held ≡ [] }
+        ensures let_go { (self.new.held ≡ []) × (self.new.live ≡ []) × (self.new.whole ≡ self.old.whole) }
     {
         self.let_go();
         match self.guest.post_return(memory, func, words) {
@@ -270,7 +272,7 @@ impl<G: Guest> Guest for Watched<G> {
         ensures moves { OnAnswer result (WatchedMoves G.moves (guest_in self.old memory.old) (dtor_events func rep memory.old.bytes result) (guest_in self.new memory.new)) }
         ensures leaves { OnOk result (G.leaves memory.old.bytes memory.new.bytes) }
         ensures cause { HasCause (watched_seen G.seen self.old) (watched_seen G.seen self.new) result }
-        ensures let_go { self.new.held ≡ [] }
+        ensures let_go { (self.new.held ≡ []) × (self.new.live ≡ []) × (self.new.whole ≡ self.old.whole) }
     {
         self.let_go();
         match self.guest.dtor(memory, func, rep) {

@@ -12,6 +12,7 @@ returns-in-Ok-clause-holds g c =
     let more : held2 ≡ now.held ++ place ∷ [] = search rules in
     let same : live2 ≡ now.live = search rules in
     record {
+      still = λ none. absurd (cc);
       same = search rules;
       grows = more_live now.held now.live held2 live2 place more same;
       only = only_place now.held now.live held2 live2 place more same;
