@@ -91,7 +91,8 @@ module _ {D G : Type 0} (L : GuestLaws G) (options : ℕ) (a : Parts D G) (ms : 
       }
 
   -- it is, and they are stored in it
-  module _ (b c : Parts D G) (p : ℕ) (shaped : AreProducts Has) (g : AsksFor L.seen L.moves a b (args_call false ms) (Ok p)) (r : Result (Unit {0}) Fault) (h : TypedStores L.seen L.moves options b c (product of_places ms) p Has gives r) where
+  module _ (b c : Parts D G) (p : ℕ) (shaped : AreProducts Has) (g : AsksFor L.seen L.moves a b (args_call false ms) (Ok p)) (r : Result (Unit {0}) Fault)
+      (h : TypedStores L.seen L.moves options b c (product of_places ms) p Has gives r) where
     stored : StoresValue false (stage_of L.seen L.moves b) (stage_of L.seen L.moves c) (host_texts enc) (product of_places ms) p Has h.handles h.ending
     stored = subst (λ (x : Encoding). StoresValue false (stage_of L.seen L.moves b) (stage_of L.seen L.moves c) (host_texts x) (product of_places ms) p Has h.handles h.ending) (same_encoding a b options g.same) h.attempt
 
@@ -99,7 +100,8 @@ module _ {D G : Type 0} (L : GuestLaws G) (options : ℕ) (a : Parts D G) (ms : 
     points = far_points enc ms Has (stage_of L.seen L.moves c) p shaped far g.does.aligned g.does.narrow
 
     low : LowersArgs false (stage_of L.seen L.moves a) (stage_of L.seen L.moves c) (host_texts enc) ms (InParts Has) (p ∷ []) h.handles h.ending
-    low = attempt_block false (stage_of L.seen L.moves a) (stage_of L.seen L.moves b) (stage_of L.seen L.moves c) (args_call false ms) p (value_place false (product of_places ms) p ∷ []) (value_at false (host_texts enc) (product of_places ms) p Has)
+    low = attempt_block false (stage_of L.seen L.moves a) (stage_of L.seen L.moves b) (stage_of L.seen L.moves c) (args_call false ms) p (value_place false (product of_places ms) p ∷ [])
+        (value_at false (host_texts enc) (product of_places ms) p Has)
         (args_in false (host_texts enc) ms (p ∷ []) (InParts Has)) h.ending refl g.small g.does (value_framed false (host_texts enc) (product of_places ms) p Has) (λ i q. q) points stored
 
     first : BeginsWith (args_call false ms) h.ending low.answers low.trap
@@ -132,7 +134,8 @@ module _ {D G : Type 0} (L : GuestLaws G) (options : ℕ) (a : Parts D G) (ms : 
     }
 
 -- what was stored, said of the core before the block was asked for
-pub stored_there : {D G : Type 0} (L : GuestLaws G) (options own : ℕ) (a b c : Parts D G) (ms : Members) (p : ℕ) (Has : Tree → Type 0) (gives : Instance → Shape → List (List Part)) (z : Shape) → own ≡ options → SameBut a b → z ≡ product of_places ms
+pub stored_there : {D G : Type 0} (L : GuestLaws G) (options own : ℕ) (a b c : Parts D G) (ms : Members) (p : ℕ) (Has : Tree → Type 0) (gives : Instance → Shape → List (List Part)) (z : Shape)
+    → own ≡ options → SameBut a b → z ≡ product of_places ms
     → (r : Result (Unit {0}) Fault) → TypedStores L.seen L.moves own b c z p Has (gives b.component.types z) r → TypedStores L.seen L.moves options b c (product of_places ms) p Has (gives a.component.types (product of_places ms)) r
 stored_there L options own a b c ms p Has gives z same_options same is r h =
     subst (λ (i : Instance). TypedStores L.seen L.moves options b c (product of_places ms) p Has (gives i (product of_places ms)) r) (handles_instance a b (same_handles a b same))

@@ -65,7 +65,8 @@ module _ {D G : Type 0} (L : GuestLaws G) (options : ℕ) (a c : Parts D G) (ms 
     ending = h.ending;
     ends = h.ends;
     lowered = record {
-      lowered = attempt_as false (stage_of L.seen L.moves a) (stage_of L.seen L.moves c) [] [] (value_words false (host_texts (encoding_by a options)) (product of_places ms) ws 0 Has) (args_in false (host_texts (encoding_by a options)) ms ws (InParts Has)) h.ending (λ i q. q)
+      lowered = attempt_as false (stage_of L.seen L.moves a) (stage_of L.seen L.moves c) [] [] (value_words false (host_texts (encoding_by a options)) (product of_places ms) ws 0 Has)
+          (args_in false (host_texts (encoding_by a options)) ms ws (InParts Has)) h.ending (λ i q. q)
           (near_turns (encoding_by a options) ms Has ws (stage_of L.seen L.moves c) shaped near count) h.attempt;
       asks = λ far. absurd (omega (arith, near, far));
     };

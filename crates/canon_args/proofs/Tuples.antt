@@ -47,7 +47,8 @@ row_turns enc ms Has ws after shaped = record {
 
 -- a tuple in memory is its members there
 tuple_turns : {K : Type 0} (enc : Encoding) (ms : Members) (at : ℕ) (Has : Tree → Type 0) (after : Stage K) → AreProducts Has
-    → Turns false (value_place false (product of_places ms) at ∷ []) (value_place false (product of_places ms) at ∷ []) (value_at false (host_texts enc) (product of_places ms) at Has) (members_at false (host_texts enc) ms 0 at (InParts Has)) after
+    → Turns false (value_place false (product of_places ms) at ∷ []) (value_place false (product of_places ms) at ∷ []) (value_at false (host_texts enc) (product of_places ms) at Has)
+    (members_at false (host_texts enc) ms 0 at (InParts Has)) after
 unfolding requests leaves
 tuple_turns enc ms at Has after shaped = record {
   turn = trees_of;
@@ -63,13 +64,15 @@ tuple_turns enc ms at Has after shaped = record {
 }
 
 module _ {D G : Type 0} (seen : G → Seen) (moves : GuestIn G → List Event → GuestIn G → Type 0) (options : ℕ) (a c : Parts D G) (ms : Members) (at : ℕ) (Has : Tree → Type 0) (gives : List (List Part)) where
-  pub results_near : AreProducts Has → (ws : List ℕ) (r : Result (Unit {0}) Fault) → members_flat ms ≤ max_results → TypedLowers seen moves options a c (product of_places ms) ws 0 Has gives r → TypedResults seen moves options a c ms at ws Has gives r
+  pub results_near : AreProducts Has → (ws : List ℕ) (r : Result (Unit {0}) Fault) → members_flat ms ≤ max_results → TypedLowers seen moves options a c (product of_places ms) ws 0 Has gives r
+      → TypedResults seen moves options a c ms at ws Has gives r
   results_near shaped ws r near h = record {
     handles = h.handles;
     ending = h.ending;
     ends = h.ends;
     lowered = record {
-      near = λ _. attempt_as false (stage_of seen moves a) (stage_of seen moves c) [] [] (value_words false (host_texts (encoding_by a options)) (product of_places ms) ws 0 Has) (members_words false (host_texts (encoding_by a options)) ms ws 0 (InParts Has)) h.ending (λ i q. q)
+      near = λ _. attempt_as false (stage_of seen moves a) (stage_of seen moves c) [] [] (value_words false (host_texts (encoding_by a options)) (product of_places ms) ws 0 Has)
+          (members_words false (host_texts (encoding_by a options)) ms ws 0 (InParts Has)) h.ending (λ i q. q)
           (row_turns (encoding_by a options) ms Has ws (stage_of seen moves c) shaped) h.attempt;
       far = λ far. absurd (omega (arith, near, far));
     };
@@ -81,14 +84,16 @@ module _ {D G : Type 0} (seen : G → Seen) (moves : GuestIn G → List Event �
     small = h.small;
   }
 
-  pub results_far : AreProducts Has → (ws : List ℕ) (r : Result (Unit {0}) Fault) → max_results < members_flat ms → TypedStores seen moves options a c (product of_places ms) at Has gives r → TypedResults seen moves options a c ms at ws Has gives r
+  pub results_far : AreProducts Has → (ws : List ℕ) (r : Result (Unit {0}) Fault) → max_results < members_flat ms → TypedStores seen moves options a c (product of_places ms) at Has gives r
+      → TypedResults seen moves options a c ms at ws Has gives r
   results_far shaped ws r far h = record {
     handles = h.handles;
     ending = h.ending;
     ends = h.ends;
     lowered = record {
       near = λ near. absurd (omega (arith, near, far));
-      far = λ _. attempt_as false (stage_of seen moves a) (stage_of seen moves c) _ _ (value_at false (host_texts (encoding_by a options)) (product of_places ms) at Has) (members_at false (host_texts (encoding_by a options)) ms 0 at (InParts Has)) h.ending (λ i q. q)
+      far = λ _. attempt_as false (stage_of seen moves a) (stage_of seen moves c) _ _ (value_at false (host_texts (encoding_by a options)) (product of_places ms) at Has)
+          (members_at false (host_texts (encoding_by a options)) ms 0 at (InParts Has)) h.ending (λ i q. q)
           (tuple_turns (encoding_by a options) ms at Has (stage_of seen moves c) shaped) h.attempt;
     };
     passed = h.passed;
@@ -120,7 +125,8 @@ module _ {D G : Type 0} (seen : G → Seen) (moves : GuestIn G → List Event �
   }
 
 -- what lowers members one by one lowers their tuple
-pub as_tuple : {K : Type 0} (before after : Stage K) (enc : Encoding) (ms : Members) (Have : Trees → Type 0) (at : ℕ) (ws hs : List ℕ) (ending : Ending) → LowersResults before after enc ms Have at ws hs ending → LowersTuple before after enc ms Have at ws hs ending
+pub as_tuple : {K : Type 0} (before after : Stage K) (enc : Encoding) (ms : Members) (Have : Trees → Type 0) (at : ℕ) (ws hs : List ℕ) (ending : Ending)
+    → LowersResults before after enc ms Have at ws hs ending → LowersTuple before after enc ms Have at ws hs ending
 as_tuple before after enc ms Have at ws hs ending h =
     let span : List Block = members_span false ms 0 at ∷ [] in
     let place : List Block = value_place false (product of_places ms) at ∷ [] in
@@ -133,7 +139,8 @@ as_tuple before after enc ms Have at ws hs ending h =
         is = λ ts have. have;
         is_back = λ ts have. have;
         asks = λ ts have. refl;
-        rep = λ fresh ts is g. (members_framed false (host_texts enc) ms 0 at Have).rep (members_span false ms 0 at ∷ fresh) (value_place false (product of_places ms) at ∷ fresh) after.bytes after.bytes (keeps_same _ _ _ (with_blocks _ _ fresh within)) ts g;
+        rep = λ fresh ts is g. (members_framed false (host_texts enc) ms 0 at Have).rep (members_span false ms 0 at ∷ fresh)
+            (value_place false (product of_places ms) at ∷ fresh) after.bytes after.bytes (keeps_same _ _ _ (with_blocks _ _ fresh within)) ts g;
         home = λ pointer ts xs ys is g. g;
         handles = λ ts is. refl;
       }) (h.far far);

@@ -31,7 +31,8 @@ pub record LowersTuple {K : Type 0} (before after : Stage K) (enc : Encoding) (m
 
 -- Results of these members, which as a tuple have the trees of `Has`, were lowered into these words, or at this address, or why not;
 -- `gives` is what their handles do. They are lowered only where no part is too large.
-pub record TypedResults {D G : Type 0} (seen : G → Seen) (moves : GuestIn G → List Event → GuestIn G → Type 0) (options : ℕ) (before after : Parts D G) (ms : Members) (at : ℕ) (words : List ℕ) (Has : Tree → Type 0) (gives : List (List Part))
+pub record TypedResults {D G : Type 0} (seen : G → Seen) (moves : GuestIn G → List Event → GuestIn G → Type 0) (options : ℕ) (before after : Parts D G) (ms : Members) (at : ℕ) (words : List ℕ)
+    (Has : Tree → Type 0) (gives : List (List Part))
     (result : Result (Unit {0}) Fault) : Type 0 where
   pub handles : List ℕ
   pub ending : Ending

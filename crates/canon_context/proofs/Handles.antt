@@ -14,5 +14,6 @@ placed types ty l r has found small many =
     (has, omega arith)
 
 -- the same where the table was looked up elsewhere
-pub placed_by : (known types : TypeTable) (ty : ℕ) (l : LedgerState) (r : TypeResourceTable) → HasResource types ty → slice_get known.resources ty ≡ Some r → r.instance < 256 → length l.handles.tables ≡ 257 → known ≡ types → HasType (Some types) ty l
+pub placed_by : (known types : TypeTable) (ty : ℕ) (l : LedgerState) (r : TypeResourceTable) → HasResource types ty → slice_get known.resources ty ≡ Some r → r.instance < 256
+    → length l.handles.tables ≡ 257 → known ≡ types → HasType (Some types) ty l
 placed_by known types ty l r has found small many same = placed types ty l r has (subst (λ (t : TypeTable). slice_get t.resources ty ≡ Some r) same found) small many

@@ -78,7 +78,8 @@ module _ (lent : List (List Lender)) where
     removing x (Err e) = same
 
     step_keeps : (s : LedgerStep) → IsHostStep s → AreLent (do_step s l).after.handles
-    step_keeps (HostLiftOwn x) of_host = stale_keeps (is_stale l.host x) _ (after-removing AreLent host_table (λ h. handles.resource_lift_own h host_table (HostIndex x.index)) l same (lift_own_keeps l.handles same host_table (HostIndex x.index)))
+    step_keeps (HostLiftOwn x) of_host = stale_keeps (is_stale l.host x) _
+        (after-removing AreLent host_table (λ h. handles.resource_lift_own h host_table (HostIndex x.index)) l same (lift_own_keeps l.handles same host_table (HostIndex x.index)))
     step_keeps (HostLiftBorrow None x) of_host = stale_keeps (is_stale l.host x) _ (plainly_keeps (handles.resource_lift_borrow None l.handles host_table (HostIndex x.index)) (told_keeps l.handles same host_table (HostIndex x.index)))
     step_keeps (HostDrop x) of_host = dropping x
     step_keeps (HostRemove x) of_host = stale_keeps (is_stale l.host x) _ (removing x (ledger.resource_rep l host_table (HostIndex x.index)))

@@ -49,7 +49,8 @@ module _ (f : Event → ℕ) (none : CountsNone f) where
 
   in_reallocs : (events : List Event) → Each IsRealloc events → sum_by f events ≡ 0
   in_reallocs [] each = refl
-  in_reallocs (event.Realloc old old_size align new_size answer ∷ es) each = let h = none.realloc old old_size align new_size answer in let more = in_reallocs es each.1 in let sum = sum_by-cons f (event.Realloc old old_size align new_size answer) es in omega (arith, h, more, sum)
+  in_reallocs (event.Realloc old old_size align new_size answer ∷ es) each = let h = none.realloc old old_size align new_size answer in let more = in_reallocs es each.1 in let sum =
+      sum_by-cons f (event.Realloc old old_size align new_size answer) es in omega (arith, h, more, sum)
   in_reallocs (event.Start func words memory ∷ es) each = absurd each.0
   in_reallocs (event.Ask index words memory ∷ es) each = absurd each.0
   in_reallocs (event.Resume words memory ∷ es) each = absurd each.0
@@ -136,7 +137,8 @@ no_more n (event.Dtor func rep ∷ es) = no_more n es
 no_more n (event.Trap why len ∷ es) = no_more n es
 
 -- in a run all asks are those of the turns
-pub all_in_turns : (n : ℕ) (answers : List Answer) (trap : Option Trap) (func : ℕ) (post : Option ℕ) (words memory : List ℕ) (turns : List AskTurn) (tail events : List Event) → events ≡ events_of answers trap ++ ((event.Start func words memory ∷ events_in turns) ++ tail)
+pub all_in_turns : (n : ℕ) (answers : List Answer) (trap : Option Trap) (func : ℕ) (post : Option ℕ) (words memory : List ℕ) (turns : List AskTurn) (tail events : List Event)
+    → events ≡ events_of answers trap ++ ((event.Start func words memory ∷ events_in turns) ++ tail)
     → Each IsNoResume tail → IsOneRun func post events → asks_of n events ≡ asks_of n (events_in turns)
 all_in_turns n answers trap func post words memory turns tail events is none (words2, memory2, returned, after, run) =
     let asks = ap (sum_by is_ask) is ∙ started is_ask asks_none answers trap func words memory turns tail in
@@ -158,7 +160,8 @@ example_none_asked n answers trap =
     omega (arith, cut, zero, end)
 
 -- whatever was asked for before the start
-pub all_asks : (n : ℕ) (answers : List Answer) (trap : Option Trap) (func : ℕ) (post : Option ℕ) (turns : List AskTurn) (late : List Answer) (late_trap : Option Trap) (tail later events : List Event) → events ≡ events_of answers trap ++ later
+pub all_asks : (n : ℕ) (answers : List Answer) (trap : Option Trap) (func : ℕ) (post : Option ℕ) (turns : List AskTurn) (late : List Answer) (late_trap : Option Trap) (tail later events : List Event)
+    → events ≡ events_of answers trap ++ later
     → MayStart func turns late late_trap tail later → IsOneRun func post events → asks_of n events ≡ asks_of n (events_in turns)
 all_asks n answers trap func post turns late late_trap tail later events is (inl (none, no_turns, no_late, no_trap, no_tail)) run =
     ap (asks_of n) (is ∙ ap (λ l. events_of answers trap ++ l) none) ∙ (example_none_asked n answers trap ∙ sym (ap (λ ts. asks_of n (events_in ts)) no_turns))

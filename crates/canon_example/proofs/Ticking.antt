@@ -59,7 +59,8 @@ imports_in component (Some e) = refl
 -- ---- one ask
 
 -- the clock goes on by one where it is called
-called_once : (form : HostFuncForm Clock) → IsClock form → (answers : Answering Clock) (index : ℕ) (log : Option (List LoggedEntry)) (what : Asked) (reached : InView Clock) (params : (ask_form form).Params) (answer : Result (ask_form form).Results HostStop) (state : Clock) (ledger : LedgerState)
+called_once : (form : HostFuncForm Clock) → IsClock form → (answers : Answering Clock) (index : ℕ) (log : Option (List LoggedEntry)) (what : Asked) (reached : InView Clock)
+    (params : (ask_form form).Params) (answer : Result (ask_form form).Results HostStop) (state : Clock) (ledger : LedgerState)
     → (ask_form form).gave answers index log what reached params answer state ledger → state.now ≡ (reached.state.now + 1) % 2 ^ 32
 called_once (over_values may) is answers index log what reached params answer state ledger gave = (is what.func reached params.items answer state ledger gave.0).0
 called_once (over_types types may) is answers index log what reached params answer state ledger gave = absurd is
@@ -92,7 +93,8 @@ module _ (gives : Giving Clock) (clocks : AreClocks gives) (callee : Callee) (li
         let count = all_asks 0 h.answers h.trap callee.func callee.post h.turns h.late h.late_trap h.tail h.later events h.in_parts h.starts h.one_run in
         ap (λ (s : HostSide Clock). s.state.now) kept ∙ (in_turns h.turns (record host { ledger = lowered }) served serves ∙ ap (λ k. after_ticks k host.state.now) (sym count))
 
-    ticked : (answer : Result (Unit {0}) Error) (results : R) → IsOk answer → IsCallOf args its Lives Leaves gives callee limits before after host left (with_results answer results) events → left.state.now ≡ after_ticks (asks_of 0 events) host.state.now
+    ticked : (answer : Result (Unit {0}) Error) (results : R) → IsOk answer → IsCallOf args its Lives Leaves gives callee limits before after host left (with_results answer results) events
+        → left.state.now ≡ after_ticks (asks_of 0 events) host.state.now
     ticked (Ok x) results ok h = in_call results h
     ticked (Err e) results ok h = absurd (cc)
 
@@ -103,7 +105,8 @@ example_no_refusal (Err e) ok = absurd (cc)
 
 -- ---- in a component of the notes
 
-pub clock_ticked : (gives : Giving Clock) → AreClocks gives → (store : ℕ) (component : Component) (export : Option Export) → IsNotes store component → (limits : Limits) {R : Type 0} (args : Arguments) (its : ReturnedValues R) (Lives : List Leg → List Event → Type 0)
+pub clock_ticked : (gives : Giving Clock) → AreClocks gives → (store : ℕ) (component : Component) (export : Option Export) → IsNotes store component
+    → (limits : Limits) {R : Type 0} (args : Arguments) (its : ReturnedValues R) (Lives : List Leg → List Event → Type 0)
     (Leaves : List ℕ → List ℕ → Type 0) (before after : Moment) (host left : HostSide Clock) (answer : Result (Unit {0}) Error) (results : R) (old new events : List Event) → IsOk answer → AddsEvents (Some old) (Some new) events
     → IsCallOf args its Lives Leaves gives (callee_in component export) limits before after host left (with_results answer results) events → left.state.now ≡ after_ticks (asks_of 0 (added_events old new)) host.state.now
 clock_ticked gives clocks store component export notes limits args its Lives Leaves before after host left answer results old new events ok added h =

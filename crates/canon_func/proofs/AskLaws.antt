@@ -37,7 +37,8 @@ pub record AskSound {T : Type 0} (its : AskForm T) : Type 0 where
   pub calm : (store : ℕ) (callee : Callee) (fuel : ℕ) (asked : Asked) (words memory : List ℕ) (l n : LedgerState) (f : Fault) → its.lifts store callee fuel asked words memory l (Err f) n → ¬ (f ≡ fault.GuestTrap)
   pub unlifted : (store : ℕ) (callee : Callee) (fuel : ℕ) (asked : Asked) (words memory : List ℕ) (l n : LedgerState) (f : Fault) → its.lifts store callee fuel asked words memory l (Err f) n
       → LeavesStop (stop_of f) l (its.parts store callee asked words memory) n
-  pub lift_excluded : (store : ℕ) (callee : Callee) (fuel : ℕ) (asked : Asked) (words memory : List ℕ) (l n : LedgerState) (index : ℕ) (f : Fault) → its.liftable store callee fuel asked words memory l → its.lifts store callee fuel asked words memory l (Err f) n
+  pub lift_excluded : (store : ℕ) (callee : Callee) (fuel : ℕ) (asked : Asked) (words memory : List ℕ) (l n : LedgerState) (index : ℕ) (f : Fault)
+      → its.liftable store callee fuel asked words memory l → its.lifts store callee fuel asked words memory l (Err f) n
       → asked_error index f ≡ error.Fault fault.OutOfMemory
   -- lowering goes through the handles, or up to some step; and where the guest trapped, the last request did
   pub given : (callee : Callee) (asked : Asked) (at : ℕ) (from to : Moment) (results : its.Results) (low : List ℕ) (answers : List Answer) (trap : Option Trap) (l n : LedgerState)
@@ -62,7 +63,8 @@ asked_answer index (Ok x) = Ok tt
 asked_answer index (Err f) = Err (asked_error index f)
 
 -- Results were lowered on the way from one core to another, from this ledger.
-pub record LowersAs {T G : Type 0} (its : AskForm T) (seen : G → Seen) (moves : GuestIn G → List Event → GuestIn G → Type 0) (index : ℕ) (a b : Parts T G) (callee : Callee) (asked : Asked) (storage2 : List ℕ) (at : ℕ) (results : its.Results) (l : LedgerState)
+pub record LowersAs {T G : Type 0} (its : AskForm T) (seen : G → Seen) (moves : GuestIn G → List Event → GuestIn G → Type 0) (index : ℕ) (a b : Parts T G) (callee : Callee) (asked : Asked)
+    (storage2 : List ℕ) (at : ℕ) (results : its.Results) (l : LedgerState)
     (r : Result (Unit {0}) Fault) : Type 0 where
   pub answers : List Answer
   pub trap : Option Trap
@@ -74,7 +76,8 @@ pub record LowersAs {T G : Type 0} (its : AskForm T) (seen : G → Seen) (moves 
   pub moved : OnAnswered {T = Unit {0}} (asked_answer index r) (moves (guest_of a) (events_of answers trap) (guest_of b))
 
 -- The steps of a form, of an ask on the way from one core to another, say what is said of it; `Logged` is the log after an ask that was served.
-pub record FollowsSteps {T G P S : Type 0} (its : AskForm T) (answers_so : Answering T) (how : Steps T G its.Params P its.Results S) (Logged : Values P its.Results → Option (List LoggedEntry)) (seen : G → Seen) (moves : GuestIn G → List Event → GuestIn G → Type 0)
+pub record FollowsSteps {T G P S : Type 0} (its : AskForm T) (answers_so : Answering T) (how : Steps T G its.Params P its.Results S) (Logged : Values P its.Results → Option (List LoggedEntry))
+    (seen : G → Seen) (moves : GuestIn G → List Event → GuestIn G → Type 0)
     (log : Option (List LoggedEntry)) (index : ℕ) (a b : Parts T G) (callee : Callee) (asked : Asked) (words pad storage2 : List ℕ) : Type 0 where
   pub declines : (e : HostError) → how.declines a e → its.declines callee asked index log (host_error index e)
   pub lifts : (l : LedgerState) (r : Result its.Params Fault) (lifted : Parts T G) → how.lifts (record a { ledger = l }) (words ++ pad) r lifted

@@ -86,7 +86,8 @@ module _ {T : Type 0} (gives : Giving T) (callee : Callee) (limits : Limits) (Li
     }
 
     pub has_exhausted : (asks : (legs : List Leg) (xs : List Event) → Lives legs xs → Lives (legs ++ record { events = xs; live = living now.guest } ∷ []) []) (index : ℕ) (asked : List ℕ)
-        → Stepping gives callee limits Lives words before now host served count (step.Import index asked) → count ≡ limits.turns → Serving before now (Lives []) (MayRun gives callee limits Lives words before now host served (Err error.TurnsExhausted))
+        → Stepping gives callee limits Lives words before now host served count (step.Import index asked) → count ≡ limits.turns
+        → Serving before now (Lives []) (MayRun gives callee limits Lives words before now host served (Err error.TurnsExhausted))
     has_exhausted asks index asked h all = record {
       answers = answers_in h.turns;
       events = so_far callee words before h.turns (event.Ask index asked now.bytes ∷ []);
@@ -137,8 +138,10 @@ module _ {T : Type 0} (gives : Giving T) (callee : Callee) (fuel index : ℕ) (w
 -- ---- an ask of a builtin
 
 -- its step was taken, and the guest was resumed with the answer
-pub builtin_resumed : {T : Type 0} (gives : Giving T) (callee : Callee) (fuel index : ℕ) (words : List ℕ) (a b : Moment) (l n : HostSide T) (called : Builtin) → IsAskOf callee index words called → (answer : ℕ) (result : Result Step Error) (M : List Event → Type 0)
-    → ask_step callee.types called words l.ledger ≡ record { answer = Ok answer; after = n.ledger } → n ≡ record l { ledger = n.ledger } → Proceeds a b M (Resumed (answer ∷ []) a b result) → Serving a b M (ServesAsk gives callee fuel index words a b l n result)
+pub builtin_resumed : {T : Type 0} (gives : Giving T) (callee : Callee) (fuel index : ℕ) (words : List ℕ) (a b : Moment) (l n : HostSide T) (called : Builtin) → IsAskOf callee index words called
+    → (answer : ℕ) (result : Result Step Error) (M : List Event → Type 0)
+    → ask_step callee.types called words l.ledger ≡ record { answer = Ok answer; after = n.ledger } → n ≡ record l { ledger = n.ledger } → Proceeds a b M (Resumed (answer ∷ []) a b result)
+    → Serving a b M (ServesAsk gives callee fuel index words a b l n result)
 builtin_resumed gives callee fuel index words a b l n called is answer result M taken kept second = record {
   answers = [];
   events = second.events;
@@ -152,15 +155,24 @@ builtin_resumed gives callee fuel index words a b l n called is answer result M 
 -- ---- an ask of a function of the host
 
 module _ {T : Type 0} (gives : Giving T) (callee : Callee) (fuel : ℕ) (asked : Asked) (index : ℕ) (words : List ℕ) where
-  stops_so : (a b : Moment) (l n : HostSide T) (e : Error) (answers : List Answer) (es : List Event) (trap : Option Trap) → HostStops gives callee fuel asked index words a b answers trap l n e → es ≡ events_of answers trap → TrapsLate (length a.bytes) trap → RisesAt e a b
+  stops_so : (a b : Moment) (l n : HostSide T) (e : Error) (answers : List Answer) (es : List Event) (trap : Option Trap) → HostStops gives callee fuel asked index words a b answers trap l n e
+      → es ≡ events_of answers trap → TrapsLate (length a.bytes) trap → RisesAt e a b
       → ServesAsk gives callee fuel index words a b l n (Err e) answers es
-  stops_so a b l n (error.ImportFault k f) answers es trap h are late rises = (trap, (host_tells (ask_at gives index) (form_sound (gives.form index)) gives.answers callee fuel asked index words a b answers trap l n (error.ImportFault k f) h, inr (asked, h)), are, late, rises)
-  stops_so a b l n (error.HostRefused k) answers es trap h are late rises = (trap, (host_tells (ask_at gives index) (form_sound (gives.form index)) gives.answers callee fuel asked index words a b answers trap l n (error.HostRefused k) h, (asked, h)), are, late, rises)
+  stops_so a b l n (error.ImportFault k f) answers es trap h are late rises = (
+    trap,
+    (host_tells (ask_at gives index) (form_sound (gives.form index)) gives.answers callee fuel asked index words a b answers trap l n (error.ImportFault k f) h, inr (asked, h)),
+    are,
+    late,
+    rises,
+  )
+  stops_so a b l n (error.HostRefused k) answers es trap h are late rises =
+      (trap, (host_tells (ask_at gives index) (form_sound (gives.form index)) gives.answers callee fuel asked index words a b answers trap l n (error.HostRefused k) h, (asked, h)), are, late, rises)
   stops_so a b l n (error.Fault fault.OutOfMemory) answers es trap h are late rises = (trap, inr (inl (asked, h)), are, late, rises)
   stops_so a b l n e answers es trap h are late rises = absurd (host_tells (ask_at gives index) (form_sound (gives.form index)) gives.answers callee fuel asked index words a b answers trap l n e h)
 
   -- there was no room for its storage
-  pub no_storage : (s : Seen) (bytes : List ℕ) (l : HostSide T) (M : List Event → Type 0) → M [] → IsHostAsk callee index words asked → Serving (moment s bytes) (moment s bytes) M (ServesAsk gives callee fuel index words (moment s bytes) (moment s bytes) l l (Err (error.Fault fault.OutOfMemory)))
+  pub no_storage : (s : Seen) (bytes : List ℕ) (l : HostSide T) (M : List Event → Type 0) → M [] → IsHostAsk callee index words asked
+      → Serving (moment s bytes) (moment s bytes) M (ServesAsk gives callee fuel index words (moment s bytes) (moment s bytes) l l (Err (error.Fault fault.OutOfMemory)))
   no_storage s bytes l M stays is = nothing s bytes M (ServesAsk gives callee fuel index words (moment s bytes) (moment s bytes) l l (Err (error.Fault fault.OutOfMemory))) stays
       (None, inr (inl (asked, record { is = is; stops = inl ((form_sound (gives.form index)).short callee asked index _, refl, refl, none_asked bytes); told = refl; counted = refl; same_store = refl })), refl, tt, tt)
 
@@ -176,7 +188,8 @@ module _ {T : Type 0} (gives : Giving T) (callee : Callee) (fuel : ℕ) (asked :
   }
 
   -- it was served, and the guest was resumed
-  pub then_resumed : (a m b : Moment) (l k n : HostSide T) → n ≡ k → (storage : List ℕ) (count : ℕ) (result : Result Step Error) (M N O : List Event → Type 0) → ((xs ys : List Event) → M xs → N ys → O (xs ++ ys)) → count ≡ row_words (asked_results callee asked)
+  pub then_resumed : (a m b : Moment) (l k n : HostSide T) → n ≡ k → (storage : List ℕ) (count : ℕ) (result : Result Step Error) (M N O : List Event → Type 0)
+      → ((xs ys : List Event) → M xs → N ys → O (xs ++ ys)) → count ≡ row_words (asked_results callee asked)
       → Serving a m M (HostAsked gives callee fuel asked index words a m l k storage (Ok tt)) → Proceeds m b N (Resumed (take count storage) m b result) → Serving a b O (ServesAsk gives callee fuel index words a b l n result)
   then_resumed a m b l k n same storage count result M N O f is first second =
       let served : IsHostServed gives callee fuel (ask_turn index words (living a.guest) a.bytes first.answers (take count storage) m.bytes) l n =
@@ -196,7 +209,27 @@ module _ {T : Type 0} (gives : Giving T) (callee : Callee) (fuel index : ℕ) (w
   pub refused_step : (e : ResourceFault) → Did (ask_step callee.types called words l.ledger) (Err e) l.ledger n.ledger → ServesAsk gives callee fuel index words a a l n (Err (asked_error index (fault.Resource e))) [] []
   refused_step resource.OutOfMemory (inl h) = (None, inl (record { called = called; is = is; left = inr h.1; kept = kept }, refl, refl), refl, tt, tt)
   refused_step resource.OutOfMemory (inr h) = (None, inl (record { called = called; is = is; left = inl h.1; kept = kept }, refl, refl), refl, tt, tt)
-  refused_step e (inl h) = (None, (refl, inl (record { called = called; is = is; why = e; told = refl; refused = done_is (ask_step callee.types called words l.ledger) (Err e) n.ledger h.0 h.1; fault = refl; kept = kept }, none_asked a.bytes)), refl, tt, tt)
+  refused_step e (inl h) = (
+    None,
+    (
+      refl,
+      inl (
+        record {
+          called = called;
+          is = is;
+          why = e;
+          told = refl;
+          refused = done_is (ask_step callee.types called words l.ledger) (Err e) n.ledger h.0 h.1;
+          fault = refl;
+          kept = kept;
+        },
+        none_asked a.bytes,
+      ),
+    ),
+    refl,
+    tt,
+    tt,
+  )
   refused_step e (inr h) = cc
 
 -- the only word
@@ -221,7 +254,8 @@ module _ (component : Component) (export : Export) (index : ℕ) (words : List �
 
   -- a function of the host, with as many words as it takes
   pub host_asked : (asked : Asked) (ty options : ℕ) (found : Option Import) (first second : Component) (n : ℕ) → first ≡ component → second ≡ component → found ≡ slice_get first.imports.items index → found ≡ Some called
-      → called ≡ import.Host ty options → ((e : Export) → n ≡ import_words (export_callee second e) called) → length words ≡ n → IsAsked component asked → asked.ty ≡ ty → asked.options ≡ options → IsHostAsk (export_callee component export) index words asked
+      → called ≡ import.Host ty options → ((e : Export) → n ≡ import_words (export_callee second e) called) → length words ≡ n → IsAsked component asked → asked.ty ≡ ty → asked.options ≡ options
+      → IsHostAsk (export_callee component export) index words asked
   host_asked asked ty options found first second n same also is some host words_are count sound ty_is options_are =
       let called_is : called ≡ import.Host asked.ty asked.options = host ∙ (λ i. import.Host (sym ty_is i) (sym options_are i)) in
       record {

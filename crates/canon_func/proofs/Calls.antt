@@ -98,7 +98,8 @@ ask_cause_after callee limits entry mid after xs ys tail (error.ImportFault n f)
 ask_cause_after callee limits entry mid after xs ys tail (error.HostRefused n) none g h = h
 ask_cause_after callee limits entry mid after xs ys tail e none g h = absurd h
 
-cause_after : {R : Type 0} (args : Arguments) (its : ReturnedValues R) (callee : Callee) (limits : Limits) (entry mid after : Moment) (xs ys tail : List Event) (e : Error) → asks_in (xs ++ ys) ≡ asks_in ys → entry.guest.traps ≤ mid.guest.traps
+cause_after : {R : Type 0} (args : Arguments) (its : ReturnedValues R) (callee : Callee) (limits : Limits) (entry mid after : Moment) (xs ys tail : List Event) (e : Error)
+    → asks_in (xs ++ ys) ≡ asks_in ys → entry.guest.traps ≤ mid.guest.traps
     → RestCause its callee limits mid after ys tail e → Cause args its callee limits entry after (xs ++ ys) tail e
 cause_after args its callee limits entry mid after xs ys tail error.WrongWords none g (inl h) = inl (ends_after _ xs ys h)
 cause_after args its callee limits entry mid after xs ys tail error.WrongWords none g (inr h) = inr (ask_cause_after callee limits entry mid after xs ys tail error.WrongWords none g h)
@@ -141,7 +142,8 @@ each_start P p [] = tt
 each_start P p (event.Start f ws m ∷ events) = (p, each_start P p events)
 each_start P p (e ∷ events) = (tt, each_start P p events)
 
-module _ {T R : Type 0} (args : Arguments) (its : ReturnedValues R) (gives : Giving T) (callee : Callee) (limits : Limits) (P Q : List Leg → List Event → Type 0) (Leaves : List ℕ → List ℕ → Type 0) (entry mid after : Moment) (l0 l1 l2 : HostSide T)
+module _ {T R : Type 0} (args : Arguments) (its : ReturnedValues R) (gives : Giving T) (callee : Callee) (limits : Limits) (P Q : List Leg → List Event → Type 0) (Leaves : List ℕ → List ℕ → Type 0)
+    (entry mid after : Moment) (l0 l1 l2 : HostSide T)
     (same : l1 ≡ record l0 { ledger = l1.ledger }) (words : List ℕ) (answers : List Answer) (given : List ℕ) (later : List Event) where
   abbrev call_first : List Event
   call_first = events_of answers None

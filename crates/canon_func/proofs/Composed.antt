@@ -64,7 +64,8 @@ module _ {T R : Type 0} (its : ReturnedValues R) (gives : Giving T) (callee : Ca
   joined_run before turns ret later = ap (λ es. event.Start callee.func words before.bytes ∷ es) (append_assoc (events_in turns) (ret ∷ []) later)
 
   -- a rest from what came after the turns, which is said of the host as the guest left it
-  rest_of_ran : (P : List Leg → List Event → Type 0) (a b c : Moment) (l m l2 : HostSide T) (returned : List ℕ) (answer : Result R Error) (answers : List Answer) (xs later : List Event) (ran : RunsUntil gives callee limits P words a b l m (Ok returned) answers xs)
+  rest_of_ran : (P : List Leg → List Event → Type 0) (a b c : Moment) (l m l2 : HostSide T) (returned : List ℕ) (answer : Result R Error) (answers : List Answer) (xs later : List Event)
+      (ran : RunsUntil gives callee limits P words a b l m (Ok returned) answers xs)
       → Advances a c → ((legs : List Leg) (es : List Event) → P legs es → Lives legs (es ++ later))
       → IsTail its gives callee limits Leaves a c (length ran.turns) ran.len m l2 answer a.guest [] None (event.Return returned b.bytes ∷ later) → IsRest its gives callee limits Lives Leaves words a c l l2 answer answers (xs ++ later)
   rest_of_ran P a b c l m l2 returned answer answers xs later ran on f h =
@@ -78,7 +79,9 @@ module _ {T R : Type 0} (its : ReturnedValues R) (gives : Giving T) (callee : Ca
       (subst (λ (k : HostSide T). IsTail its gives callee limits Leaves a c (length ran.turns) ran.len k l2 answer a.guest [] None tail) ran.stopped.1.2 h))
 
   -- the guest returned, and the scope ended
-  pub run_returned : (a b c : Moment) (l m l2 : HostSide T) → l2 ≡ record m { ledger = l2.ledger } → (returned : List ℕ) (answer : Result R Error) (P : List Leg → List Event → Type 0) (N : List Event → Type 0) → ((legs : List Leg) (xs ys : List Event) → P legs xs → N ys → Lives legs (xs ++ ys))
+  pub run_returned : (a b c : Moment) (l m l2 : HostSide T) → l2 ≡ record m { ledger = l2.ledger }
+      → (returned : List ℕ) (answer : Result R Error) (P : List Leg → List Event → Type 0) (N : List Event → Type 0)
+      → ((legs : List Leg) (xs ys : List Event) → P legs xs → N ys → Lives legs (xs ++ ys))
       → Serving a b (P []) (RunsToEnd gives callee limits P words a b l m (Ok returned)) → Proceeds b c N (Concluded its Leaves callee limits.fuel returned b c m.ledger l2.ledger answer)
       → Serving a c (Lives []) (IsRest its gives callee limits Lives Leaves words a c l l2 answer)
   run_returned a b c l m l2 kept returned answer P N f first second =
@@ -131,7 +134,8 @@ module _ {T R : Type 0} (its : ReturnedValues R) (gives : Giving T) (callee : Ca
 
 module _ {T : Type 0} (gives : Giving T) (callee : Callee) (limits : Limits) (Lives : List Leg → List Event → Type 0) (words : List ℕ) (a b : Moment) (l m n : HostSide T) (kept : n ≡ record m { ledger = n.ledger }) (returned : List ℕ) where
   -- a run, said otherwise
-  run_so : (Q : List Leg → List Event → Type 0) → ((legs : List Leg) (es : List Event) → Lives legs es → Q legs es) → (r : Result (List ℕ) Error) (answers : List Answer) (es : List Event) → RunsUntil gives callee limits Lives words a b l m r answers es
+  run_so : (Q : List Leg → List Event → Type 0) → ((legs : List Leg) (es : List Event) → Lives legs es → Q legs es) → (r : Result (List ℕ) Error) (answers : List Answer) (es : List Event)
+      → RunsUntil gives callee limits Lives words a b l m r answers es
       → RunsUntil gives callee limits Q words a b l m r answers es
   run_so Q f r answers es h = record {
     turns = h.turns;
@@ -258,7 +262,8 @@ module _ {T R : Type 0} (args : Arguments) (its : ReturnedValues R) (gives : Giv
   core_refused law a b l0 l2 left (error.Fault f) es moves (inl (short, same, kept, none)) = subst (λ fs. IsCallOf args its Lives Leaves gives callee limits a b l0 l2 (Err (error.Fault f)) fs) (sym none)
       (subst (λ g. IsCallOf args its Lives Leaves gives callee limits a b l0 l2 (Err (error.Fault g)) []) (sym short)
       (short_call args its gives callee limits Lives Leaves a b l0 l2 (subst (λ fs. Lives [] fs) none moves) same (inr (inl (tt, stops_at_once (enter l0.ledger) l2.ledger args.parts kept, left)))))
-  core_refused law a b l0 l2 left (error.Fault f) es moves (inr (words, handles, ending, low, ends, blames, told, is, quiet, stops)) = subst (λ fs. IsCallOf args its Lives Leaves gives callee limits a b l0 l2 (Err (error.Fault f)) fs) (sym is)
+  core_refused law a b l0 l2 left (error.Fault f) es moves (inr (words, handles, ending, low, ends, blames, told, is, quiet, stops)) =
+      subst (λ fs. IsCallOf args its Lives Leaves gives callee limits a b l0 l2 (Err (error.Fault f)) fs) (sym is)
       (refused_call args its gives callee limits Lives Leaves law a b l0 l2 left f ending words handles low (subst (λ fs. Lives [] fs) is moves) ends blames told quiet stops)
   core_refused law a b l0 l2 left error.WrongCount es moves h = absurd h
   core_refused law a b l0 l2 left error.AsyncLifted es moves h = absurd h

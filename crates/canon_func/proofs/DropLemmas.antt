@@ -79,7 +79,8 @@ module _ {T G : Type 0} (seen : G → Seen) (moves : GuestIn G → List Event �
 
   module _ {I : Type 0} (stays : (g : GuestIn G) → moves g [] g) (x : GivenIndex) (before after : StoreView T G I) where
     -- the handle wasn't removed
-    pub not_removed : (e : Error) → SameButLedger before.core after.core → after.imports ≡ before.imports → after.turns ≡ before.turns → after.trapped ≡ before.trapped → Removes before.core.ledger x after.core.ledger (Err e) → IsDrop seen moves Leaves x before after (Err e)
+    pub not_removed : (e : Error) → SameButLedger before.core after.core → after.imports ≡ before.imports → after.turns ≡ before.turns → after.trapped ≡ before.trapped
+        → Removes before.core.ledger x after.core.ledger (Err e) → IsDrop seen moves Leaves x before after (Err e)
     not_removed (error.Fault fault.OutOfMemory) same imports turns trapped unchanged = record {
       outcome = inl (λ i. record { core = (same ∙ ap (λ (l : LedgerState). record before.core { ledger = l }) unchanged) i; imports = imports i; turns = turns i; trapped = trapped i });
       destructor = ran_not stays before.core after.core (ap (λ k. k.guest) same) (ap (λ k. k.memory) same) (ap (λ k. k.wide) same) (destructor_at before.core.ledger x) (error.Fault fault.OutOfMemory) (no_events _ before.core.memory);

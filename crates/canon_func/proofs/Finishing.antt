@@ -67,7 +67,8 @@ module _ {T G R : Type 0} (its : ReturnedValues R) (gives : Giving T) (callee : 
           let concluded : Proceeds (moment_of seen ran) (moment_of seen after) N (Concluded its Leaves callee limits.fuel returned (moment_of seen ran) (moment_of seen after) ran.ledger lifted.ledger (Err e)) =
           conclude_failed its Leaves callee limits.fuel returned ran.ledger (moment_of seen ran) (moment_of seen after) lifted.ledger results h e (λ es. OnAnswered {T = Unit {0}} (Err e) (moves (guest_of ran) es (guest_of after))) N
           (λ es q. retyped (Unit {0}) U e (moves (guest_of ran) es (guest_of after)) q) (finished (Err e) p) in
-          run_returned its gives callee limits (LivesUntil {U = U} seen moves (guest_of before) (guest_of after) (Err e)) Leaves law words (moment_of seen before) (moment_of seen ran) (moment_of seen after) host (host_side ran log refusals) (host_side after log refusals)
+          run_returned its gives callee limits (LivesUntil {U = U} seen moves (guest_of before) (guest_of after) (Err e)) Leaves law words (moment_of seen before) (moment_of seen ran)
+          (moment_of seen after) host (host_side ran log refusals) (host_side after log refusals)
           (side_handles ran after log refusals from_ran) returned (Err e)
           (LivesUntil {U = List ℕ} seen moves (guest_of before) (guest_of ran) (Ok returned)) N
           (lives_then seen moves U (List ℕ) returned (Err e) (guest_of before) (guest_of ran) (guest_of after) goes_on) first
@@ -76,7 +77,8 @@ module _ {T G R : Type 0} (its : ReturnedValues R) (gives : Giving T) (callee : 
       -- and the whole was done
       pub completed : {U : Type 0} (u : U) → after.ledger ≡ leave lifted.ledger → Finished lifted (Ok tt) after → Rest {U = U} (Ok u) (Ok results) after
       completed {U} u left p =
-          run_returned its gives callee limits (LivesUntil {U = U} seen moves (guest_of before) (guest_of after) (Ok u)) Leaves law words (moment_of seen before) (moment_of seen ran) (moment_of seen after) host (host_side ran log refusals) (host_side after log refusals)
+          run_returned its gives callee limits (LivesUntil {U = U} seen moves (guest_of before) (guest_of after) (Ok u)) Leaves law words (moment_of seen before) (moment_of seen ran)
+          (moment_of seen after) host (host_side ran log refusals) (host_side after log refusals)
           (side_handles ran after log refusals from_ran) returned (Ok results)
           (LivesUntil {U = List ℕ} seen moves (guest_of before) (guest_of ran) (Ok returned)) (λ es. moves (guest_of ran) es (guest_of after))
           (lives_then seen moves U (List ℕ) returned (Ok u) (guest_of before) (guest_of ran) (guest_of after) goes_on) first

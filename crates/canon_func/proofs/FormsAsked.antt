@@ -25,17 +25,21 @@ module _ {T G : Type 0} (L : GuestLaws G) (gives : Giving T) (log log2 : Option 
   abbrev AskedBy : AskForm T → Result (Unit {0}) Error → Type 0
   AskedBy its r = Out its L.seen L.moves gives.answers log log2 refusals refusals2 index a b export asked words storage2 r
 
-  served_by : (form : HostFuncForm T) → row_words (asked_results (export_callee a.component export) asked) ≤ length storage2 → ServesForm gives log index L.seen L.moves asked form log2 refusals refusals2 a storage (Ok tt) b storage2 → AskedBy (ask_form form) (Ok tt)
+  served_by : (form : HostFuncForm T) → row_words (asked_results (export_callee a.component export) asked) ≤ length storage2
+      → ServesForm gives log index L.seen L.moves asked form log2 refusals refusals2 a storage (Ok tt) b storage2 → AskedBy (ask_form form) (Ok tt)
   served_by (over_values may) room h =
-      logged_served (ask_values may) (values_sound may) L.seen L.moves gives.answers log log2 refusals refusals2 index a b export asked words pad storage2 is (steps_of_values gives log index L.seen L.moves asked may) (λ told. logged log (logged_entry index told))
+      logged_served (ask_values may) (values_sound may) L.seen L.moves gives.answers log log2 refusals refusals2 index a b export asked words pad storage2 is
+      (steps_of_values gives log index L.seen L.moves asked may) (λ told. logged log (logged_entry index told))
       (values_follow may L gives log index a b export asked words pad storage2 is) storage front room h
   served_by (over_types types may) room h =
       logged_served (ask_types types may) (types_sound types may) L.seen L.moves gives.answers log log2 refusals refusals2 index a b export asked words pad storage2 is (steps_of_types types may log L.seen L.moves asked) (λ told. log)
       (types_follow types may L gives log index a b export asked words pad storage2 is) storage front room h
 
-  stopped_by : (form : HostFuncForm T) → L.moves (guest_of a) [] (guest_of a) → (e : HostError) → ServesForm gives log index L.seen L.moves asked form log2 refusals refusals2 a storage (Err e) b storage2 → AskedBy (ask_form form) (Err (host_error index e))
+  stopped_by : (form : HostFuncForm T) → L.moves (guest_of a) [] (guest_of a) → (e : HostError)
+      → ServesForm gives log index L.seen L.moves asked form log2 refusals refusals2 a storage (Err e) b storage2 → AskedBy (ask_form form) (Err (host_error index e))
   stopped_by (over_values may) stays e h =
-      logged_stopped (ask_values may) (values_sound may) L.seen L.moves gives.answers log log2 refusals refusals2 index a b export asked words pad storage2 is (steps_of_values gives log index L.seen L.moves asked may) (λ told. logged log (logged_entry index told))
+      logged_stopped (ask_values may) (values_sound may) L.seen L.moves gives.answers log log2 refusals refusals2 index a b export asked words pad storage2 is
+      (steps_of_values gives log index L.seen L.moves asked may) (λ told. logged log (logged_entry index told))
       (values_follow may L gives log index a b export asked words pad storage2 is) storage front stays e h
   stopped_by (over_types types may) stays e h =
       logged_stopped (ask_types types may) (types_sound types may) L.seen L.moves gives.answers log log2 refusals refusals2 index a b export asked words pad storage2 is (steps_of_types types may log L.seen L.moves asked) (λ told. log)

@@ -48,7 +48,8 @@ area_excludes bytes ms ws k at f area (inr (e, aligned, past)) = let same : at �
 told_short : (index : ℕ) (f : Fault) → f ≡ fault.OutOfMemory → asked_error index f ≡ error.Fault fault.OutOfMemory
 told_short index f is = ap (asked_error index) is
 
-module _ {T : Type 0} (its : AskForm T) (sound : AskSound its) (lawful : AskLawful its) (answers_so : Answering T) (callee : Callee) (fuel : ℕ) (asked : Asked) (index : ℕ) (words : List ℕ) (from to : Moment) (answers : List Answer) (trap : Option Trap) (before after : HostSide T)
+module _ {T : Type 0} (its : AskForm T) (sound : AskSound its) (lawful : AskLawful its) (answers_so : Answering T) (callee : Callee) (fuel : ℕ) (asked : Asked) (index : ℕ) (words : List ℕ)
+    (from to : Moment) (answers : List Answer) (trap : Option Trap) (before after : HostSide T)
     (kept : AllLawful answers) (none : trap ≡ None) where
   given_excluded : (results : its.Results) (called : LedgerState) (e : Error) → AcceptsGiven its answers_so callee fuel asked words from.bytes results called
       → StopsGiven its answers_so callee fuel asked index words from to answers trap before after e results called → e ≡ error.Fault fault.OutOfMemory
@@ -59,7 +60,8 @@ module _ {T : Type 0} (its : AskForm T) (sound : AskSound its) (lawful : AskLawf
       let lowerable : its.lowerable callee asked from.bytes results (leave ended) = subst (λ k. its.lowerable callee asked from.bytes results (leave k)) (same_end called ok.ended ended ok.ends ends) ok.lowerable in
       told ∙ told_short index f (lawful.lower_excluded callee asked at (moment held from.bytes) to results low answers trap (leave ended) after.ledger f lowerable lowers kept none)
 
-  called_excluded : (params : its.Params) (lifted : LedgerState) (e : Error) → AcceptsHostBy its answers_so callee fuel asked index words from.bytes before → its.lifts before.store callee fuel asked words from.bytes (enter before.ledger) (Ok params) lifted
+  called_excluded : (params : its.Params) (lifted : LedgerState) (e : Error) → AcceptsHostBy its answers_so callee fuel asked index words from.bytes before
+      → its.lifts before.store callee fuel asked words from.bytes (enter before.ledger) (Ok params) lifted
       → IsUnrefused e → StopsCalled its answers_so callee fuel asked index words from to answers trap before after e params lifted → e ≡ error.Fault fault.OutOfMemory
   called_excluded params lifted e ok lift unrefused (inl (wants, left, same, quiet)) = wants
   called_excluded params lifted e ok lift unrefused (inr (inl (stop.Refused, told, steps, gave, quiet))) = absurd (unrefused index told)

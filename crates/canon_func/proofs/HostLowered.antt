@@ -80,12 +80,16 @@ pub not_far : (n : ℕ) → n ≤ max_results → max_results < n → ⊥
 not_far n a b = omega (arith, a, b)
 
 module _ {K : Type 0} (callee : Callee) (asked : Asked) (at : ℕ) (a b : Stage K) (results : List Val) (words : List ℕ) where
-  pub into_by : (hs : List ℕ) (ending : Ending) → LowersResults a b (asked_origin callee asked a.bytes).encoding (asked_results callee asked) (HaveTrees (asked_results callee asked) results) at words hs ending → IntoBy callee asked at a b results words hs ending
+  pub into_by : (hs : List ℕ) (ending : Ending) → LowersResults a b (asked_origin callee asked a.bytes).encoding (asked_results callee asked)
+      (HaveTrees (asked_results callee asked) results) at words hs ending → IntoBy callee asked at a b results words hs ending
   into_by hs ending h = ⊎_elim
       (λ far. let low = h.far far in record {
         answers = low.answers;
         trap = low.trap;
-        into = record { near = λ near. absurd (not_far (members_flat (asked_results callee asked)) near far); far = λ again. (attempt_bare false a b _ _ ending low, (bare_asked false a b _ _ ending low).0, (bare_asked false a b _ _ ending low).1) };
+        into = record {
+          near = λ near. absurd (not_far (members_flat (asked_results callee asked)) near far);
+          far = λ again. (attempt_bare false a b _ _ ending low, (bare_asked false a b _ _ ending low).0, (bare_asked false a b _ _ ending low).1);
+        };
         goes = low.lowering.goes;
         moves = low.lowering.moves;
         cause = low.lowering.cause;
@@ -93,7 +97,10 @@ module _ {K : Type 0} (callee : Callee) (asked : Asked) (at : ℕ) (a b : Stage 
       (λ near. let low = h.near near in record {
         answers = low.answers;
         trap = low.trap;
-        into = record { near = λ again. (attempt_bare false a b _ _ ending low, (bare_asked false a b _ _ ending low).0, (bare_asked false a b _ _ ending low).1); far = λ far. absurd (not_far (members_flat (asked_results callee asked)) near far) };
+        into = record {
+          near = λ again. (attempt_bare false a b _ _ ending low, (bare_asked false a b _ _ ending low).0, (bare_asked false a b _ _ ending low).1);
+          far = λ far. absurd (not_far (members_flat (asked_results callee asked)) near far);
+        };
         goes = low.lowering.goes;
         moves = low.lowering.moves;
         cause = low.lowering.cause;
@@ -145,7 +152,8 @@ asked_moves V index (fault.Resource r) P m = m
 asked_moves V index f P m = m
 
 -- the same by how it ended
-pub asked_moves_by : (V : Type 0) (index : ℕ) (some : Bool) (ps : List PassedResource) (f : Fault) (ending : Ending) (P : Type 0) → EndsAs {T = Unit {0}} some ps (Err f) ending → UnlessShort ending P → OnAnswered {T = V} (Err (asked_error index f)) P
+pub asked_moves_by : (V : Type 0) (index : ℕ) (some : Bool) (ps : List PassedResource) (f : Fault) (ending : Ending) (P : Type 0) → EndsAs {T = Unit {0}} some ps (Err f) ending → UnlessShort ending P
+    → OnAnswered {T = V} (Err (asked_error index f)) P
 asked_moves_by V index some ps fault.OutOfMemory ending P ends m = tt
 asked_moves_by V index some ps (fault.Resource resource.OutOfMemory) ending P ends m = tt
 asked_moves_by V index some ps (fault.Resource r) ending P ends m = subst (λ end. UnlessShort end P) ends m
@@ -189,7 +197,8 @@ no_lawful_end a b answers trap at lawful cause = last_lawful answers at _ (λ x 
 
 -- ---- what is asked of steps
 
-module _ {T G : Type 0} (may : ValuesAnswering T) (L : GuestLaws G) (index : ℕ) (a b : Parts T G) (callee : Callee) (asked : Asked) (at : ℕ) (results : List Val) (words storage2 : List ℕ) (are : words ≡ take (members_flat (asked_results callee asked)) storage2)
+module _ {T G : Type 0} (may : ValuesAnswering T) (L : GuestLaws G) (index : ℕ) (a b : Parts T G) (callee : Callee) (asked : Asked) (at : ℕ) (results : List Val) (words storage2 : List ℕ)
+    (are : words ≡ take (members_flat (asked_results callee asked)) storage2)
     (l : LedgerState) where
   pub lowered_as : (r : Result (Unit {0}) Fault) → AskLowered callee asked at (stage_of L.seen L.moves a) (stage_of L.seen L.moves b) results words l b.ledger r
       → LowersAs (ask_values may) L.seen L.moves index a b callee asked storage2 at results l r

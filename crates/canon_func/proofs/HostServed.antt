@@ -46,14 +46,16 @@ use Rattle.canon_func.proofs.Told.{told_goes, told_rises, untold_goes}
 use Rattle.canon_func.proofs.Turns.{done_is}
 
 -- how it ended: on the way from one core to another, with the words of the results in storage
-abbrev pub Out : {T G : Type 0} (its : AskForm T) (seen : G → Seen) (moves : GuestIn G → List Event → GuestIn G → Type 0) (answers_so : Answering T) (log log2 : Option (List LoggedEntry)) (refusals refusals2 index : ℕ) (a b : Parts T G) (export : Export) (asked : Asked) (words storage2 : List ℕ)
+abbrev pub Out : {T G : Type 0} (its : AskForm T) (seen : G → Seen) (moves : GuestIn G → List Event → GuestIn G → Type 0) (answers_so : Answering T) (log log2 : Option (List LoggedEntry))
+    (refusals refusals2 index : ℕ) (a b : Parts T G) (export : Export) (asked : Asked) (words storage2 : List ℕ)
     → Result (Unit {0}) Error → Type 0
 Out its seen moves answers_so log log2 refusals refusals2 index a b export asked words storage2 r = Serving (moment_of seen a) (moment_of seen b) (λ es. OnAnswered r (moves (guest_of a) es (guest_of b)))
     (λ answers es. HostAskedBy its answers_so (export_callee a.component export) a.fuel asked index words (moment_of seen a) (moment_of seen b) (host_side a log refusals) (host_side b log2 refusals2) storage2 r answers es)
 
 -- ---- the chain of steps, said of the ask
 
-module _ {T G P S : Type 0} (its : AskForm T) (sound : AskSound its) (seen : G → Seen) (moves : GuestIn G → List Event → GuestIn G → Type 0) (answers_so : Answering T) (log log2 : Option (List LoggedEntry)) (refusals refusals2 index : ℕ) (a b : Parts T G) (export : Export) (asked : Asked)
+module _ {T G P S : Type 0} (its : AskForm T) (sound : AskSound its) (seen : G → Seen) (moves : GuestIn G → List Event → GuestIn G → Type 0) (answers_so : Answering T)
+    (log log2 : Option (List LoggedEntry)) (refusals refusals2 index : ℕ) (a b : Parts T G) (export : Export) (asked : Asked)
     (words pad storage2 : List ℕ) (is : IsHostAsk (export_callee a.component export) index words asked) (how : Steps T G its.Params P its.Results S) (Logged : Values P its.Results → Option (List LoggedEntry))
     (law : FollowsSteps its answers_so how Logged seen moves log index a b (export_callee a.component export) asked words pad storage2) where
   abbrev callee : Callee
@@ -105,7 +107,8 @@ module _ {T G P S : Type 0} (its : AskForm T) (sound : AskSound its) (seen : G �
   abbrev At : List Answer → Option Trap → Error → Type 0
   At answers trap e = StopsAtAsk its answers_so callee a.fuel asked index words (moment_of seen a) (moment_of seen b) answers trap call_before after e
 
-  called_core : (s : T) (l : LedgerState) (lifted called : Parts T G) → lifted ≡ record (with_host s l) { ledger = lifted.ledger } → called ≡ record lifted { state = called.state; ledger = called.ledger } → called ≡ with_host called.state called.ledger
+  called_core : (s : T) (l : LedgerState) (lifted called : Parts T G) → lifted ≡ record (with_host s l) { ledger = lifted.ledger }
+      → called ≡ record lifted { state = called.state; ledger = called.ledger } → called ≡ with_host called.state called.ledger
   called_core s l lifted called first second = second ∙ ap (λ (k : Parts T G). record k { state = called.state; ledger = called.ledger }) first
 
   exit_is : (l n : LedgerState) (r : Result (Unit {0}) ResourceFault) → DidSurely (asked_exit l) r n → asked_exit l ≡ record { answer = r; after = n }
@@ -176,7 +179,8 @@ module _ {T G P S : Type 0} (its : AskForm T) (sound : AskSound its) (seen : G �
       record {
         answers = by.answers;
         events = events_of by.answers None;
-        goes = subst (λ o. Goes (moment_of seen a) (moment_of seen b) (marks_of by.answers) (events_of by.answers o)) none (told_goes callee asked at (seen a.guest) (seen left.guest) tells a.memory (moment_of seen b) (marks_of by.answers) (events_of by.answers by.trap) by.goes);
+        goes = subst (λ o. Goes (moment_of seen a) (moment_of seen b) (marks_of by.answers) (events_of by.answers o)) none
+            (told_goes callee asked at (seen a.guest) (seen left.guest) tells a.memory (moment_of seen b) (marks_of by.answers) (events_of by.answers by.trap) by.goes);
         moves = subst (λ o. moves (guest_of a) (events_of by.answers o) (guest_of b)) none (told_moves called.state called.ledger at left left_so (events_of by.answers by.trap) by.moved);
         so = (
           record {
@@ -237,7 +241,9 @@ module _ {T G P S : Type 0} (its : AskForm T) (sound : AskSound its) (seen : G �
 
     -- after the call
     stopped_given : (s : T) (l : LedgerState) (results : its.Results) (x : Fault) → refusals2 ≡ refusals
-        → (from : (answers : List Answer) (trap : Option Trap) → StopsGiven its answers_so callee a.fuel asked index words (moment_of seen a) (moment_of seen b) answers trap call_before after (asked_error index x) results l → At answers trap (asked_error index x))
+        → (from : (answers : List Answer) (trap : Option Trap)
+        → StopsGiven its answers_so callee a.fuel asked index words (moment_of seen a) (moment_of seen b) answers trap call_before after (asked_error index x) results l
+        → At answers trap (asked_error index x))
         → Concludes s l results (Err x) → Ends (Err (asked_error index x))
     stopped_given s l results x none_refused from (inl (inl (none, same), words_same)) =
         quiet s l (asked_error index x) (fault_counted index x none_refused) same (no_rise index x (moment_of seen a) (moment_of seen b) (no_trap_there x _ _ _ _ none.1))
@@ -332,7 +338,12 @@ module _ {T G P S : Type 0} (its : AskForm T) (sound : AskSound its) (seen : G �
         let core_is = called_core a.state (enter a.ledger) lifted called same gave.1 in
         let ended_so = concludes_so called.state called.ledger results (Err x) (subst (λ k. ConcludesBy how.ends how.lowers asked k results (words ++ pad) (Err x) b storage2) core_is concludes) in
         subst (λ err. Ends (Err err)) (sym is_fault) (stopped_given called.state called.ledger results x (subst (CountsHost refusals refusals2) told counts)
-        (λ answers trap h. inr (inr (params, lifted.ledger, lift, inr (inr (results, called.ledger, gave.0, gave_so params (Ok results) lifted called.ledger called.state same (sym (concluded_state called.state called.ledger results (Err x) ended_so)) gave.2, h)))))
+        (λ answers trap h. inr (inr (
+          params,
+          lifted.ledger,
+          lift,
+          inr (inr (results, called.ledger, gave.0, gave_so params (Ok results) lifted called.ledger called.state same (sym (concluded_state called.state called.ledger results (Err x) ended_so)) gave.2, h)),
+        )))
         ended_so)
 
     pub ask_stopped : (e : HostError) → CountsHost refusals refusals2 e → ServesBy how asked a (words ++ pad) (Err e) b storage2 → Ends (Err (host_error index e))
@@ -344,7 +355,8 @@ module _ {T G P S : Type 0} (its : AskForm T) (sound : AskSound its) (seen : G �
         let is_fault : host_error index e ≡ asked_error index x = ap (host_error index) told in
         let mine = law.lifts (enter a.ledger) (Err x) b lift in
         subst (λ err. Ends (Err err)) (sym is_fault) (quiet a.state b.ledger (asked_error index x) (fault_counted index x (subst (CountsHost refusals refusals2) told counts)) mine.1
-        (no_rise index x (moment_of seen a) (moment_of seen b) (sound.calm a.id callee a.fuel asked words a.memory (enter a.ledger) b.ledger x mine.0)) (inr (inl (x, refl, mine.0, state_is a.state b.ledger mine.1, nothing_asked a.state b.ledger mine.1))))
+        (no_rise index x (moment_of seen a) (moment_of seen b) (sound.calm a.id callee a.fuel asked words a.memory (enter a.ledger) b.ledger x mine.0))
+        (inr (inl (x, refl, mine.0, state_is a.state b.ledger mine.1, nothing_asked a.state b.ledger mine.1))))
     ask_stopped e counts (inr (inr (params, lifted, lift, rest))) =
         let lifting = law.lifts (enter a.ledger) (Ok params) lifted lift in
         stopped_called e counts params lifted lifting.1 lifting.0 rest

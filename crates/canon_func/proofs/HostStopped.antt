@@ -56,7 +56,8 @@ stopped_told index stop.OutOfMemory = tt
 pub none_more : (answers : List Answer) (trap : Option Trap) → answers ≡ [] → trap ≡ None → events_of answers trap ≡ []
 none_more answers trap none quiet = rw (none, quiet) refl
 
-module _ {T : Type 0} (its : AskForm T) (sound : AskSound its) (answers_so : Answering T) (callee : Callee) (fuel : ℕ) (asked : Asked) (index : ℕ) (words : List ℕ) (from to : Moment) (answers : List Answer) (trap : Option Trap) (before after : HostSide T) where
+module _ {T : Type 0} (its : AskForm T) (sound : AskSound its) (answers_so : Answering T) (callee : Callee) (fuel : ℕ) (asked : Asked) (index : ℕ) (words : List ℕ) (from to : Moment)
+    (answers : List Answer) (trap : Option Trap) (before after : HostSide T) where
   abbrev Given : Error → its.Results → LedgerState → Type 0
   Given e results called = StopsGiven its answers_so callee fuel asked index words from to answers trap before after e results called
 

@@ -10,8 +10,10 @@ use Rattle.canon_func.proofs.Legs.{legs_ask, legs_more, legs_so}
 
 module _ {G : Type 0} (seen : G → Seen) (moves : GuestIn G → List Event → GuestIn G → Type 0) where
   -- whatever is answered then
-  pub lives_answered : (U V : Type 0) (x : V) (result : Result U Error) (before after : GuestIn G) (legs : List Leg) (xs : List Event) → LivesUntil {U = V} seen moves before after (Ok x) legs xs → LivesUntil seen moves before after result legs xs
-  lives_answered U V x result before after legs xs h = legs_so moves (λ g. living (seen g.guest)) (λ g rest. moves g rest after) (λ g rest. OnAnswered result (moves g rest after)) (λ s es r. answers result (moves s es after) r) before legs xs h
+  pub lives_answered : (U V : Type 0) (x : V) (result : Result U Error) (before after : GuestIn G) (legs : List Leg) (xs : List Event) → LivesUntil {U = V} seen moves before after (Ok x) legs xs
+      → LivesUntil seen moves before after result legs xs
+  lives_answered U V x result before after legs xs h = legs_so moves (λ g. living (seen g.guest)) (λ g rest. moves g rest after) (λ g rest. OnAnswered result (moves g rest after))
+      (λ s es r. answers result (moves s es after) r) before legs xs h
 
   -- by an answer of another type
   pub lives_retyped : (U V : Type 0) (e : Error) (before after : GuestIn G) (legs : List Leg) (xs : List Event) → LivesUntil {U = U} seen moves before after (Err e) legs xs → LivesUntil {U = V} seen moves before after (Err e) legs xs

@@ -164,7 +164,8 @@ module _ {K : Type 0} (a b : Stage K) (enc : Encoding) (ms : Members) (args : Ar
   pub args_refused : (f : Fault) (words : List ℕ) (ending : Ending) (M : List Event → Type 0) → Lowers words ending → EndsFor f ending → args.blames f → told_fault f ≡ f
       → (members_flat ms ≤ max_params → have_block ms ≡ false → (moment_at b ≡ moment_at a) × ((ending ≡ short) ⊎ (ending ≡ refused)))
       → ((es : List Event) → UnlessShort ending (GoesBy a b es) → M es) → LeavesStop (stop_of f) l args.parts l2
-      → Adding (moment_at a) (moment_at b) M (λ es. ((f ≡ fault.OutOfMemory) × (moment_at b ≡ moment_at a) × (l2 ≡ l) × (es ≡ [])) ⊎ ((words handles : List ℕ) × (end : Ending) × (low : LowersArgs false (bare (moment_at a)) (bare (moment_at b)) (host_texts enc) ms args.are words handles end)
+      → Adding (moment_at a) (moment_at b) M (λ es. ((f ≡ fault.OutOfMemory) × (moment_at b ≡ moment_at a) × (l2 ≡ l) × (es ≡ [])) ⊎ ((words handles : List ℕ) × (end : Ending)
+      × (low : LowersArgs false (bare (moment_at a)) (bare (moment_at b)) (host_texts enc) ms args.are words handles end)
       × EndsFor f end × args.blames f × (told_fault f ≡ f) × (es ≡ events_of low.answers low.trap) × AsksByTypes ms end low.answers low.trap × LeavesStop (stop_of f) l args.parts l2))
   args_refused f words ending M both ends blames is_told same new stops =
       let mine = both.lowered in
@@ -208,7 +209,8 @@ module _ {K : Type 0} (a b : Stage K) (enc : Encoding) (types : Instance) (ms ns
       → Adding (moment_at a) (moment_at b) M (λ es. (hs : List ℕ) × (low : LowersArgs false (bare (moment_at a)) (bare (moment_at b)) (host_texts enc) ns (HaveTrees ns params) words hs done)
       × (es ≡ events_of low.answers low.trap) × (length words ≡ words_within max_params ns) × AsksByTypes ns done low.answers low.trap × AreSmall enc ns params
       × LeavesTake l (map (lower_parts types) (all_passes ns params)) hs l2)
-  lowered_done words dst M e count same cross small new = subst (λ ks. Adding (moment_at a) (moment_at b) M (λ es. (hs : List ℕ) × (low : LowersArgs false (bare (moment_at a)) (bare (moment_at b)) (host_texts enc) ks (HaveTrees ks params) words hs done)
+  lowered_done words dst M e count same cross small new = subst
+      (λ ks. Adding (moment_at a) (moment_at b) M (λ es. (hs : List ℕ) × (low : LowersArgs false (bare (moment_at a)) (bare (moment_at b)) (host_texts enc) ks (HaveTrees ks params) words hs done)
       × (es ≡ events_of low.answers low.trap) × (length words ≡ words_within max_params ks) × AsksByTypes ks done low.answers low.trap × AreSmall enc ks params
       × LeavesTake l (map (lower_parts types) (all_passes ks params)) hs l2)) is
       (args_done a b enc ms (values ms) l l2 cross.given words M count same (subst (λ ws. LowersValues ws cross.given done) (sym e) (subst (λ end. LowersValues dst cross.given end) cross.ends cross.lowered)) small new cross.passed)
@@ -216,11 +218,14 @@ module _ {K : Type 0} (a b : Stage K) (enc : Encoding) (types : Instance) (ms ns
   pub lowered_refused : (f : Fault) (dst : List ℕ) (M : List Event → Type 0) → Crosses {T = Unit {0}} types (have_handle ms) (all_passes ms params) (LowersValues dst) l l2 (Err f) → BlamesMembers enc ms params f
       → (members_flat ms ≤ max_params → have_block ms ≡ false → (moment_at b ≡ moment_at a) × ((fault_ending f ≡ refused) ⊎ (UsesLedger (have_handle ms) (all_passes ms params) × (f ≡ fault.OutOfMemory))))
       → ((end : Ending) → EndsFor f end → (es : List Event) → UnlessShort end (GoesBy a b es) → M es)
-      → Adding (moment_at a) (moment_at b) M (λ es. ((f ≡ fault.OutOfMemory) × (moment_at b ≡ moment_at a) × (l2 ≡ l) × (es ≡ [])) ⊎ ((words hs : List ℕ) × (ending : Ending) × (low : LowersArgs false (bare (moment_at a)) (bare (moment_at b)) (host_texts enc) ns (HaveTrees ns params) words hs ending)
+      → Adding (moment_at a) (moment_at b) M (λ es. ((f ≡ fault.OutOfMemory) × (moment_at b ≡ moment_at a) × (l2 ≡ l) × (es ≡ [])) ⊎ ((words hs : List ℕ) × (ending : Ending)
+      × (low : LowersArgs false (bare (moment_at a)) (bare (moment_at b)) (host_texts enc) ns (HaveTrees ns params) words hs ending)
       × EndsFor f ending × BlamesMembers enc ns params f × (told_fault f ≡ f) × (es ≡ events_of low.answers low.trap) × AsksByTypes ns ending low.answers low.trap
       × LeavesStop (stop_of f) l (map (lower_parts types) (all_passes ns params)) l2))
   lowered_refused f dst M cross blames same new = subst (λ ks. Adding (moment_at a) (moment_at b) M (λ es. ((f ≡ fault.OutOfMemory) × (moment_at b ≡ moment_at a) × (l2 ≡ l) × (es ≡ [])) ⊎ ((words hs : List ℕ) × (ending : Ending)
-      × (low : LowersArgs false (bare (moment_at a)) (bare (moment_at b)) (host_texts enc) ks (HaveTrees ks params) words hs ending) × EndsFor f ending × BlamesMembers enc ks params f × (told_fault f ≡ f) × (es ≡ events_of low.answers low.trap)
+      × (low : LowersArgs false (bare (moment_at a)) (bare (moment_at b)) (host_texts enc) ks (HaveTrees ks params) words hs ending) × EndsFor f ending × BlamesMembers enc ks params f
+      × (told_fault f ≡ f) × (es ≡ events_of low.answers low.trap)
       × AsksByTypes ks ending low.answers low.trap × LeavesStop (stop_of f) l (map (lower_parts types) (all_passes ks params)) l2))) is
       (args_refused a b enc ms (values ms) l l2 cross.given f dst cross.ending M cross.lowered (ends_for (Unit {0}) (have_handle ms) (all_passes ms params) f cross.ending cross.ends) blames cross.as_told
-      (λ near quiet. ((same near quiet).0, ending_quiet (have_handle ms) (all_passes ms params) f cross.ending cross.ends (same near quiet).1)) (new cross.ending (ends_for (Unit {0}) (have_handle ms) (all_passes ms params) f cross.ending cross.ends)) cross.passed.0)
+      (λ near quiet. ((same near quiet).0, ending_quiet (have_handle ms) (all_passes ms params) f cross.ending cross.ends (same near quiet).1))
+      (new cross.ending (ends_for (Unit {0}) (have_handle ms) (all_passes ms params) f cross.ending cross.ends)) cross.passed.0)

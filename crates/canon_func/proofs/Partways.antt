@@ -66,7 +66,8 @@ ended_partway_of l ended n steps ends rest = inr (inr (0, ap (λ (d : Done (Unit
 
 -- ---- an ask of a function of the host
 
-module _ {T : Type 0} (its : AskForm T) (sound : AskSound its) (lawful : AskLawful its) (answers_so : Answering T) (callee : Callee) (fuel : ℕ) (asked : Asked) (index : ℕ) (words : List ℕ) (from to : Moment) (answers : List Answer) (trap : Option Trap) (before after : HostSide T) (e : Error)
+module _ {T : Type 0} (its : AskForm T) (sound : AskSound its) (lawful : AskLawful its) (answers_so : Answering T) (callee : Callee) (fuel : ℕ) (asked : Asked) (index : ℕ) (words : List ℕ)
+    (from to : Moment) (answers : List Answer) (trap : Option Trap) (before after : HostSide T) (e : Error)
     (is : IsHostAsk callee index words asked) where
   abbrev FirstSteps : List LedgerStep
   FirstSteps = host_asked_steps its before.store callee asked words from.bytes before.ledger
@@ -149,7 +150,8 @@ module _ {T : Type 0} (gives : Giving T) (lawful : (n : ℕ) → IsLawful (gives
 
   -- ---- any ask
 
-  builtin_partway : (e : Error) (index : ℕ) (words memory : List ℕ) (called : Builtin) (l : HostSide T) (n : LedgerState) → builtin_at callee index ≡ Some called → n ≡ (ask_step callee.types called words l.ledger).after → TurnPartway gives callee fuel e index words memory l n
+  builtin_partway : (e : Error) (index : ℕ) (words memory : List ℕ) (called : Builtin) (l : HostSide T) (n : LedgerState) → builtin_at callee index ≡ Some called
+      → n ≡ (ask_step callee.types called words l.ledger).after → TurnPartway gives callee fuel e index words memory l n
   builtin_partway e index words memory called l n known left = inr (inl (called, known, one_step l.ledger n _ _ refl left))
 
   short_partway : (e : Error) (index : ℕ) (words memory : List ℕ) (l n : HostSide T) (h : BuiltinIsShort callee index words l n) → (n.ledger ≡ l.ledger) ⊎ (n.ledger ≡ (ask_step callee.types h.called words l.ledger).after)
@@ -191,7 +193,8 @@ module _ {T R : Type 0} (args : Arguments) (its : ReturnedValues R) (gives : Giv
         let taken = law.taken words memory lifts.ended n lifts.lifts in
         ended_partway lifts.ended lifts.ends (compose_parts lifts.ended n n (leaves_steps lifts.ended parts) (Leave ∷ []) (leaves_through lifts.ended n parts taken.0 taken.1) (inl refl))
 
-  goes_on : (e : Error) (late_guest : Seen) (to : Moment) (late : List Answer) (trap : Option Trap) (l n : HostSide T) (tail : List Event) → StopsStartedOf its gives callee fuel e late_guest to late trap l n tail → GoesOn gives callee fuel e its.parts l n.ledger tail
+  goes_on : (e : Error) (late_guest : Seen) (to : Moment) (late : List Answer) (trap : Option Trap) (l n : HostSide T) (tail : List Event)
+      → StopsStartedOf its gives callee fuel e late_guest to late trap l n tail → GoesOn gives callee fuel e its.parts l n.ledger tail
   goes_on e late_guest to late trap l n tail (inl (inl (none, same, each, calm), kept)) = inl same
   goes_on e late_guest to late trap l n tail (inl (inr (inl (untold, calm, some)), kept)) = inr (inr (some_return _ _ (λ ws m h. returned_partway ws m l.ledger n.ledger (stopped_by e) h.1) tail some))
   goes_on e late_guest to late trap l n tail (inl (inr (inr (none, posts, some)), kept)) = inr (inr (some_return _ _ (λ ws m h. lifted_partway ws m l.ledger n.ledger h) tail some))

@@ -54,7 +54,8 @@ record Refused {T R : Type 0} (args : Arguments) (its : ReturnedValues R) (gives
   cause : FaultCause args its callee limits.fuel entry after events f
   valid : (ts : Trees) → args.are ts → args.small → AllLawful answers → ¬ EndsIn IsTrap events → Accepts args its gives callee limits.fuel [] before [] → f ≡ fault.OutOfMemory
 
-module _ {T R : Type 0} (args : Arguments) (its : ReturnedValues R) (gives : Giving T) (callee : Callee) (limits : Limits) (Lives : List Leg → List Event → Type 0) (Leaves : List ℕ → List ℕ → Type 0) (entry after : Moment) (before left : HostSide T) where
+module _ {T R : Type 0} (args : Arguments) (its : ReturnedValues R) (gives : Giving T) (callee : Callee) (limits : Limits) (Lives : List Leg → List Event → Type 0) (Leaves : List ℕ → List ℕ → Type 0)
+    (entry after : Moment) (before left : HostSide T) where
   no_asks : (answers : List Answer) (trap : Option Trap) → asks_in (events_of answers trap) ≤ limits.turns
   no_asks answers trap =
       let none : asks_in (events_of answers trap) ≡ 0 = ap asks_in (sym (append-nil (events_of answers trap))) ∙ asks_answers answers trap [] in
@@ -110,7 +111,8 @@ module _ {T R : Type 0} (args : Arguments) (its : ReturnedValues R) (gives : Giv
       (λ ts have. (params_requests false (host_asks callee.encoding) callee.params ts, λ last. refl)) handles
       (record { late = tt; accepted = tt; cause = tt; valid = λ ts have small lawful calm accepted. refl })
 
-module _ {T R : Type 0} (args : Arguments) (its : ReturnedValues R) (gives : Giving T) (callee : Callee) (limits : Limits) (Lives : List Leg → List Event → Type 0) (Leaves : List ℕ → List ℕ → Type 0) (law : BlamesRightly args) (entry after : Moment) (before left : HostSide T) where
+module _ {T R : Type 0} (args : Arguments) (its : ReturnedValues R) (gives : Giving T) (callee : Callee) (limits : Limits) (Lives : List Leg → List Event → Type 0) (Leaves : List ℕ → List ℕ → Type 0)
+    (law : BlamesRightly args) (entry after : Moment) (before left : HostSide T) where
   abbrev RefusalLow : List ℕ → List ℕ → Ending → Type 0
   RefusalLow words handles ending = LowersArgs false (bare entry) (bare after) (host_texts callee.encoding) callee.params args.are words handles ending
 
@@ -229,7 +231,8 @@ module _ {T R : Type 0} (args : Arguments) (its : ReturnedValues R) (gives : Giv
   asks_as fault.OutOfMemory ending answers trap (inr is) h = asks_short answers trap (subst (λ end. AsksByTypes callee.params end answers trap) is h)
   asks_as f ending answers trap is h = subst (λ end. AsksByTypes callee.params end answers trap) is h
 
-  pub refused_call : left ≡ record before { ledger = left.ledger } → (f : Fault) (ending : Ending) (words handles : List ℕ) (low : RefusalLow words handles ending) → Lives [] (events_of low.answers low.trap) → EndsFor f ending → args.blames f → told_fault f ≡ f
+  pub refused_call : left ≡ record before { ledger = left.ledger } → (f : Fault) (ending : Ending) (words handles : List ℕ) (low : RefusalLow words handles ending)
+      → Lives [] (events_of low.answers low.trap) → EndsFor f ending → args.blames f → told_fault f ≡ f
       → AsksByTypes callee.params ending low.answers low.trap → LeavesStop (stop_of f) (enter before.ledger) args.parts left.ledger
       → IsCallOf args its Lives Leaves gives callee limits entry after before left (Err (error.Fault f)) (events_of low.answers low.trap)
   refused_call kept f ending words handles low moves is blames told quiet stops =

@@ -69,7 +69,8 @@ module _ {T R : Type 0} (its : ReturnedValues R) (gives : Giving T) (callee : Ca
   RestStays e = ¬ (e ≡ error.Fault fault.OutOfMemory) → after.bytes ≡ memory
 
   -- and then it was called for nothing more
-  returned_made : (e : Error) → RestStays e → StopsLater its callee (stopped_by e) host.ledger left.ledger tail → Causes e → Excluded e → IsTail its gives callee limits Leaves before after count len host left (Err e) before.guest [] None tail
+  returned_made : (e : Error) → RestStays e → StopsLater its callee (stopped_by e) host.ledger left.ledger tail → Causes e → Excluded e
+      → IsTail its gives callee limits Leaves before after count len host left (Err e) before.guest [] None tail
   returned_made e stays handles cause excluded = record {
     whole = tt;
     prefix = record {
@@ -119,7 +120,8 @@ module _ {T R : Type 0} (its : ReturnedValues R) (gives : Giving T) (callee : Ca
     faulty : (e : Error) (k : Kind) (x : reach.At) → its.faults returned memory k x → Excluded e
     faulty e k x f rep accepted = absurd (law.faultless returned memory limits.fuel k x f rep)
 
-    pub unlifted_tail : after.bytes ≡ memory → (f : Fault) → Lifted its limits.fuel returned memory ended left.ledger (Err f) → IsTail its gives callee limits Leaves before after count len host left (Err (error.Fault f)) before.guest [] None tail
+    pub unlifted_tail : after.bytes ≡ memory → (f : Fault) → Lifted its limits.fuel returned memory ended left.ledger (Err f)
+        → IsTail its gives callee limits Leaves before after count len host left (Err (error.Fault f)) before.guest [] None tail
     unlifted_tail stays (fault.PointerMisaligned at) h = stopped (fault.PointerMisaligned at) (λ other. stays) h.1 (λ xs told. at_end _ xs (counted, h.0)) (faulty (error.Fault (fault.PointerMisaligned at)) _ _ h.0)
     unlifted_tail stays (fault.PointerOutOfBounds at) h = stopped (fault.PointerOutOfBounds at) (λ other. stays) h.1 (λ xs told. at_end _ xs (counted, h.0)) (faulty (error.Fault (fault.PointerOutOfBounds at)) _ _ h.0)
     unlifted_tail stays (fault.InvalidUtf8 at) h = stopped (fault.InvalidUtf8 at) (λ other. stays) h.1 (λ xs told. at_end _ xs (counted, h.0)) (faulty (error.Fault (fault.InvalidUtf8 at)) _ _ h.0)
@@ -135,7 +137,8 @@ module _ {T R : Type 0} (its : ReturnedValues R) (gives : Giving T) (callee : Ca
     unlifted_tail stays f h = absurd h.0
 
     -- memory ran out for post-return
-    unposted_tail : (results : R) → Lifted its limits.fuel returned memory ended left.ledger (Ok results) → IsTail its gives callee limits Leaves before after count len host left (Err (error.Fault fault.OutOfMemory)) before.guest [] None tail
+    unposted_tail : (results : R) → Lifted its limits.fuel returned memory ended left.ledger (Ok results)
+        → IsTail its gives callee limits Leaves before after count len host left (Err (error.Fault fault.OutOfMemory)) before.guest [] None tail
     unposted_tail results h = stopped fault.OutOfMemory (λ other. absurd (other refl)) (lifted_stops its callee law returned memory ended left.ledger results h.2) (λ xs told. tt) (λ rep accepted. refl)
 
     -- post-return trapped

@@ -52,7 +52,8 @@ module _ {T G R : Type 0} (args : Arguments) (its : ReturnedValues R) (gives : G
   pub unlowered : (U : Type 0) (e : Error) (before after : Parts T G) → BlamesRightly args → SameButHandles before after → Lowers {U = Vec ℕ Global} (Err e) (Err e) before after
       → Within {U = U} (Err e) (Err e) before after (host_side after log refusals)
   unlowered U e before after law same low =
-      call_refused args its gives callee limits (LivesUntil {U = U} seen moves (guest_of before) (guest_of after) (Err e)) Leaves law (moment_of seen before) (moment_of seen after) (host_side before log refusals) (host_side after log refusals) (side_handles before after log refusals same) e
+      call_refused args its gives callee limits (LivesUntil {U = U} seen moves (guest_of before) (guest_of after) (Err e)) Leaves law (moment_of seen before) (moment_of seen after)
+      (host_side before log refusals) (host_side after log refusals) (side_handles before after log refusals same) e
       (record { events = low.events; added = low.added; moves = retyped (Vec ℕ Global) U e (moves (guest_of before) low.events (guest_of after)) low.moves; so = low.so })
 
   -- the scope was opened

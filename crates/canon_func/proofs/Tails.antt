@@ -79,7 +79,8 @@ sum_le a b c n k e f h = omega (arith, e, f, h)
 le_sum : (a b c n k : ℕ) → a ≡ b + c → b ≡ n → a ≤ k → n + c ≤ k
 le_sum a b c n k e f h = omega (arith, e, f, h)
 
-module _ {T R : Type 0} (its : ReturnedValues R) (gives : Giving T) (callee : Callee) (limits : Limits) (Lives : List Leg → List Event → Type 0) (Leaves : List ℕ → List ℕ → Type 0) (words : List ℕ) (before after : Moment) (host served left : HostSide T) (turns : List AskTurn) (len : ℕ)
+module _ {T R : Type 0} (its : ReturnedValues R) (gives : Giving T) (callee : Callee) (limits : Limits) (Lives : List Leg → List Event → Type 0) (Leaves : List ℕ → List ℕ → Type 0) (words : List ℕ)
+    (before after : Moment) (host served left : HostSide T) (turns : List AskTurn) (len : ℕ)
     (asked : TurnsTaken gives callee limits.fuel before host served turns len) where
   abbrev call_first : List Event
   call_first = event.Start callee.func words before.bytes ∷ events_in turns
@@ -106,7 +107,8 @@ module _ {T R : Type 0} (its : ReturnedValues R) (gives : Giving T) (callee : Ca
 
   pub rest_of_tail : (answer : Result R Error) (late_guest : Seen) → CountsWithin before.guest late_guest after.guest → (answers late : List Answer) (trap : Option Trap) (tail : List Event) → answers ≡ answers_in turns ++ late
       → AsksFrom Lives (event.Start callee.func words before.bytes ∷ []) turns (living late_guest) tail
-      → IsTail its gives callee limits Leaves before after (length turns) len served left answer late_guest late trap tail → IsRest its gives callee limits Lives Leaves words before after host left answer answers (so_far callee words before turns tail)
+      → IsTail its gives callee limits Leaves before after (length turns) len served left answer late_guest late trap tail
+      → IsRest its gives callee limits Lives Leaves words before after host left answer answers (so_far callee words before turns tail)
   rest_of_tail answer late_guest counts answers late trap tail all lived h = record {
     one_run = ok_then answer _ _ (λ (returned, memory, is). (words, before.bytes, returned, memory, record { reallocs = []; only_reallocs = tt; turns = turns; is = ap (λ es. call_first ++ es) is })) h.whole;
     prefix = λ n. prefix_of n tail h.prefix;
@@ -131,12 +133,14 @@ module _ {T R : Type 0} (its : ReturnedValues R) (gives : Giving T) (callee : Ca
     cause = if_err_then answer _ _ (λ e because. because call_first count) h.cause;
     valid = λ lawful unrefused calm few right accepts.
         h.valid lawful unrefused
-        (λ trapped. calm (ends_after IsTrap call_first tail trapped)) (le_sum (asks_in (call_first ++ tail)) (asks_in call_first) (asks_in tail) (length turns) limits.turns (asks_then call_first tail) count few) (each_after _ call_first tail right)
+        (λ trapped. calm (ends_after IsTrap call_first tail trapped))
+        (le_sum (asks_in (call_first ++ tail)) (asks_in call_first) (asks_in tail) (length turns) limits.turns (asks_then call_first tail) count few) (each_after _ call_first tail right)
         (accepts served asked.serves);
   }
 
 -- memory ran out for the start
-pub rest_of_none : {T R : Type 0} (its : ReturnedValues R) (gives : Giving T) (callee : Callee) (limits : Limits) (Lives : List Leg → List Event → Type 0) (Leaves : List ℕ → List ℕ → Type 0) (words : List ℕ) (before after : Moment) (host : HostSide T)
+pub rest_of_none : {T R : Type 0} (its : ReturnedValues R) (gives : Giving T) (callee : Callee) (limits : Limits) (Lives : List Leg → List Event → Type 0) (Leaves : List ℕ → List ℕ → Type 0)
+    (words : List ℕ) (before after : Moment) (host : HostSide T)
     → Advances before after → Lives [] []
     → IsRest its gives callee limits Lives Leaves words before after host host (Err (error.Fault fault.OutOfMemory)) [] []
 rest_of_none its gives callee limits Lives Leaves words before after host advances moves = record {

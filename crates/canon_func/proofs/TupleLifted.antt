@@ -55,7 +55,8 @@ module _ {T G A : Type 0} (core : Parts T G) (export : Export) (words : List ℕ
       keep_scopes core.ledger m ((WholeCall ms).steps w (flat_in words 0) (product of_places ms)) hs
       (passed_kept R w (product of_places ms) (λ p. subst (λ (z : Shape). AllKeep (R.steps w p z)) shape (kept.kept w p type fits (subst (λ (z : Shape). has_borrow z ≡ false) (sym shape) none))) (nat_le (flat (product of_places ms)) max_results) (flat_in words 0)) takes
 
-  pub tuple_lifted : (type : InterfaceType) (v : A) → Fit core.component.types type → shape_of (component_types core) type ≡ product of_places callee.results → member_borrows callee.results ≡ false → length words ≡ result_words callee.results → LiftsAs callee.results (Ok v)
+  pub tuple_lifted : (type : InterfaceType) (v : A) → Fit core.component.types type → shape_of (component_types core) type ≡ product of_places callee.results → member_borrows callee.results ≡ false
+      → length words ≡ result_words callee.results → LiftsAs callee.results (Ok v)
       → Lifted (typed_results R export.options core.id callee) core.fuel words core.memory core.ledger m (Ok v)
   tuple_lifted type v fits shape none count (left, (read, spent)) = (left, (count, (core.ledger, m, read), spent), read, scopes_kept type callee.results v fits shape none read)
 

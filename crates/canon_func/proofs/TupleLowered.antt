@@ -74,6 +74,8 @@ module _ {T G : Type 0} (L : GuestLaws G) (options : ℕ) (a b : Parts T G) (ms 
       × (low : LowersArgs false (bare (moment_of L.seen a)) (bare (moment_of L.seen b)) (host_texts enc) ms (InParts Has) words handles end)
       × EndsFor f end × BlamesIn enc ms Has f × (told_fault f ≡ f) × (es ≡ events_of low.answers low.trap) × AsksByTypes ms end low.answers low.trap × LeavesStop (stop_of f) a.ledger gives b.ledger))
   tuple_refused f words one h =
-      args_refused (stage_of L.seen L.moves a) (stage_of L.seen L.moves b) enc ms (tuple_args enc ms Has gives) a.ledger b.ledger h.handles f words h.ending (λ es. OnAnswered {T = Vec ℕ Global} (Err (error.Fault f)) (L.moves (guest_of a) es (guest_of b)))
+      args_refused (stage_of L.seen L.moves a) (stage_of L.seen L.moves b) enc ms (tuple_args enc ms Has gives) a.ledger b.ledger h.handles f words h.ending
+      (λ es. OnAnswered {T = Vec ℕ Global} (Err (error.Fault f)) (L.moves (guest_of a) es (guest_of b)))
       h.lowered (ends_so gives f h.ending h.ends) h.cause (told_so f (blamed_one enc ms Has f one h.cause))
-      (λ near quiet. (ap (moment_of L.seen) (h.quiet near quiet).0, inr (h.quiet near quiet).1)) (λ es goes. ended_moves (Vec ℕ Global) f h.ending (L.moves (guest_of a) es (guest_of b)) (ends_so gives f h.ending h.ends) (unless h.ending _ _ (moved_by L a b es) goes)) h.passed.0
+      (λ near quiet. (ap (moment_of L.seen) (h.quiet near quiet).0, inr (h.quiet near quiet).1))
+      (λ es goes. ended_moves (Vec ℕ Global) f h.ending (L.moves (guest_of a) es (guest_of b)) (ends_so gives f h.ending h.ends) (unless h.ending _ _ (moved_by L a b es) goes)) h.passed.0

@@ -180,7 +180,8 @@ module _ {T : Type 0} (gives : Giving T) (callee : Callee) (limits : Limits) (Li
   marks_more ts t = sym (lowering_marks_append (answers_in ts) t.answers) ∙ ap marks_of (ap (λ xs. answers_in ts ++ xs) (sym (append-nil t.answers)) ∙ sym (answers_append ts (t ∷ [])))
 
   -- after one more event of an ask
-  turn_lived : (ts : List AskTurn) (t : AskTurn) (last : Event) (es : List Event) → es ≡ rest_of_turn t (last ∷ []) → Lives (legs_in start ts ++ record { events = since_last start ts ++ event.Ask t.index t.words t.memory ∷ []; live = t.live } ∷ []) es
+  turn_lived : (ts : List AskTurn) (t : AskTurn) (last : Event) (es : List Event) → es ≡ rest_of_turn t (last ∷ [])
+      → Lives (legs_in start ts ++ record { events = since_last start ts ++ event.Ask t.index t.words t.memory ∷ []; live = t.live } ∷ []) es
       → Lives (legs_in start (ts ++ t ∷ [])) (since_last start (ts ++ t ∷ []) ++ last ∷ [])
   turn_lived ts t last es are h =
       lives_more Lives start ts t (last ∷ []) es (are ∙ sym (append_assoc (events_of t.answers None) (event.Resume t.resumed_words t.resumed_memory ∷ []) (last ∷ []))) h
@@ -284,7 +285,8 @@ module _ {T : Type 0} (gives : Giving T) (callee : Callee) (limits : Limits) (Li
       lived = h.lived;
     }
 
-    pub ran_exhausted : (asks : (legs : List Leg) (xs : List Event) → Lives legs xs → Lives (legs ++ record { events = xs; live = living now.guest } ∷ []) []) (index : ℕ) (asked : List ℕ) (h : Stepping gives callee limits Lives words before now host served count (step.Import index asked))
+    pub ran_exhausted : (asks : (legs : List Leg) (xs : List Event) → Lives legs xs → Lives (legs ++ record { events = xs; live = living now.guest } ∷ []) []) (index : ℕ) (asked : List ℕ)
+        (h : Stepping gives callee limits Lives words before now host served count (step.Import index asked))
         → count ≡ limits.turns
         → RunsUntil gives callee limits Lives words before now host served (Err error.TurnsExhausted) (answers_in h.turns) (so_far callee words before h.turns (event.Ask index asked now.bytes ∷ []))
     ran_exhausted asks index asked h all = record {

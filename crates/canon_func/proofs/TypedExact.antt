@@ -100,7 +100,8 @@ module _ {R : Type 0} (Fit : Instance → InterfaceType → Type 0) (reading : R
     pub within : Reached (nat_le (flat s) most) ≤ fuel
     within = ⊎_elim (λ far. subst (λ b. Reached b ≤ fuel) (sym (by_pointer far)) (area_few far)) (λ near. subst (λ b. Reached b ≤ fuel) (sym (in_row near)) (row_few near)) (cases_lt most (members_flat ms))
 
-pub only_represented : {R : Type 0} (Fit : Instance → InterfaceType → Type 0) (reading : Reading R) (price : Tree → ℕ) → IsFaulted Fit reading → IsPriced Fit reading price → (Means : R → Tree → Type 0) → IsOfTrees Fit reading Means → AreTaken reading
+pub only_represented : {R : Type 0} (Fit : Instance → InterfaceType → Type 0) (reading : Reading R) (price : Tree → ℕ) → IsFaulted Fit reading → IsPriced Fit reading price
+    → (Means : R → Tree → Type 0) → IsOfTrees Fit reading Means → AreTaken reading
     → OnlyRepresented Fit reading price Means
 only_represented Fit reading price faulted priced Means told taken callee options store type fuel left words memory v fits shape (count, (l, n, read), spent) =
     let h : IsPassed reading Means price max_results (returned_setting callee options store memory) callee.results words l n fuel left v =

@@ -157,7 +157,8 @@ module _ {T P R : Type 0} (types : RustTypes P R) (May : TypedAnswering T P R) w
   pub types_lawful : AreTaken types.reading → ((v : R) → (t : Tree) × types.walks v t) → AskLawful (ask_types types May)
   types_lawful taken walkable = record {
     taken = λ store callee fuel asked words memory l n params h.
-        passed_taken types.reading taken (nat_le (flat (asked_shape callee asked)) max_params) (asked_setting callee asked memory store) (flat_in (take (args_words (asked_params callee asked)) words) 0) (asked_shape callee asked) l n params h.1.1.0;
+        passed_taken types.reading taken (nat_le (flat (asked_shape callee asked)) max_params) (asked_setting callee asked memory store)
+        (flat_in (take (args_words (asked_params callee asked)) words) 0) (asked_shape callee asked) l n params h.1.1.0;
     lower_excluded = λ callee asked at from to results low answers trap l n f ok h lawful none.
         typed_lower_excluded (types.walks results) (typed_given types callee asked results) callee asked at from to low answers trap l n (walkable results) ok lawful none f h;
   }
@@ -173,13 +174,17 @@ record TupleBy {K : Type 0} (callee : Callee) (asked : Asked) (at : ℕ) (a b : 
   moves : UnlessShort ending (GoesBy a b (events_of answers trap))
   cause : CauseOf (moment_at a) (moment_at b) answers trap ending
 
-tuple_by : {K : Type 0} (callee : Callee) (asked : Asked) (at : ℕ) (a b : Stage K) (Has : Tree → Type 0) (words : List ℕ) (hs : List ℕ) (ending : Ending) → LowersTuple a b (asked_origin callee asked a.bytes).encoding (asked_results callee asked) (InParts Has) at words hs ending
+tuple_by : {K : Type 0} (callee : Callee) (asked : Asked) (at : ℕ) (a b : Stage K) (Has : Tree → Type 0) (words : List ℕ) (hs : List ℕ) (ending : Ending)
+    → LowersTuple a b (asked_origin callee asked a.bytes).encoding (asked_results callee asked) (InParts Has) at words hs ending
     → TupleBy callee asked at a b Has words hs ending
 tuple_by callee asked at a b Has words hs ending h = ⊎_elim
     (λ far. let low = h.far far in record {
       answers = low.answers;
       trap = low.trap;
-      into = record { near = λ near. absurd (not_far (members_flat (asked_results callee asked)) near far); far = λ again. (attempt_bare false a b _ _ ending low, (bare_asked false a b _ _ ending low).0, (bare_asked false a b _ _ ending low).1) };
+      into = record {
+        near = λ near. absurd (not_far (members_flat (asked_results callee asked)) near far);
+        far = λ again. (attempt_bare false a b _ _ ending low, (bare_asked false a b _ _ ending low).0, (bare_asked false a b _ _ ending low).1);
+      };
       goes = low.lowering.goes;
       moves = low.lowering.moves;
       cause = low.lowering.cause;
@@ -187,7 +192,10 @@ tuple_by callee asked at a b Has words hs ending h = ⊎_elim
     (λ near. let low = h.near near in record {
       answers = low.answers;
       trap = low.trap;
-      into = record { near = λ again. (attempt_bare false a b _ _ ending low, (bare_asked false a b _ _ ending low).0, (bare_asked false a b _ _ ending low).1); far = λ far. absurd (not_far (members_flat (asked_results callee asked)) near far) };
+      into = record {
+        near = λ again. (attempt_bare false a b _ _ ending low, (bare_asked false a b _ _ ending low).0, (bare_asked false a b _ _ ending low).1);
+        far = λ far. absurd (not_far (members_flat (asked_results callee asked)) near far);
+      };
       goes = low.lowering.goes;
       moves = low.lowering.moves;
       cause = low.lowering.cause;
@@ -195,12 +203,14 @@ tuple_by callee asked at a b Has words hs ending h = ⊎_elim
     (cases_lt max_results (members_flat (asked_results callee asked)))
 
 -- no request trapped where nothing was asked for
-tuple_quiet : (r : Result (Unit {0}) Fault) (gives : List (List Part)) (a b : Moment) (answers : List Answer) (trap : Option Trap) (ending : Ending) → EndsBy gives r ending → IfErr r (λ e. ending ≡ refused) → CauseOf a b answers trap ending → trap ≡ None
+tuple_quiet : (r : Result (Unit {0}) Fault) (gives : List (List Part)) (a b : Moment) (answers : List Answer) (trap : Option Trap) (ending : Ending) → EndsBy gives r ending
+    → IfErr r (λ e. ending ≡ refused) → CauseOf a b answers trap ending → trap ≡ None
 tuple_quiet (Ok x) gives a b answers trap ending ends why cause = subst (λ e. CauseOf a b answers trap e) (ends_done gives tt ending ends) cause
 tuple_quiet (Err f) gives a b answers trap ending ends why cause = untrapped a b answers trap ending cause (inr why)
 
 -- where the guest trapped, its count of traps rose
-tuple_rises : (index : ℕ) (gives : List (List Part)) (f : Fault) (a b : Moment) (answers : List Answer) (trap : Option Trap) (ending : Ending) → EndsBy {T = Unit {0}} gives (Err f) ending → CauseOf a b answers trap ending → RisesAt (asked_error index f) a b
+tuple_rises : (index : ℕ) (gives : List (List Part)) (f : Fault) (a b : Moment) (answers : List Answer) (trap : Option Trap) (ending : Ending) → EndsBy {T = Unit {0}} gives (Err f) ending
+    → CauseOf a b answers trap ending → RisesAt (asked_error index f) a b
 tuple_rises index gives fault.GuestTrap a b answers trap ending (inl is) cause = (subst (λ e. CauseOf a b answers trap e) is cause).0
 tuple_rises index gives fault.GuestTrap a b answers trap ending (inr both) cause = let want : ◌≡◌ {A = Result (Unit {0}) Fault} (Err fault.GuestTrap) (Err fault.OutOfMemory) = both.0 in cc
 tuple_rises index gives fault.OutOfMemory a b answers trap ending ends cause = tt
@@ -212,7 +222,8 @@ tuple_moves : (index : ℕ) (gives : List (List Part)) (f : Fault) (ending : End
 tuple_moves index gives f ending P (inl is) m = asked_moves (Unit {0}) index f P (subst (λ e. UnlessShort e P) is m)
 tuple_moves index gives f ending P (inr both) m = subst (λ x. OnAnswered {T = Unit {0}} (Err (asked_error index x)) P) (sym (same_fault f fault.OutOfMemory both.0)) tt
 
-module _ {T G P R : Type 0} (types : RustTypes P R) (May : TypedAnswering T P R) (L : GuestLaws G) (gives : Giving T) (log : Option (List LoggedEntry)) (index : ℕ) (a b : Parts T G) (export : Export) (asked : Asked) (words pad storage2 : List ℕ)
+module _ {T G P R : Type 0} (types : RustTypes P R) (May : TypedAnswering T P R) (L : GuestLaws G) (gives : Giving T) (log : Option (List LoggedEntry)) (index : ℕ) (a b : Parts T G) (export : Export)
+    (asked : Asked) (words pad storage2 : List ℕ)
     (is : IsHostAsk (export_callee a.component export) index words asked) where
   abbrev callee : Callee
   callee = export_callee a.component export
@@ -290,7 +301,8 @@ module _ {T G P R : Type 0} (types : RustTypes P R) (May : TypedAnswering T P R)
         moved = tuple_moves index (typed_given types callee asked results) f h.ending (L.moves (guest_of a) (events_of by.answers by.trap) (guest_of b)) h.ends (unless h.ending _ _ (moved_by L a b (events_of by.answers by.trap)) by.moves);
       }
 
-module _ {T G P R : Type 0} (types : RustTypes P R) (May : TypedAnswering T P R) (L : GuestLaws G) (gives : Giving T) (log : Option (List LoggedEntry)) (index : ℕ) (a b : Parts T G) (export : Export) (asked : Asked) (words pad storage2 : List ℕ)
+module _ {T G P R : Type 0} (types : RustTypes P R) (May : TypedAnswering T P R) (L : GuestLaws G) (gives : Giving T) (log : Option (List LoggedEntry)) (index : ℕ) (a b : Parts T G) (export : Export)
+    (asked : Asked) (words pad storage2 : List ℕ)
     (is : IsHostAsk (export_callee a.component export) index words asked) where
   pub types_follow : FollowsSteps (ask_types types May) gives.answers (steps_of_types types May log L.seen L.moves asked) (λ told. log) L.seen L.moves log index a b (export_callee a.component export) asked words pad storage2
   types_follow = record {

@@ -126,7 +126,8 @@ not_both_kinds o b t p h g = let w : option_and_then builtin_of (Some (import.Ho
 same_builtin : (o : Option Builtin) (a b : Builtin) → o ≡ Some a → o ≡ Some b → a ≡ b
 same_builtin o a b h g = cc
 
-module _ {T R : Type 0} (its : ReturnedValues R) (gives : Giving T) (lawful_forms : (n : ℕ) → IsLawful (gives.form n)) (callee : Callee) (limits : Limits) (Leaves : List ℕ → List ℕ → Type 0) (before after : Moment) (count len : ℕ) (served left : HostSide T) where
+module _ {T R : Type 0} (its : ReturnedValues R) (gives : Giving T) (lawful_forms : (n : ℕ) → IsLawful (gives.form n)) (callee : Callee) (limits : Limits) (Leaves : List ℕ → List ℕ → Type 0)
+    (before after : Moment) (count len : ℕ) (served left : HostSide T) where
   trapped_tail : (guest : Seen) → len ≤ length after.bytes → Rose before.guest.traps after.guest.traps → count ≤ limits.turns → left ≡ served
       → IsTail its gives callee limits Leaves before after count len served left (Err (error.Fault fault.GuestTrap)) guest [] None (trap_event len ∷ [])
   trapped_tail guest longer rose few same = record {
@@ -191,7 +192,8 @@ module _ {T R : Type 0} (its : ReturnedValues R) (gives : Giving T) (lawful_form
         → AcceptsAsk gives callee limits.fuel index asked memory served → e ≡ error.Fault fault.OutOfMemory
     host_excluded e a h lawful none few (inl (b, is, more)) = absurd (not_both_kinds (slice_get callee.imports index) b a.ty a.options is.known h.is.known)
     host_excluded e a h lawful none few (inr (b, ok)) =
-        asked_excluded (ask_at gives index) (form_sound (gives.form index)) (form_lawful (gives.form index) (lawful_forms index)) gives.answers callee limits.fuel a index asked (moment guest memory) after late trap served left lawful none e h
+        asked_excluded (ask_at gives index) (form_sound (gives.form index)) (form_lawful (gives.form index) (lawful_forms index)) gives.answers callee limits.fuel a index asked
+        (moment guest memory) after late trap served left lawful none e h
         (subst (λ k. AcceptsHost gives callee limits.fuel k index asked memory served) (is_asked callee index asked a b h.is ok.is) ok) few
 
     fault_excluded : (n : ℕ) (f : Fault) → AskStops gives callee limits.fuel (error.ImportFault n f) index asked (moment guest memory) after late trap served left → AllLawful late → trap ≡ None → IsUnrefused (error.ImportFault n f)
@@ -246,17 +248,20 @@ module _ {T R : Type 0} (its : ReturnedValues R) (gives : Giving T) (lawful_form
     stopped_tail error.TurnsExhausted few stops rises other = absurd (other refl)
     stopped_tail e few stops rises other = absurd stops
 
-  in_ask_rest : (e : Error) (guest : Seen) (late : List Answer) (trap : Option Trap) (tail : List Event) → count < limits.turns → StopsInAsk gives callee limits count len before after served left e guest late trap tail → (e ≡ error.TurnsExhausted → ⊥)
+  in_ask_rest : (e : Error) (guest : Seen) (late : List Answer) (trap : Option Trap) (tail : List Event) → count < limits.turns
+      → StopsInAsk gives callee limits count len before after served left e guest late trap tail → (e ≡ error.TurnsExhausted → ⊥)
       → IsTail its gives callee limits Leaves before after count len served left (Err e) guest late trap tail
   in_ask_rest e guest late trap tail lt h other =
       subst (λ es. IsTail its gives callee limits Leaves before after count len served left (Err e) guest late trap es) (sym h.is)
       (stopped_tail h.index h.words h.memory guest late trap h.longer h.shorter h.traps_late e (omega (arith, lt)) h.stops h.rises other)
 
   -- however it stopped
-  pub stopped_rest : (e : Error) (guest : Seen) (late : List Answer) (trap : Option Trap) (tail : List Event) → len ≤ length after.bytes → count ≤ limits.turns → Stopped gives callee limits count len before after served left (Err e) guest late trap tail
+  pub stopped_rest : (e : Error) (guest : Seen) (late : List Answer) (trap : Option Trap) (tail : List Event) → len ≤ length after.bytes → count ≤ limits.turns
+      → Stopped gives callee limits count len before after served left (Err e) guest late trap tail
       → IsTail its gives callee limits Leaves before after count len served left (Err e) guest late trap tail
   stopped_rest (error.Fault fault.GuestTrap) guest late trap tail longer few (rose, are, (none, quiet, same)) =
       rw (none, quiet) (subst (λ es. IsTail its gives callee limits Leaves before after count len served left (Err (error.Fault fault.GuestTrap)) guest [] None es) (sym are) (trapped_tail guest longer rose few same))
   stopped_rest error.TurnsExhausted guest late trap tail longer few (all, h) =
-      subst (λ es. IsTail its gives callee limits Leaves before after count len served left (Err error.TurnsExhausted) guest late trap es) (sym h.is) (exhausted_tail h.index h.words h.memory guest late trap h.longer h.shorter h.traps_late all h.stops)
+      subst (λ es. IsTail its gives callee limits Leaves before after count len served left (Err error.TurnsExhausted) guest late trap es) (sym h.is)
+      (exhausted_tail h.index h.words h.memory guest late trap h.longer h.shorter h.traps_late all h.stops)
   stopped_rest e guest late trap tail longer few h = in_ask_rest e guest late trap tail h.0 h.1 (λ q. cc)

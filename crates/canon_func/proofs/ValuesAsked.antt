@@ -94,7 +94,8 @@ module _ (enc : Encoding) (ms : Members) (vs : List Val) (ts : Trees) (have : Ha
   unfit : (how : Failure) (j : ℕ) → IsTypeFailure how → MemberFails how ms vs j → ⊥
   unfit how j is fails = failure_excludes how ms vs j ts is fails have
 
-  module _ (some : Bool) (ps : List PassedResource) (a b : Moment) (answers : List Answer) (trap : Option Trap) (lawful : AllLawful answers) (none : trap ≡ None) (l n m : LedgerState) (parts : List (List Part)) (hs : List ℕ) (takes : LeavesTake l parts hs m) where
+  module _ (some : Bool) (ps : List PassedResource) (a b : Moment) (answers : List Answer) (trap : Option Trap) (lawful : AllLawful answers) (none : trap ≡ None) (l n m : LedgerState)
+      (parts : List (List Part)) (hs : List ℕ) (takes : LeavesTake l parts hs m) where
     -- for whatever fault except out of memory
     lowering_excluded : (f : Fault) (ending : Ending) → EndsAs {T = Unit {0}} some ps (Err f) ending → CauseOf a b answers trap ending → BlamesMembers enc ms vs f → told_fault f ≡ f → LeavesStop (stop_of f) l parts n → f ≡ fault.OutOfMemory
     lowering_excluded fault.OutOfMemory ending ends cause blames told stops = refl
@@ -153,7 +154,8 @@ module _ {T G : Type 0} (may : ValuesAnswering T) (L : GuestLaws G) (gives : Giv
   first_is = take-append-le (args_words (asked_params callee asked)) words pad (pointer_counts (args_words (asked_params callee asked)) (members_flat (asked_results callee asked)) (length words) is.count).0
 
   -- results that reach no text and no list ask for nothing
-  asks_none : (s : T) (l : LedgerState) (at : ℕ) (results : List Val) (r : Result (Unit {0}) Fault) (h : LowersGiven L.seen L.moves asked (record a { state = s; ledger = l }) at results r b storage2) (answers : List Answer) (trap : Option Trap)
+  asks_none : (s : T) (l : LedgerState) (at : ℕ) (results : List Val) (r : Result (Unit {0}) Fault) (h : LowersGiven L.seen L.moves asked (record a { state = s; ledger = l }) at results r b storage2)
+      (answers : List Answer) (trap : Option Trap)
       → (L.seen b.guest).marks ≡ (L.seen a.guest).marks ++ marks_of answers → CauseOf (moment_of L.seen a) (moment_of L.seen b) answers trap h.lowered.ending → have_block (asked_results callee asked) ≡ false
       → (answers ≡ []) × (trap ≡ None) × (L.seen b.guest ≡ L.seen a.guest) × (members_flat (asked_results callee asked) ≤ max_results → b.memory ≡ a.memory)
   asks_none s l at results r h answers trap marks cause none =
@@ -186,7 +188,8 @@ module _ {T G : Type 0} (may : ValuesAnswering T) (L : GuestLaws G) (gives : Giv
 
 module _ {T G : Type 0} (may : ValuesAnswering T) (L : GuestLaws G) (gives : Giving T) (log : Option (List LoggedEntry)) (index : ℕ) (a b : Parts T G) (export : Export) (asked : Asked) (words pad storage2 : List ℕ)
     (is : IsHostAsk (export_callee a.component export) index words asked) where
-  pub values_follow : FollowsSteps (ask_values may) gives.answers (steps_of_values gives log index L.seen L.moves asked may) (λ told. logged log (logged_entry index told)) L.seen L.moves log index a b (export_callee a.component export) asked words pad storage2
+  pub values_follow : FollowsSteps (ask_values may) gives.answers (steps_of_values gives log index L.seen L.moves asked may)
+      (λ told. logged log (logged_entry index told)) L.seen L.moves log index a b (export_callee a.component export) asked words pad storage2
   values_follow = record {
     declines = λ e why. ap (host_error index) why;
     lifts = λ l r lifted h. (subst (λ ws. (over : ℕ) × LiftsParams (asked_origin (export_callee a.component export) asked a.memory) ws (asked_params (export_callee a.component export) asked) l a.fuel r lifted.ledger over) (first_is may L gives log index a b export asked words pad storage2 is) h.0, h.1);

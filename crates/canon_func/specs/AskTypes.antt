@@ -51,7 +51,8 @@ module _ {P : Type 0} (reading : Reading P) (callee : Callee) (asked : Asked) (w
 
   -- Parameters were lifted in the store of this number with this fuel, or why not.
   abbrev pub TypedAskLifts : ℕ → ℕ → LedgerState → Result P Fault → LedgerState → Type 0
-  TypedAskLifts store fuel before result after = (left : ℕ) × Lifts asked_reading (asked_setting callee asked memory store) (flat_in (take (args_words (asked_params callee asked)) words) 0) (asked_shape callee asked) before fuel result after left
+  TypedAskLifts store fuel before result after = (left : ℕ) × Lifts asked_reading (asked_setting callee asked memory store) (flat_in (take (args_words (asked_params callee asked)) words) 0)
+      (asked_shape callee asked) before fuel result after left
 
   -- No reached place has a fault, and the charges of all are no more than the fuel; the ledger accepts the handles.
   pub record TypedAskLiftable (fuel : ℕ) (before : LedgerState) (store : ℕ) : Type 0 where
@@ -72,7 +73,8 @@ pub record TupleInto (from to : Moment) (callee : Callee) (asked : Asked) (at : 
       → (low : StoresTuple (bare from) (bare to) (asked_origin callee asked from.bytes).encoding (asked_results callee asked) at (InParts Has) hs ending) × (low.answers ≡ answers) × (low.trap ≡ trap)
 
 -- the same, with its handles through the ledger, which do this, from one moment to another
-pub record TypedAskLowers (Has : Tree → Type 0) (gives : List (List Part)) (callee : Callee) (asked : Asked) (at : ℕ) (from to : Moment) (words : List ℕ) (answers : List Answer) (trap : Option Trap) (before after : LedgerState) (result : Result (Unit {0}) Fault) : Type 0 where
+pub record TypedAskLowers (Has : Tree → Type 0) (gives : List (List Part)) (callee : Callee) (asked : Asked) (at : ℕ) (from to : Moment) (words : List ℕ) (answers : List Answer) (trap : Option Trap)
+    (before after : LedgerState) (result : Result (Unit {0}) Fault) : Type 0 where
   pub handles : List ℕ
   pub ending : Ending
   pub ends : EndsBy gives result ending

@@ -76,7 +76,8 @@ pub record LowersInto (from to : Moment) (callee : Callee) (asked : Asked) (at :
       → (low : StoresMembers false (bare from) (bare to) (host_texts (asked_origin callee asked from.bytes).encoding) (asked_results callee asked) 0 at (HaveTrees (asked_results callee asked) results) hs ending) × (low.answers ≡ answers) × (low.trap ≡ trap)
 
 -- the same, with its handles through the ledger, from one moment to another
-pub record AskLowers (callee : Callee) (asked : Asked) (at : ℕ) (from to : Moment) (results : List Val) (words : List ℕ) (answers : List Answer) (trap : Option Trap) (before after : LedgerState) (result : Result (Unit {0}) Fault) : Type 0 where
+pub record AskLowers (callee : Callee) (asked : Asked) (at : ℕ) (from to : Moment) (results : List Val) (words : List ℕ) (answers : List Answer) (trap : Option Trap) (before after : LedgerState)
+    (result : Result (Unit {0}) Fault) : Type 0 where
   pub crosses : Crosses callee.types (have_handle (asked_results callee asked)) (all_passes (asked_results callee asked) results) (LowersInto from to callee asked at results words answers trap) before after result
   pub cause : IfErr result (BlamesMembers (asked_origin callee asked from.bytes).encoding (asked_results callee asked) results)
   -- no text among them is too long, and no list or map too large

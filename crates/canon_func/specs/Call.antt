@@ -263,7 +263,8 @@ module _ {T R : Type 0} (args : Arguments) (its : ReturnedValues R) (gives : Giv
   abbrev pub HandlesPassOf : List AskTurn → Seen → Moment → List Answer → Option Trap → HostSide T → HostSide T → List ℕ → Result R Error → List Event → List Event → Type 0
   HandlesPassOf turns late_guest to late late_trap before after given (Ok results) events tail =
       (lowered : LedgerState) × LeavesTake (enter before.ledger) args.parts given lowered
-      × AfterTurns gives callee fuel turns (record before { ledger = lowered }) (λ served. Each (OnReturn (λ words m. Concludes its callee words m results served.ledger after.ledger)) tail × (after ≡ record served { ledger = after.ledger }))
+      × AfterTurns gives callee fuel turns (record before { ledger = lowered }) (λ served. Each (OnReturn (λ words m. Concludes its callee words m results served.ledger after.ledger)) tail
+      × (after ≡ record served { ledger = after.ledger }))
   HandlesPassOf turns late_guest to late late_trap before after given (Err e) events tail =
       ((e ≡ error.Fault fault.OutOfMemory) × (events ≡ []) × (after ≡ before))
       ⊎ (Each IsNoStart events × LeavesStop (stopped_by e) (enter before.ledger) args.parts after.ledger × (after ≡ record before { ledger = after.ledger }))

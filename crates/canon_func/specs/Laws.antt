@@ -106,7 +106,8 @@ PassesThrough {T} gives callee fuel first last turns before after tail =
 
 -- The ledger of a call that is Ok went through these steps, one after another, each of which it accepted.
 abbrev pub CallIsThrough : {T : Type 0} → Giving T → Type 0
-CallIsThrough {T} gives = (callee : Callee) (fuel : ℕ) (params : List Val) (turns : List AskTurn) (late_guest : Seen) (to : Moment) (late : List Answer) (trap : Option Trap) (before after : HostSide T) (given : List ℕ) (results : List Val) (events tail : List Event)
+CallIsThrough {T} gives = (callee : Callee) (fuel : ℕ) (params : List Val) (turns : List AskTurn) (late_guest : Seen) (to : Moment) (late : List Answer) (trap : Option Trap)
+    (before after : HostSide T) (given : List ℕ) (results : List Val) (events tail : List Event)
     → HandlesPass gives callee fuel params turns late_guest to late trap before after given (Ok tt) results events tail
     → PassesThrough gives callee fuel (param_parts callee params) (result_parts callee) turns before after tail
 
@@ -148,7 +149,8 @@ module _ {T : Type 0} (gives : Giving T) (callee : Callee) (fuel : ℕ) where
 
 -- The ledger of a call that is refused went through the same steps up to some step, which is one of those that the events determine.
 abbrev pub RefusedTurnIsPartway : {T : Type 0} → Giving T → Type 0
-RefusedTurnIsPartway {T} gives = (callee : Callee) (fuel : ℕ) (params : List Val) (turns : List AskTurn) (late_guest : Seen) (to : Moment) (late : List Answer) (trap : Option Trap) (before after : HostSide T) (given : List ℕ) (e : Error) (results : List Val) (events tail : List Event)
+RefusedTurnIsPartway {T} gives = (callee : Callee) (fuel : ℕ) (params : List Val) (turns : List AskTurn) (late_guest : Seen) (to : Moment) (late : List Answer) (trap : Option Trap)
+    (before after : HostSide T) (given : List ℕ) (e : Error) (results : List Val) (events tail : List Event)
     → HandlesPass gives callee fuel params turns late_guest to late trap before after given (Err e) results events tail
     → PassesPartway gives callee fuel e (param_parts callee params) (result_parts callee) turns before after.ledger events tail
 

@@ -249,7 +249,8 @@ Ended callee words before after (Err _) = ⊥
 
 module _ {T : Type 0} (gives : Giving T) (callee : Callee) (limits : Limits) where
   -- A core function was started with these words, and ran until it returned these; then the call's scope ended, or didn't.
-  pub record RunsOut (Lives : List Leg → List Event → Type 0) (words : List ℕ) (before after : Moment) (host left : HostSide T) (returned : List ℕ) (ended : Result (Unit {0}) Error) (answers : List Answer) (events : List Event) : Type 0 where
+  pub record RunsOut (Lives : List Leg → List Event → Type 0) (words : List ℕ) (before after : Moment) (host left : HostSide T) (returned : List ℕ) (ended : Result (Unit {0}) Error)
+      (answers : List Answer) (events : List Event) : Type 0 where
     pub ran : HostSide T
     pub run : RunsUntil gives callee limits Lives words before after host ran (Ok returned) answers events
     pub ends : Ended callee returned ran.ledger left.ledger ended
@@ -314,7 +315,8 @@ module _ {T R : Type 0} (its : ReturnedValues R) (gives : Giving T) (callee : Ca
 
   -- A callee was started with these words at the moment `before`, was served in these turns, what it returned was lifted with this fuel,
   -- and post-return was run.
-  pub record IsRest (Lives : List Leg → List Event → Type 0) (Leaves : List ℕ → List ℕ → Type 0) (words : List ℕ) (before after : Moment) (host left : HostSide T) (answer : Result R Error) (answers : List Answer) (events : List Event) : Type 0 where
+  pub record IsRest (Lives : List Leg → List Event → Type 0) (Leaves : List ℕ → List ℕ → Type 0) (words : List ℕ) (before after : Moment) (host left : HostSide T) (answer : Result R Error)
+      (answers : List Answer) (events : List Event) : Type 0 where
     pub one_run : OnOk answer (IsOneRun callee.func callee.post events)
     pub prefix : (len : ℕ) → IsPrefixOfRun callee.func callee.post len events
     pub turns : List AskTurn

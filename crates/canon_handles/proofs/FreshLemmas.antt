@@ -139,7 +139,8 @@ recorded_if_insert : {E : Type 0} (b : Bool) (t : Table E) (events : List Event)
 recorded_if_insert true t events e r = r
 recorded_if_insert false t events e r = recorded-insert t events e r
 
-recorded_if_remove : {E : Type 0} (o : Option E) (t : Table E) (events : List Event) (i : ℕ) → entry_at t i ≡ o → IsRecorded t events → let w : TableWithHistory E = cond (is_some o) (without t i, Removed i ∷ events) (t, events) in IsRecorded w.0 w.1
+recorded_if_remove : {E : Type 0} (o : Option E) (t : Table E) (events : List Event) (i : ℕ) → entry_at t i ≡ o → IsRecorded t events → let w : TableWithHistory E =
+    cond (is_some o) (without t i, Removed i ∷ events) (t, events) in IsRecorded w.0 w.1
 recorded_if_remove None t events i is r = r
 recorded_if_remove (Some e) t events i is r = recorded-remove t events i e is r
 

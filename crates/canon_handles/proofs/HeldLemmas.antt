@@ -75,7 +75,8 @@ insert_table {E = E} t c e a is = ap (λ (a : ℕ × Table E × Counter). a.1) (
 pub insert_counter : {E : Type 0} (t : Table E) (c : Counter) (e : E) (a : ℕ × Table E × Counter) → insert t c e ≡ Ok a → one_more c ≡ a.2
 insert_counter {E = E} t c e a is = ap (λ (a : ℕ × Table E × Counter). a.2) (insert_given t c e a is)
 
-pub counts_after_insert : {E : Type 0} (r : Result ℕ HandleError) (s s' : TableState E) (c c' : Counter) (e : E) → DoesWithMemory (insert s.table c e) r s s' c c' → IsFresh s.table (fresh_index s.table) → entry_count s'.table + c.live ≡ entry_count s.table + c'.live
+pub counts_after_insert : {E : Type 0} (r : Result ℕ HandleError) (s s' : TableState E) (c c' : Counter) (e : E) → DoesWithMemory (insert s.table c e) r s s' c c'
+    → IsFresh s.table (fresh_index s.table) → entry_count s'.table + c.live ≡ entry_count s.table + c'.live
 counts_after_insert (Ok i) s s' c c' e step k =
     let a : entry_count (with_new s.table e) ≡ entry_count s'.table = ap entry_count (insert_table s.table c e (i, s'.table, c') step) in
     let b : c.live + 1 ≡ c'.live = ap (λ (c : Counter). c.live) (insert_counter s.table c e (i, s'.table, c') step) in

@@ -59,9 +59,11 @@ values_may : {F T G : Type 0} (g : Closure F (HostView T) Val (Result (Unit {0})
 values_may g f asked b a params results r h = (r, results, refl, done_on _ b a h.gave)
 
 -- The function that is called answers only what the import may answer.
-module _ {F T G : Type 0} (g : Closure F (HostView T) Val (Result (Unit {0}) HostStop)) (f : F) (gives : Giving T) (may : ValuesAnswering T) (log : Option (List LoggedEntry)) (n : ℕ) (seen : G → Seen) (moves : GuestIn G → List Event → GuestIn G → Type 0)
+module _ {F T G : Type 0} (g : Closure F (HostView T) Val (Result (Unit {0}) HostStop)) (f : F) (gives : Giving T) (may : ValuesAnswering T) (log : Option (List LoggedEntry)) (n : ℕ)
+    (seen : G → Seen) (moves : GuestIn G → List Event → GuestIn G → Type 0)
     (only : IfSome log (λ entries. GivesOnly g f (gives.answers entries n))) (so : AnswersOnly g f may) where
-  gave_only : (o : Option (List LoggedEntry)) → IfSome o (λ entries. GivesOnly g f (gives.answers entries n)) → (v w : HostView T) (type : TypeFunc) (params slots results : List Val) (r : Result (Unit {0}) HostStop) → IsOutside v → Returns g f v type params slots r w results
+  gave_only : (o : Option (List LoggedEntry)) → IfSome o (λ entries. GivesOnly g f (gives.answers entries n))
+      → (v w : HostView T) (type : TypeFunc) (params slots results : List Val) (r : Result (Unit {0}) HostStop) → IsOutside v → Returns g f v type params slots r w results
       → IfSome o (λ entries. (ledger_in w.tables ≡ ledger_in v.tables) × gives.answers entries n v.state.now params (outcome r results) w.state.now)
   gave_only (Some entries) h v w type params slots results r outside returned = h v w type params slots results r outside returned
   gave_only None h v w type params slots results r outside returned = tt
@@ -81,7 +83,8 @@ module _ {F T G : Type 0} (g : Closure F (HostView T) Val (Result (Unit {0}) Hos
         (gave_only log only h.gave.view h.gave.left asked.func params _ results r h.gave.outside h.gave.returned);
   }
 
-  serves_import : (asked : Asked) (before after : Parts T G) (words words2 : List ℕ) (r : Result AskValues HostError) → Serves (CallsBlank g f asked) seen moves asked before words r after words2 → ServesWith gives log n seen moves asked may before words r after words2
+  serves_import : (asked : Asked) (before after : Parts T G) (words words2 : List ℕ) (r : Result AskValues HostError) → Serves (CallsBlank g f asked) seen moves asked before words r after words2
+      → ServesWith gives log n seen moves asked may before words r after words2
   serves_import asked before after words words2 r h =
       serves_changed (value_steps (CallsBlank g f asked) seen moves asked) (λ b e. e ≡ error.Fault fault.OutOfMemory) (LiftsAsked asked) (λ b params a results. CallsImport gives may log n asked b params (Ok tt) a results)
       (λ b params why a results. CallsImport gives may log n asked b params (Err why) a results) asked before (λ e is. is) (λ a ws x lifts. lifts)
@@ -93,7 +96,8 @@ module _ {F T G : Type 0} (g : Closure F (HostView T) Val (Result (Unit {0}) Hos
   served_import asked before after words words2 (Err e) h = serves_import asked before after words words2 (Err e) h
 
   -- of a type that was found
-  pub found_import : (ty options : ℕ) (before after : Parts T G) (words words2 : List ℕ) (r : Result (Vec Val Global) HostError) (o : Option TypeFunc) → IfSome o (λ t. ServesInRow g f seen moves (host_asked_by ty t options) before words r after words2)
+  pub found_import : (ty options : ℕ) (before after : Parts T G) (words words2 : List ℕ) (r : Result (Vec Val Global) HostError) (o : Option TypeFunc)
+      → IfSome o (λ t. ServesInRow g f seen moves (host_asked_by ty t options) before words r after words2)
       → IfSome o (λ t. AnswersInRow (λ told. ServesWith gives log n seen moves (host_asked_by ty t options) may before words told after words2) r)
   found_import ty options before after words words2 r (Some t) h = served_import (host_asked_by ty t options) before after words words2 r h
   found_import ty options before after words words2 r None h = tt
@@ -102,7 +106,8 @@ module _ {F T G : Type 0} (g : Closure F (HostView T) Val (Result (Unit {0}) Hos
 
 module _ {T G : Type 0} (gives : Giving T) (may : ValuesAnswering T) (log : Option (List LoggedEntry)) (n : ℕ) (seen : G → Seen) (moves : GuestIn G → List Event → GuestIn G → Type 0) (asked : Asked) where
   -- as many of them as the type has parameters are the parameters, and the others the results
-  pub entry_in_row : (before after : Parts T G) (words words2 : List ℕ) (values : List Val) (told : AskValues) (count : ℕ) → ServesWith gives log n seen moves asked may before words (Ok told) after words2 → values ≡ told.params ++ told.results
+  pub entry_in_row : (before after : Parts T G) (words words2 : List ℕ) (values : List Val) (told : AskValues) (count : ℕ)
+      → ServesWith gives log n seen moves asked may before words (Ok told) after words2 → values ≡ told.params ++ told.results
       → count ≡ member_count (param_members (component_types before) asked.func) → logged_entry n (params_and_results (take count values) (drop count values)) ≡ logged_entry n told
   entry_in_row before after words words2 values told count served row is =
       let parts : count ≡ length told.params = is ∙ sym (told_count (CallsImport gives may log n asked) seen moves asked before after words words2 told served) in
@@ -112,7 +117,8 @@ module _ {T G : Type 0} (gives : Giving T) (may : ValuesAnswering T) (log : Opti
 
 -- ---- one ask over values, by what was done
 
-module _ {T G : Type 0} (gives : Giving T) (may : ValuesAnswering T) (log log2 : Option (List LoggedEntry)) (n : ℕ) (seen : G → Seen) (moves : GuestIn G → List Event → GuestIn G → Type 0) (ty options r r2 : ℕ) (before after : Parts T G) (words words2 : List ℕ) where
+module _ {T G : Type 0} (gives : Giving T) (may : ValuesAnswering T) (log log2 : Option (List LoggedEntry)) (n : ℕ) (seen : G → Seen) (moves : GuestIn G → List Event → GuestIn G → Type 0)
+    (ty options r r2 : ℕ) (before after : Parts T G) (words words2 : List ℕ) where
   -- what was done, by its values in a row
   abbrev pub AskDone : Result (Vec Val Global) HostError → TypeFunc → Type 0
   AskDone result t = AnswersInRow (λ told. ServesWith gives log n seen moves (host_asked_by ty t options) may before words told after words2) result
@@ -141,13 +147,15 @@ module _ {T G : Type 0} (gives : Giving T) (may : ValuesAnswering T) (log log2 :
 
 -- ---- what its function gave
 
-module _ {T G : Type 0} (gives : Giving T) (may : ValuesAnswering T) (entries : List LoggedEntry) (n : ℕ) (seen : G → Seen) (moves : GuestIn G → List Event → GuestIn G → Type 0) (P : Type 0) (gave : (s t : T) (params results : List Val) → gives.answers entries n s params (Ok results) t → P)
+module _ {T G : Type 0} (gives : Giving T) (may : ValuesAnswering T) (entries : List LoggedEntry) (n : ℕ) (seen : G → Seen) (moves : GuestIn G → List Event → GuestIn G → Type 0) (P : Type 0)
+    (gave : (s t : T) (params results : List Val) → gives.answers entries n s params (Ok results) t → P)
     (before after : Parts T G) (words words2 : List ℕ) where
   gave_in : (asked : Asked) (told : AskValues) → ServesWith gives (Some entries) n seen moves asked may before words (Ok told) after words2 → P
   gave_in asked told h = let (params, lifted, lifts, (called, same, c, ends)) = h in gave _ _ _ _ c.by_log.1
 
   -- of a type that was found
-  pub found_gave : (ty options : ℕ) (values : Vec Val Global) (o : Option TypeFunc) → o ≢ None → IfSome o (λ t. AnswersInRow (λ told. ServesWith gives (Some entries) n seen moves (host_asked_by ty t options) may before words told after words2) (Ok values)) → P
+  pub found_gave : (ty options : ℕ) (values : Vec Val Global) (o : Option TypeFunc) → o ≢ None
+      → IfSome o (λ t. AnswersInRow (λ told. ServesWith gives (Some entries) n seen moves (host_asked_by ty t options) may before words told after words2) (Ok values)) → P
   found_gave ty options values (Some t) ask_there (told, row, served) = gave_in (host_asked_by ty t options) told served
   found_gave ty options values None ask_there served = absurd (ask_there refl)
 
@@ -171,7 +179,8 @@ module _ {F T G P R : Type 0} (g : StaticClosure F (HostView T) P (Result R Host
   typed_import : (asked : Asked) (before after : Parts T G) (words words2 : List ℕ) (r : Result (Values P R) HostError) → IsOfThese types before.component.types asked.func
       → ServesBy (typed_steps g f types.reading types.walks types.gives seen moves asked) asked before words r after words2 → ServesBy (steps_of_types types May None seen moves asked) asked before words r after words2
   typed_import asked before after words words2 r fits h =
-      serves_changed (typed_steps g f types.reading types.walks types.gives seen moves asked) (Declines types None asked) (LiftsOf types asked) (λ b params a results. CallsUnlogged May None b params (Ok results) a) (λ b params why a left. CallsUnlogged May None b params (Err why) a)
+      serves_changed (typed_steps g f types.reading types.walks types.gives seen moves asked) (Declines types None asked) (LiftsOf types asked)
+      (λ b params a results. CallsUnlogged May None b params (Ok results) a) (λ b params why a left. CallsUnlogged May None b params (Err why) a)
       asked before (λ e is. inl is) (λ a ws x lifts. (fits, lifts))
       (λ b a params results calls. calls_unlogged b a params (Ok results) calls) (λ b a params why left calls. calls_unlogged b a params (Err why) calls) after words words2 r h
 

@@ -92,17 +92,21 @@ module _ {T G : Type 0} (seen : G → Seen) (moves : GuestIn G → List Event �
       before.ledger mid.ledger r
       → IfErr r (BlamesMembers (encoding_by before asked.options) (result_members (component_types before) asked.func) results)
       → OnOk r (AreSmall (encoding_by before asked.options) (result_members (component_types before) asked.func) results)
-      → QuietBut (have_handle (result_members (component_types before) asked.func)) (all_passes (result_members (component_types before) asked.func) results) (have_block (result_members (component_types before) asked.func)) (mid.guest ≡ before.guest) r
+      → QuietBut (have_handle (result_members (component_types before) asked.func)) (all_passes (result_members (component_types before) asked.func) results)
+      (have_block (result_members (component_types before) asked.func)) (mid.guest ≡ before.guest) r
       → (members_flat (result_members (component_types before) asked.func) ≤ max_results
-      → QuietBut (have_handle (result_members (component_types before) asked.func)) (all_passes (result_members (component_types before) asked.func) results) (have_block (result_members (component_types before) asked.func)) (SameButLedger before mid) r)
+      → QuietBut (have_handle (result_members (component_types before) asked.func)) (all_passes (result_members (component_types before) asked.func) results)
+      (have_block (result_members (component_types before) asked.func)) (SameButLedger before mid) r)
       → SameButHandles before mid
-      → (members_flat (result_members (component_types before) asked.func) ≤ max_results → length ws ≡ members_flat (result_members (component_types before) asked.func)) → after ≡ mid → LowersGiven seen moves asked before at results r after (ws ++ rest)
+      → (members_flat (result_members (component_types before) asked.func) ≤ max_results → length ws ≡ members_flat (result_members (component_types before) asked.func)) → after ≡ mid
+      → LowersGiven seen moves asked before at results r after (ws ++ rest)
   lowered_given before mid after at results ws rest r h cause small quiet quiet_near same count is = subst (λ x. LowersGiven seen moves asked before at results r x (ws ++ rest)) (sym is) (record {
     lowered = record {
       given = h.given;
       ending = h.ending;
       ends = h.ends;
-      lowered = lowered_first (stage_of seen moves before) (stage_of seen moves mid) (encoding_by before asked.options) (result_members (component_types before) asked.func) (HaveTrees (result_members (component_types before) asked.func) results) at ws rest h.given h.ending count h.lowered;
+      lowered = lowered_first (stage_of seen moves before) (stage_of seen moves mid) (encoding_by before asked.options) (result_members (component_types before) asked.func)
+          (HaveTrees (result_members (component_types before) asked.func) results) at ws rest h.given h.ending count h.lowered;
       passed = h.passed;
       as_told = h.as_told;
     };
@@ -129,14 +133,17 @@ module _ {T G R : Type 0} (E : EndingRelation T G) (L : LoweringRelation T G R) 
   not_ended before after results words e ends = inl (ends, refl)
 
 -- it was told of the place, or memory was wanting for that
-module _ {T G : Type 0} (seen : G → Seen) (moves : GuestIn G → List Event → GuestIn G → Type 0) (goes_on : (g h k : GuestIn G) (xs ys : List Event) → moves g xs h → moves h ys k → moves g (xs ++ ys) k) (asked : Asked) (before after : Parts T G) (at n : ℕ)
-    (far : max_results < members_flat (result_members (component_types before) asked.func)) (is : n ≡ size false (product of_places (result_members (component_types before) asked.func))) (same : after ≡ record before { guest = after.guest }) where
+module _ {T G : Type 0} (seen : G → Seen) (moves : GuestIn G → List Event → GuestIn G → Type 0) (goes_on : (g h k : GuestIn G) (xs ys : List Event) → moves g xs h → moves h ys k
+    → moves g (xs ++ ys) k) (asked : Asked) (before after : Parts T G) (at n : ℕ)
+    (far : max_results < members_flat (result_members (component_types before) asked.func)) (is : n ≡ size false (product of_places (result_members (component_types before) asked.func)))
+    (same : after ≡ record before { guest = after.guest }) where
   told_went : MovesByNone moves before.guest after.guest → GoesBy (stage_of seen moves before) (stage_of seen moves after) []
   told_went none more k on =
       goes_on (guest_of before) (guest_of (record before { guest = after.guest })) k [] more (none (memory_of before.memory before.wide))
       (subst (λ (x : Parts T G). moves (guest_of x) more k) same on)
 
-  pub told_place : (r : Result (Unit {0}) Fault) → HoldsPlace (seen before.guest) (seen after.guest) (block at n) r → OnOk r (MovesByNone moves before.guest after.guest) → IfErr r (λ e. e ≡ fault.OutOfMemory) → TellsPlace seen moves asked before at r after
+  pub told_place : (r : Result (Unit {0}) Fault) → HoldsPlace (seen before.guest) (seen after.guest) (block at n) r → OnOk r (MovesByNone moves before.guest after.guest)
+      → IfErr r (λ e. e ≡ fault.OutOfMemory) → TellsPlace seen moves asked before at r after
   told_place (Ok x) holds none short = record {
     near = λ near. absurd (omega (arith, near, far));
     far = λ _. subst (λ m. IsHeld (seen before.guest) (seen after.guest) (block at m)) is holds;
@@ -224,7 +231,8 @@ found_at Is f f2 asked ty options made after words2 words3 o ef found ety eopt h
 
 -- ---- the data of the host
 
-ended_state : {T G : Type 0} (seen : G → Seen) (moves : GuestIn G → List Event → GuestIn G → Type 0) (asked : Asked) (before after : Parts T G) (words : List ℕ) (r : Result ℕ Fault) → EndsAsk seen moves asked before words r after → after.state ≡ before.state
+ended_state : {T G : Type 0} (seen : G → Seen) (moves : GuestIn G → List Event → GuestIn G → Type 0) (asked : Asked) (before after : Parts T G) (words : List ℕ) (r : Result ℕ Fault)
+    → EndsAsk seen moves asked before words r after → after.state ≡ before.state
 ended_state {T} {G} seen moves asked before after words (Ok at) (place, (ended, ends, told)) = ap (λ (k : Parts T G). k.state) told.same ∙ ap (λ (k : Parts T G). k.state) ends.1
 ended_state {T} {G} seen moves asked before after words (Err e) (inl (none, same)) = ap (λ (k : Parts T G). k.state) same
 ended_state {T} {G} seen moves asked before after words (Err e) (inr (at, place, inl (x, is, ends))) = ap (λ (k : Parts T G). k.state) ends.1

@@ -31,7 +31,8 @@ use Rattle.std.specs.Prelude.{IfSome, Some, slice_get}
 -- the words stand first among others
 module _ {T G R : Type 0} (seen : G → Seen) (moves : GuestIn G → List Event → GuestIn G → Type 0) (walks : R → Tree → Type 0) (gives : Instance → Shape → R → List (List Part)) (asked : Asked) where
   pub lowered_typed : (before mid after : Parts T G) (at : ℕ) (results : R) (ws rest : List ℕ) (r : Result (Unit {0}) Fault)
-      → TypedResults seen moves asked.options before mid (result_members (component_types before) asked.func) at ws (walks results) (gives before.component.types (product of_places (result_members (component_types before) asked.func)) results) r
+      → TypedResults seen moves asked.options before mid (result_members (component_types before) asked.func) at ws (walks results)
+      (gives before.component.types (product of_places (result_members (component_types before) asked.func)) results) r
       → (members_flat (result_members (component_types before) asked.func) ≤ max_results → length ws ≡ members_flat (result_members (component_types before) asked.func)) → after ≡ mid
       → LowersTyped seen moves walks gives asked before at results r after (ws ++ rest)
   lowered_typed before mid after at results ws rest r h count is = subst (λ x. LowersTyped seen moves walks gives asked before at results r x (ws ++ rest)) (sym is)
@@ -45,7 +46,8 @@ module _ {F T G P R : Type 0} (g : StaticClosure F (HostView T) P (Result R Host
         → Untold (λ told. AnswersBy (typed_steps g f reading walks gives seen moves asked) asked before params words told after words2) (Ok tt)
     answered_ok called results calls ends = (record { params = params; results = results }, (called, refl, calls, ends))
 
-    pub answered_err : (called : Parts T G) (results : R) (x : Fault) → CallsTyped g f before params (Ok results) called → ConcludesBy (EndsAsk seen moves asked) (LowersTyped seen moves walks gives asked) asked called results words (Err x) after words2
+    pub answered_err : (called : Parts T G) (results : R) (x : Fault) → CallsTyped g f before params (Ok results) called
+        → ConcludesBy (EndsAsk seen moves asked) (LowersTyped seen moves walks gives asked) asked called results words (Err x) after words2
         → AnswersBy (typed_steps g f reading walks gives seen moves asked) asked before params words (Err (error.Fault x)) after words2
     answered_err called results x calls ends = inr (inr (results, called, x, refl, calls, ends))
 

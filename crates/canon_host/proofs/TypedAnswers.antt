@@ -184,7 +184,8 @@ module _ {F T G P R : Type 0} (g : StaticClosure F (HostView T) P (Result R Host
 -- ---- the ways of their handles
 
 -- of a tuple, over its members
-pub members_given : {R : Type 0} (i : Instance) (s : Shape) (row : Members) (gives : Instance → Shape → R → List (List Part)) (results : R) (trees : Trees) → s ≡ product of_places row → AreGivenBy i (leaves s (parts trees)) (gives i s results)
+pub members_given : {R : Type 0} (i : Instance) (s : Shape) (row : Members) (gives : Instance → Shape → R → List (List Part)) (results : R) (trees : Trees) → s ≡ product of_places row
+    → AreGivenBy i (leaves s (parts trees)) (gives i s results)
     → AreGivenBy i (members_leaves row trees) (gives i (product of_places row) results)
 unfolding leaves
 members_given i s row gives results trees is h = subst (λ (u : Shape). AreGivenBy i (leaves u (parts trees)) (gives i u results)) is h

@@ -70,7 +70,8 @@ module _ (l ended : LedgerState) (did : DidSurely (validate_scope_exit (top_scop
   untold_partway n handles is = inr (inr (
     0,
     accepted,
-    subst (λ k. Partway k (Leave ∷ leaves_steps (leave k) handles) n) ended_is (compose_parts ended (leave ended) n (Leave ∷ []) (leaves_steps (leave ended) handles) left (partway_none (leave ended) n (leaves_steps (leave ended) handles) is)),
+    subst (λ k. Partway k (Leave ∷ leaves_steps (leave k) handles) n) ended_is
+        (compose_parts ended (leave ended) n (Leave ∷ []) (leaves_steps (leave ended) handles) left (partway_none (leave ended) n (leaves_steps (leave ended) handles) is)),
   ))
 
 -- it is refused
@@ -111,7 +112,8 @@ module _ {F T G P R : Type 0} (g : StaticClosure F (HostView T) P (Result R Host
       abbrev Handles : Component → List (List Part)
       Handles c = gives c.types (product of_places (result_members c.types.types asked.func)) results
 
-      pub concluded_through : ConcludesBy (EndsAsk seen moves asked) (LowersTyped seen moves walks gives asked) asked called results words (Ok tt) after words2 → Through called.ledger (given_steps (given_parts gives asked before results) called.ledger) after.ledger
+      pub concluded_through : ConcludesBy (EndsAsk seen moves asked) (LowersTyped seen moves walks gives asked) asked called results words (Ok tt) after words2
+          → Through called.ledger (given_steps (given_parts gives asked before results) called.ledger) after.ledger
       concluded_through h =
           let (place, (ended, e, told)) = h.ends in
           let passed = subst (λ (k : Parts T G). LeavesTake k.ledger (Handles k.component) h.lowers.handles after.ledger) told.same h.lowers.passed in

@@ -21,7 +21,8 @@ use Rattle.canon_host.proofs.Importing.{Answered, AskDone, host_asked_by}
 use Rattle.canon_host.proofs.Serving.{serves_changed}
 
 module _ {T G : Type 0} (gives : Giving T) (may : ValuesAnswering T) (n : ℕ) (seen : G → Seen) (moves : GuestIn G → List Event → GuestIn G → Type 0) (ty options r : ℕ) (before after : Parts T G) (words words2 : List ℕ) where
-  pub unlogged : (o : Option TypeFunc) (values : Vec Val Global) → IfSome o (AskDone gives may None None n seen moves ty options r r before after words words2 (Ok values)) → IfSome o (Answered gives may None None n seen moves ty options r r before after words words2 (Ok tt))
+  pub unlogged : (o : Option TypeFunc) (values : Vec Val Global) → IfSome o (AskDone gives may None None n seen moves ty options r r before after words words2 (Ok values))
+      → IfSome o (Answered gives may None None n seen moves ty options r r before after words words2 (Ok tt))
   unlogged (Some t) values (told, row, served) = (told, served, refl, refl)
   unlogged None values done = tt
 
@@ -34,7 +35,8 @@ module _ {T G : Type 0} (gives gives2 : Giving T) (may may2 : ValuesAnswering T)
   calls_as : (b a : Parts T G) (params results : List Val) (r : Result (Unit {0}) HostStop) → CallsImport gives may None n asked b params r a results → CallsImport gives2 may2 None n asked b params r a results
   calls_as b a params results r h = record { steps = h.steps; same = h.same; may_give = so _ _ _ _ _ _ h.may_give; counted = h.counted; by_log = tt }
 
-  serves_as : (before after : Parts T G) (words words2 : List ℕ) (r : Result AskValues HostError) → ServesWith gives None n seen moves asked may before words r after words2 → ServesWith gives2 None n seen moves asked may2 before words r after words2
+  serves_as : (before after : Parts T G) (words words2 : List ℕ) (r : Result AskValues HostError) → ServesWith gives None n seen moves asked may before words r after words2
+      → ServesWith gives2 None n seen moves asked may2 before words r after words2
   serves_as before after words words2 r h =
       serves_changed (steps_of_values gives None n seen moves asked may) (λ b e. e ≡ error.Fault fault.OutOfMemory) (LiftsAsked asked) (λ b params a results. CallsImport gives2 may2 None n asked b params (Ok tt) a results)
       (λ b params why a results. CallsImport gives2 may2 None n asked b params (Err why) a results) asked before (λ e is. is) (λ a ws x lifts. lifts)

@@ -38,7 +38,8 @@ logged log last = option_map (λ entries. entries ++ last ∷ []) log
 
 -- The function of an import was called. Of the core it changed the data, and the ledger by the host's steps. It answered as it may, with a
 -- value for each result; and where the log is exposed, it left the ledger as it was, and may answer so by the log.
-pub record CallsImport {T G : Type 0} (gives : Giving T) (may : ValuesAnswering T) (log : Option (List LoggedEntry)) (n : ℕ) (asked : Asked) (before : Parts T G) (params : List Val) (result : Result (Unit {0}) HostStop) (after : Parts T G) (results : List Val) : Type 0 where
+pub record CallsImport {T G : Type 0} (gives : Giving T) (may : ValuesAnswering T) (log : Option (List LoggedEntry)) (n : ℕ) (asked : Asked) (before : Parts T G) (params : List Val)
+    (result : Result (Unit {0}) HostStop) (after : Parts T G) (results : List Val) : Type 0 where
   pub steps : HostSteps before.ledger after.ledger
   pub same : after ≡ record before { state = after.state; ledger = after.ledger }
   pub may_give : may asked.func (in_view before) params (outcome result results) after.state after.ledger

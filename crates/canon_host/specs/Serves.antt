@@ -173,7 +173,8 @@ abbrev pub Calling : Type 0 → Type 0 → Type 1
 Calling T G = Parts T G → List Val → Result (Unit {0}) HostStop → Parts T G → List Val → Type 0
 
 -- the function is called once, and leaves these results in its slots
-pub record CallsFunction {F T G : Type 0} (g : Closure F (HostView T) Val (Result (Unit {0}) HostStop)) (f : F) (asked : Asked) (before : Parts T G) (params slots : List Val) (result : Result (Unit {0}) HostStop) (after : Parts T G) (results : List Val) : Type 0 where
+pub record CallsFunction {F T G : Type 0} (g : Closure F (HostView T) Val (Result (Unit {0}) HostStop)) (f : F) (asked : Asked) (before : Parts T G) (params slots : List Val)
+    (result : Result (Unit {0}) HostStop) (after : Parts T G) (results : List Val) : Type 0 where
   pub gave : Gave g f before after asked.func params slots result results
   pub counted : length results ≡ length slots
   pub steps : HostSteps before.ledger after.ledger
@@ -194,9 +195,11 @@ module _ {T G : Type 0} (seen : G → Seen) (moves : GuestIn G → List Event �
     pub cause : IfErr result (BlamesMembers (encoding_by before asked.options) (result_members (component_types before) asked.func) results)
     pub small : OnOk result (AreSmall (encoding_by before asked.options) (result_members (component_types before) asked.func) results)
     -- results that reach no text and no list ask for nothing, and leave all but the ledger where they go in a row
-    pub quiet : QuietBut (have_handle (result_members (component_types before) asked.func)) (all_passes (result_members (component_types before) asked.func) results) (have_block (result_members (component_types before) asked.func)) (after.guest ≡ before.guest) result
+    pub quiet : QuietBut (have_handle (result_members (component_types before) asked.func)) (all_passes (result_members (component_types before) asked.func) results)
+        (have_block (result_members (component_types before) asked.func)) (after.guest ≡ before.guest) result
     pub quiet_near : members_flat (result_members (component_types before) asked.func) ≤ max_results
-        → QuietBut (have_handle (result_members (component_types before) asked.func)) (all_passes (result_members (component_types before) asked.func) results) (have_block (result_members (component_types before) asked.func)) (SameButLedger before after) result
+        → QuietBut (have_handle (result_members (component_types before) asked.func)) (all_passes (result_members (component_types before) asked.func) results)
+        (have_block (result_members (component_types before) asked.func)) (SameButLedger before after) result
     pub same : SameButHandles before after
 
   abbrev pub ConcludesAsk : Parts T G → List Val → List ℕ → Result (Unit {0}) Fault → Parts T G → List ℕ → Type 0

@@ -67,7 +67,8 @@ abbrev pub TypedCalling : Type 0 → Type 0 → Type 0 → Type 0 → Type 1
 TypedCalling T G P R = Parts T G → P → Result R HostStop → Parts T G → Type 0
 
 -- parameters are lifted as `Lifts` says, the function is called as C says, and `Declines` says why nothing is done
-module _ {T G P R : Type 0} (Declines : Parts T G → HostError → Type 0) (Lifts : Parts T G → List ℕ → Result P Fault → Parts T G → Type 0) (C : TypedCalling T G P R) (walks : R → Tree → Type 0) (gives : Instance → Shape → R → List (List Part))
+module _ {T G P R : Type 0} (Declines : Parts T G → HostError → Type 0) (Lifts : Parts T G → List ℕ → Result P Fault → Parts T G → Type 0) (C : TypedCalling T G P R) (walks : R → Tree → Type 0)
+    (gives : Instance → Shape → R → List (List Part))
     (seen : G → Seen) (moves : GuestIn G → List Event → GuestIn G → Type 0) (asked : Asked) where
   -- nothing but the function decides whether it is called
   abbrev pub typed_steps_by : Steps T G P P R (Unit {0})

@@ -157,7 +157,8 @@ module _ {F T G P R : Type 0} (g : StaticClosure F (HostView T) P (Result R Host
     pub given : LeavesTake (leave (do_step (ExitScope (top_scope through.called.ledger.handles)) through.called.ledger).after) (given_parts gives asked before through.results)
         (handle_numbers (members_leaves (result_members (component_types before) asked.func) trees)) after.ledger
     pub near : members_flat (result_members (component_types before) asked.func) ≤ max_results → AllLawful answers
-        → RepFlatAt true (encoding_by before asked.options) (narrow after.memory) (take (members_flat (result_members (component_types before) asked.func)) words2) 0 (product of_places (result_members (component_types before) asked.func)) (parts trees)
+        → RepFlatAt true (encoding_by before asked.options) (narrow after.memory) (take (members_flat (result_members (component_types before) asked.func)) words2) 0
+        (product of_places (result_members (component_types before) asked.func)) (parts trees)
     pub far : max_results < members_flat (result_members (component_types before) asked.func) → AllLawful answers
         → IsTrue (seen before.guest).holds ⊎ AreHeld (stage_of seen moves before) answers (value_place false (product of_places (result_members (component_types before) asked.func)) at ∷ [])
         → RepMem true (encoding_by before asked.options) (narrow after.memory) at (product of_places (result_members (component_types before) asked.func)) (parts trees)

@@ -244,13 +244,15 @@ only_bool (ty.FixedLengthList i) e = cc
 bool_number : (bs : List ℕ) (at : ℕ) → at + 1 ≤ length bs → num (narrow bs) at 1 ≡ slice_index bs at
 bool_number bs at room = num_1 bs false at room
 
-pub bool_high : (type : InterfaceType) (k : Scalar) → scalar_type type ≡ Some k → scalar_type type ≡ Some bool → (bs : List ℕ) (at : ℕ) → at + scalar_size k ≤ length bs → 2 ≤ slice_index bs at → ¬ IsSpelling k (num (narrow bs) at (scalar_size k))
+pub bool_high : (type : InterfaceType) (k : Scalar) → scalar_type type ≡ Some k → scalar_type type ≡ Some bool → (bs : List ℕ) (at : ℕ) → at + scalar_size k ≤ length bs → 2 ≤ slice_index bs at
+    → ¬ IsSpelling k (num (narrow bs) at (scalar_size k))
 bool_high type k e f bs at room high =
     let both : Some k ≡ Some bool = sym e ∙ f in
     let same : bool ≡ k = cc in
     subst (λ (j : Scalar). at + scalar_size j ≤ length bs → ¬ IsSpelling j (num (narrow bs) at (scalar_size j))) same (λ r (t, is, least). omega (arith, least, high, bool_number bs at r)) room
 
-pub bool_low : (type : InterfaceType) (k : Scalar) → scalar_type type ≡ Some k → (bs : List ℕ) (at : ℕ) → at + scalar_size k ≤ length bs → (scalar_type type ≡ Some bool → slice_index bs at < 2) → k ≡ bool → num (narrow bs) at (scalar_size k) < 2
+pub bool_low : (type : InterfaceType) (k : Scalar) → scalar_type type ≡ Some k → (bs : List ℕ) (at : ℕ) → at + scalar_size k ≤ length bs → (scalar_type type ≡ Some bool → slice_index bs at < 2)
+    → k ≡ bool → num (narrow bs) at (scalar_size k) < 2
 bool_low type k e bs at room low same =
     subst (λ (j : Scalar). at + scalar_size j ≤ length bs → num (narrow bs) at (scalar_size j) < 2) (sym same) (λ r. omega (arith, low (e ∙ ap Some same), bool_number bs at r)) room
 

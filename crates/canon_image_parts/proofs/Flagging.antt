@@ -81,9 +81,11 @@ pub filled : (old new : List ℕ) (n m : ℕ) → length old ≤ n → new ≡ t
 filled old new n m long e = e ∙ ap (λ l. l ++ replicate m 0) (take_all n old long)
 
 -- the same, or a name that isn't the type's
-pub flags_told : (old zeros mid after : List ℕ) (at place : ℕ) (names : List Name) (set : Vec (String Global) Global) (s : Shape) (r : Result ℕ Fault) → s ≡ flags names → mid ≡ old ++ zeros → length mid ≡ at + flags_size (length names) → at ≡ length old
+pub flags_told : (old zeros mid after : List ℕ) (at place : ℕ) (names : List Name) (set : Vec (String Global) Global) (s : Shape) (r : Result ℕ Fault) → s ≡ flags names → mid ≡ old ++ zeros
+    → length mid ≡ at + flags_size (length names) → at ≡ length old
     → place < 2 ^ 64 → MarksTo mid after at names (names_of set.items) place r → (l : List Any) → WritesTo (sink old l) (sink after l) s (val.Flags set) place r
-flags_told old zeros mid after at place names set s (Err e) is em long ea few (same, unknown) l = subst (λ x. WritesTo (sink old l) (sink after l) s (val.Flags set) place (Err x)) (sym same) (flags_unknown old after names set s place is unknown few l)
+flags_told old zeros mid after at place names set s (Err e) is em long ea few (same, unknown) l =
+    subst (λ x. WritesTo (sink old l) (sink after l) s (val.Flags set) place (Err x)) (sym same) (flags_unknown old after names set s place is unknown few l)
 flags_told old zeros mid after at place names set s (Ok next) is em long ea few (h, counted) l =
     flags_written old zeros after names set s place is (omega (arith, long, ea, ap length em, length-append old zeros)) next
     (subst (λ k. AreMarkedAt (old ++ zeros) after k names (names_of set.items)) ea (subst (λ xs. AreMarkedAt xs after at names (names_of set.items)) em h)) counted l

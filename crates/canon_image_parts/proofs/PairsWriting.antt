@@ -61,7 +61,8 @@ pairs_stop : (a c : Sink) (k u : Shape) (p : Val × Val) (ps : List (Val × Val)
     → PairsWriteTo a c (pair_of k u) (p ∷ ps) from (Err e)
 pairs_stop a c k u p ps from e h = record {
   written = tt;
-  counted = blames_first utf8 (λ how j. MemberFails how (pair_members k u) (p.0 ∷ p.1 ∷ []) j) (λ how j. SomeFails pair_places (λ q i. PairFails how (pair_of k u) q i) (p ∷ ps) j) from e (λ how j f. inl f) (pair_count k u p from a c (Err e) h);
+  counted = blames_first utf8 (λ how j. MemberFails how (pair_members k u) (p.0 ∷ p.1 ∷ []) j) (λ how j. SomeFails pair_places (λ q i. PairFails how (pair_of k u) q i) (p ∷ ps) j) from e
+      (λ how j f. inl f) (pair_count k u p from a c (Err e) h);
   told = h.told;
 }
 
@@ -131,7 +132,8 @@ pub map_written : (a b c : Sink) (place n : ℕ) (s k u : Shape) (xs : Vec (Val 
     → PairsWriteTo b c (pair_of k u) xs.items (cap (place + 1)) r → WritesTo a c s (val.Map xs) place r
 map_written a b c place n s k u xs (Err e) is en few eb h = subst (λ (x : Shape). WritesTo a c x (val.Map xs) place (Err e)) (sym is) (record {
   written = tt;
-  counted = blames_later utf8 (λ how j. SomeFails pair_places (λ p i. PairFails how (pair_of k u) p i) xs.items j) (λ how j. FailsAt how (map_of k u) (val.Map xs) j) 1 place (cap (place + 1)) e refl (λ how j f. inr (xs.items, j, (xs, refl, refl), refl, f)) h.counted;
+  counted = blames_later utf8 (λ how j. SomeFails pair_places (λ p i. PairFails how (pair_of k u) p i) xs.items j) (λ how j. FailsAt how (map_of k u) (val.Map xs) j) 1 place (cap (place + 1)) e refl
+      (λ how j f. inr (xs.items, j, (xs, refl, refl), refl, f)) h.counted;
   told = h.told;
 })
 map_written a b c place n s k u xs (Ok to) is en few eb h =

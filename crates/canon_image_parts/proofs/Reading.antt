@@ -103,7 +103,8 @@ module _ (bs : List ℕ) (from : ℕ) (ms : Members) (at : ℕ) (vs : List Val) 
     }
 
   pub all_read : i ≡ member_count ms → PartsRead bs from at ms vs
-  all_read e = subst (λ l. PartsRead bs from at ms l) (append-nil vs) (h.rest at [] (subst (λ (l : Members). PartsRead bs at at l []) (sym (members_from-all ms i e)) (no_trees, [], spans_none bs at h.inside, (refl, refl), (refl, refl), refl)))
+  all_read e = subst (λ l. PartsRead bs from at ms l) (append-nil vs)
+      (h.rest at [] (subst (λ (l : Members). PartsRead bs at at l []) (sym (members_from-all ms i e)) (no_trees, [], spans_none bs at h.inside, (refl, refl), (refl, refl), refl)))
 
 -- ---- a row of one shape
 
@@ -208,7 +209,8 @@ case_stops (payload name s cs) zero bs p how (inl h) = h
 case_stops (payload name s cs) zero bs p how (inr (t, xs, rest, j, e, image, ep, h)) = absurd h
 case_stops (payload name s cs) (suc d) bs p how h = case_stops cs d bs p how h
 
-pub image_case_read : (bs : List ℕ) (from mid to d : ℕ) (s : Shape) (k : VariantKind) (vs : List Val) (v : Val) → s ≡ variant k (variant_cases s) → d < case_count (variant_cases s) → IsField (tag_size (case_count (variant_cases s))) d (drop from bs) (drop mid bs)
+pub image_case_read : (bs : List ℕ) (from mid to d : ℕ) (s : Shape) (k : VariantKind) (vs : List Val) (v : Val) → s ≡ variant k (variant_cases s) → d < case_count (variant_cases s)
+    → IsField (tag_size (case_count (variant_cases s))) d (drop from bs) (drop mid bs)
     → mid ≡ from + tag_size (case_count (variant_cases s)) → PartsRead bs mid to (case_members (variant_cases s) d) vs → IsCaseRebuilt s d vs v → resources v ≡ all_resources vs → ReadsTo bs from to s (Ok v)
 image_case_read bs from mid to d s k vs v is lt field em (ts, xs, span, images, are, numbers) made mine =
     let cs = variant_cases s in

@@ -360,7 +360,8 @@ module _ (a b c : Sink) (n place next : ℕ) (x : Any) (en : n ≡ length a.list
 
 -- ---- what a step of the walk left, said of what it was asked
 
-pub image_case_told : (t : TypeTable) (a b c : Sink) (place n m first : ℕ) (s : Shape) (x : Case) (v : Val) (r : Result ℕ Fault) → IsCaseSeen t s v x → n ≡ tag_bytes x.info.size → m ≡ x.tag → Puts a b (le_bytes n m) → first ≡ cap (place + 1)
+pub image_case_told : (t : TypeTable) (a b c : Sink) (place n m first : ℕ) (s : Shape) (x : Case) (v : Val) (r : Result ℕ Fault) → IsCaseSeen t s v x → n ≡ tag_bytes x.info.size → m ≡ x.tag
+    → Puts a b (le_bytes n m) → first ≡ cap (place + 1)
     → PartsWriteTo b c place (viewed_shapes t x.payload) (viewed_names x.payload) (viewed_values x.payload) first r → WritesTo a c s v place r
 image_case_told t a b c place n m first s x v r seen en em eb ef h =
     subst (λ (y : Shape). WritesTo a c y v place r) (sym seen.shape)
@@ -376,7 +377,8 @@ items_told a b c place n first s xs ys r ey en few eb ef h =
     items_written a b c place n s xs r en few eb
     (subst (λ (zs : List Val). PartsWriteTo b c place (copies (length zs) s) (no_names zs) zs (cap (place + 1)) r) ey (subst (λ (f : ℕ). PartsWriteTo b c place (copies (length ys) s) (no_names ys) ys f r) ef h))
 
-pub image_parts_told : (a b : Sink) (place first : ℕ) (ms : Members) (names : List Name) (vs : List Val) (r : Result ℕ Fault) → first ≡ cap (place + 1) → PartsWriteTo a b place ms names vs first r → PartsWriteTo a b place ms names vs (cap (place + 1)) r
+pub image_parts_told : (a b : Sink) (place first : ℕ) (ms : Members) (names : List Name) (vs : List Val) (r : Result ℕ Fault) → first ≡ cap (place + 1) → PartsWriteTo a b place ms names vs first r
+    → PartsWriteTo a b place ms names vs (cap (place + 1)) r
 image_parts_told a b place first ms names vs r ef h = subst (λ (f : ℕ). PartsWriteTo a b place ms names vs f r) ef h
 
 -- a fault of a view is reported

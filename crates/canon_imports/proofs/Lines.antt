@@ -23,5 +23,6 @@ pub log_more : (lines lines2 : List Line) (l : Line) → lines2 ≡ lines ++ l �
 log_more lines lines2 l more = ap log_of more ∙ ap Some (entries_more lines l)
 
 -- the next answer, by the entries
-pub import_next_is : (answers : List (Vec (Option (Vec Val Global)) Global)) (lines lines2 : List Line) (n : ℕ) (a : HostAnswer) → a ≡ answer_next (answers_view answers) (entries_of lines2) n → lines2 ≡ lines → a ≡ answer_next (answers_view answers) (entries_of lines) n
+pub import_next_is : (answers : List (Vec (Option (Vec Val Global)) Global)) (lines lines2 : List Line) (n : ℕ) (a : HostAnswer) → a ≡ answer_next (answers_view answers) (entries_of lines2) n
+    → lines2 ≡ lines → a ≡ answer_next (answers_view answers) (entries_of lines) n
 import_next_is answers lines lines2 n a is same = is ∙ ap (λ (ls : List Line). answer_next (answers_view answers) (entries_of ls) n) same

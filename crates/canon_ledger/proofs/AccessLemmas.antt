@@ -91,7 +91,8 @@ accepts : {A : Type 0} (x : GivenIndex) (l : LedgerState) (b : Bool) (d : Done A
 accepts x l true d a stale there e = absurd (cc)
 accepts x l false d a stale there e = record { current = stale; stands = there e }
 
-accepts-drop : (x : GivenIndex) (l : LedgerState) (a : Option (ℕ × TableSlot)) → (unless_stale l (is_stale l.host x) (with_slot_answered (slot_at l.host x.index) (resource_drop l host_table (HostIndex x.index)))).answer ≡ Ok a → IsAccepted x l
+accepts-drop : (x : GivenIndex) (l : LedgerState) (a : Option (ℕ × TableSlot))
+    → (unless_stale l (is_stale l.host x) (with_slot_answered (slot_at l.host x.index) (resource_drop l host_table (HostIndex x.index)))).answer ≡ Ok a → IsAccepted x l
 accepts-drop x l a e = accepts x l (is_stale l.host x) _ a refl
     (λ w. (let d = ok-then (with_its_slot (slot_at l.host x.index)) (resource_drop l host_table (HostIndex x.index)).answer a w in ok-drop l (HostIndex x.index) d.0 d.1)) e
 

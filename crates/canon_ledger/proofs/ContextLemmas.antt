@@ -41,7 +41,8 @@ get_paired (q ∷ ps) [] k p i e h a b = absurd (omega arith)
 get_paired (q ∷ ps) (j ∷ is) zero p i e h a b = λ t. Some (record { table = sym a t; index = sym b t })
 get_paired (q ∷ ps) (j ∷ is) (suc k) p i e h a b = get_paired ps is k p i (omega arith) (omega arith) a b
 
-pub lender_at : (ps : List ℕ) (is : List TypedResourceIndex) (lenders : List Lender) (k p : ℕ) (i : TypedResourceIndex) → length ps ≡ length is → lenders_from ps is ≡ lenders → k < length lenders → p ≡ slice_index_or ps k p → i ≡ slice_index_or is k i
+pub lender_at : (ps : List ℕ) (is : List TypedResourceIndex) (lenders : List Lender) (k p : ℕ) (i : TypedResourceIndex) → length ps ≡ length is → lenders_from ps is ≡ lenders → k < length lenders
+    → p ≡ slice_index_or ps k p → i ≡ slice_index_or is k i
     → slice_get lenders k ≡ Some (record { table = p; index = i })
 lender_at ps is lenders k p i e v h a b =
     ap (λ l. slice_get l k) (sym v) ∙ get_paired ps is k p i e (let n = length_paired_tables ps is e in let m = ap (λ (l : List Lender). length l) v in omega arith) a b

@@ -84,7 +84,8 @@ did_inserting (suc n) r l i m host e w = (
   (λ t. record { handles = m; host = w t }) ∙ sym (ap (λ r. (plainly r l).after) e),
 )
 
-pub did_inserting_host : (r : StepAnswer ℕ) (l : LedgerState) (i : ℕ) (m : Handles) (host : HostIndexes) (instance dtor : Option ℕ) → r ≡ Ok (i, m) → host ≡ with_slot l.host i instance dtor → Did (inserting 0 instance dtor r l) (Ok i) l (record { handles = m; host = host })
+pub did_inserting_host : (r : StepAnswer ℕ) (l : LedgerState) (i : ℕ) (m : Handles) (host : HostIndexes) (instance dtor : Option ℕ) → r ≡ Ok (i, m) → host ≡ with_slot l.host i instance dtor
+    → Did (inserting 0 instance dtor r l) (Ok i) l (record { handles = m; host = host })
 did_inserting_host r l i m host instance dtor e w = (
   ap (λ r. (inserting 0 instance dtor r l).answer) e,
   (λ t. record { handles = m; host = w t }) ∙ sym (ap (λ r. (inserting 0 instance dtor r l).after) e),

@@ -162,7 +162,8 @@ sound-insert_borrow h p k r s room within =
         | inl at ↦
             (let a = after (borrows j) refl in let old = ap (borrows j) f.vacant in let was = s.borrow_counts j in
             let one : one_if (k == j) ≡ 1 = one_if-true _ (eq-eqb k j (sym at)) in
-            let now : (scope_at (borrow_added h' k) j).borrow_count ≡ (scope_at h k).borrow_count + 1 = ap (λ (i : ℕ). (scope_at (borrow_added h' k) i).borrow_count) at ∙ ap (λ (s : OpenScope). s.borrow_count) (same_scope h k scope within) in
+            let now : (scope_at (borrow_added h' k) j).borrow_count ≡ (scope_at h k).borrow_count + 1 = ap (λ (i : ℕ). (scope_at (borrow_added h' k) i).borrow_count) at
+            ∙ ap (λ (s : OpenScope). s.borrow_count) (same_scope h k scope within) in
             let same : (scope_at h j).borrow_count ≡ (scope_at h k).borrow_count = ap (λ (i : ℕ). (scope_at h i).borrow_count) at in
             omega arith)
         | inr ne ↦
@@ -217,7 +218,8 @@ sound-remove_borrow h p i k r s is =
           (let l = lenders-with_scope p i h k scope within in let was = s.lend_counts p i in let old = ap lends_of is in omega arith);
       borrow_counts = λ j. elim (equal_or_not j k) as (λ _. (scope_at (borrow_dropped h' k) j).borrow_count ≡ sum_over_tables (borrows j) h') [
         | inl at ↦
-            (let now : (scope_at (borrow_dropped h' k) j).borrow_count ≡ (scope_at h k).borrow_count - 1 = ap (λ (i : ℕ). (scope_at (borrow_dropped h' k) i).borrow_count) at ∙ ap (λ (s : OpenScope). s.borrow_count) (same_scope h k scope within) in
+            (let now : (scope_at (borrow_dropped h' k) j).borrow_count ≡ (scope_at h k).borrow_count - 1 = ap (λ (i : ℕ). (scope_at (borrow_dropped h' k) i).borrow_count) at
+            ∙ ap (λ (s : OpenScope). s.borrow_count) (same_scope h k scope within) in
             let same : sum_over_tables (borrows j) h' ≡ sum_over_tables (borrows k) h' = ap (λ (i : ℕ). sum_over_tables (borrows i) h') at in
             omega arith)
         | inr ne ↦
@@ -269,7 +271,8 @@ sound-lend h p k n idx r s is within =
       borrow_counts = λ j. (let a = after (borrows j) refl in let old = ap (borrows j) is in let was = s.borrow_counts j in
           elim (equal_or_not j k) as (λ _. (scope_at (lender_added h' k lender) j).borrow_count ≡ sum_over_tables (borrows j) h') [
             | inl at ↦
-                (let now : (scope_at (lender_added h' k lender) j).borrow_count ≡ (scope_at h k).borrow_count = ap (λ (i : ℕ). (scope_at (lender_added h' k lender) i).borrow_count) at ∙ ap (λ (s : OpenScope). s.borrow_count) (same_scope h k scope within) in
+                (let now : (scope_at (lender_added h' k lender) j).borrow_count ≡ (scope_at h k).borrow_count = ap (λ (i : ℕ). (scope_at (lender_added h' k lender) i).borrow_count) at
+                ∙ ap (λ (s : OpenScope). s.borrow_count) (same_scope h k scope within) in
                 let same : (scope_at h j).borrow_count ≡ (scope_at h k).borrow_count = ap (λ (i : ℕ). (scope_at h i).borrow_count) at in
                 omega arith)
             | inr ne ↦

@@ -194,21 +194,24 @@ holds_exit l k within h =
 
 -- Each call
 
-pub kept_exit : (l : LedgerState) (k : ℕ) (m : Handles) (result : Result (Unit {0}) ResourceFault) → k < length l.handles.scopes → TakesSurely (exit_scope (Some k) l.handles) result l.handles m → Holds l → Holds (record { handles = m; host = l.host })
+pub kept_exit : (l : LedgerState) (k : ℕ) (m : Handles) (result : Result (Unit {0}) ResourceFault) → k < length l.handles.scopes → TakesSurely (exit_scope (Some k) l.handles) result l.handles m
+    → Holds l → Holds (record { handles = m; host = l.host })
 kept_exit l k m result within takes h = subst Holds (sym (did_surely (exit_scope (Some k) l.handles) result l m takes).1) (holds_exit l k within h)
 
 kept_did : {A : Type 0} (d : Done A) (r : Result A ResourceFault) (l m : LedgerState) → Did d r l m → Holds l → Holds d.after → Holds m
 kept_did d (Ok a) l m did was now = subst Holds (sym did.1) now
 kept_did d (Err e) l m did was now = elim did as (λ _. Holds m) [ inl w ↦ subst Holds (sym w.1) now | inr w ↦ subst Holds (sym w.1) was ]
 
-pub kept_lift_borrow : (l : LedgerState) (k p : ℕ) (idx : TypedResourceIndex) (m : Handles) (result : Result ℕ ResourceFault) → k < length l.handles.scopes → Takes (lift_borrow_in (Some k) l.handles p idx) result l.handles m → Holds l → Holds (record { handles = m; host = l.host })
+pub kept_lift_borrow : (l : LedgerState) (k p : ℕ) (idx : TypedResourceIndex) (m : Handles) (result : Result ℕ ResourceFault) → k < length l.handles.scopes
+    → Takes (lift_borrow_in (Some k) l.handles p idx) result l.handles m → Holds l → Holds (record { handles = m; host = l.host })
 kept_lift_borrow l k p idx m result within takes h =
     kept_did (plainly (lift_borrow_in (Some k) l.handles p idx) l) result l (record { handles = m; host = l.host }) (did_plainly (lift_borrow_in (Some k) l.handles p idx) result l m takes) h (holds_lift_borrow l k p idx within h)
 
 pub kept_new : (l : LedgerState) (p : ℕ) (r : TypedResource) (i : ℕ) (m : Handles) (host : HostIndexes) → handles.resource_new l.handles p r ≡ Ok (i, m) → host ≡ written_at p i l.host → Holds l → Holds (record { handles = m; host = host })
 kept_new l p r i m host e w h = subst Holds (sym (did_inserting p (handles.resource_new l.handles p r) l i m host e w).1) (holds_new l p r h)
 
-pub kept_lower_borrow : (l : LedgerState) (k p : ℕ) (r : TypedResource) (i : ℕ) (m : Handles) (host : HostIndexes) → k < length l.handles.scopes → lower_borrow_in (Some k) l.handles p r ≡ Ok (i, m) → host ≡ written_at p i l.host → Holds l → Holds (record { handles = m; host = host })
+pub kept_lower_borrow : (l : LedgerState) (k p : ℕ) (r : TypedResource) (i : ℕ) (m : Handles) (host : HostIndexes) → k < length l.handles.scopes → lower_borrow_in (Some k) l.handles p r ≡ Ok (i, m)
+    → host ≡ written_at p i l.host → Holds l → Holds (record { handles = m; host = host })
 kept_lower_borrow l k p r i m host within e w h = subst Holds (sym (did_inserting p (lower_borrow_in (Some k) l.handles p r) l i m host e w).1) (holds_lower_borrow l k p r within h)
 
 raised_by : (b : Bool) (u : Unit {0}) (result : Result (Unit {0}) ResourceFault) (x y z : HostIndexes) → result ≡ refuse_if b fault.GenerationExhausted (Ok tt) → result ≡ Ok u → z ≡ (if b then x else y) → (b ≡ false) × (z ≡ y)
@@ -256,11 +259,13 @@ slot_given l p i room reserved r h given same ok has zero_ =
     let g = given.1 in
     (given.0, omega arith, on_ok (p ≡ 0 → 0 < room) r ok has zero_)
 
-pub new_slot_given : {E : Type 0} (l : LedgerState) (p : ℕ) (q : TypedResource) (i : ℕ) (m : Handles) (room : ℕ) (reserved : HostIndexes) (r : Result (Unit {0}) E) → Holds l → handles.resource_new l.handles p q ≡ Ok (i, m) → reserved ≡ l.host → is_err r ≡ false → OnOk r (p ≡ 0 → 0 < room)
+pub new_slot_given : {E : Type 0} (l : LedgerState) (p : ℕ) (q : TypedResource) (i : ℕ) (m : Handles) (room : ℕ) (reserved : HostIndexes) (r : Result (Unit {0}) E) → Holds l
+    → handles.resource_new l.handles p q ≡ Ok (i, m) → reserved ≡ l.host → is_err r ≡ false → OnOk r (p ≡ 0 → 0 < room)
     → p ≡ 0 → (0 < i) × (i ≤ length reserved.slots) × (0 < room)
 new_slot_given l p q i m room reserved r h e = slot_given l p i room reserved r h (subst (λ (a : StepAnswer ℕ). IfOk a (λ w. IsGiven l.handles p w.0)) e (new_given l.handles p q h.sound))
 
-pub lower_slot_given : {E : Type 0} (l : LedgerState) (k p : ℕ) (q : TypedResource) (i : ℕ) (m : Handles) (room : ℕ) (reserved : HostIndexes) (r : Result (Unit {0}) E) → Holds l → lower_borrow_in (Some k) l.handles p q ≡ Ok (i, m) → reserved ≡ l.host → is_err r ≡ false → OnOk r (p ≡ 0 → 0 < room)
+pub lower_slot_given : {E : Type 0} (l : LedgerState) (k p : ℕ) (q : TypedResource) (i : ℕ) (m : Handles) (room : ℕ) (reserved : HostIndexes) (r : Result (Unit {0}) E) → Holds l
+    → lower_borrow_in (Some k) l.handles p q ≡ Ok (i, m) → reserved ≡ l.host → is_err r ≡ false → OnOk r (p ≡ 0 → 0 < room)
     → p ≡ 0 → (0 < i) × (i ≤ length reserved.slots) × (0 < room)
 lower_slot_given l k p q i m room reserved r h e = slot_given l p i room reserved r h (subst (λ (a : StepAnswer ℕ). IfOk a (λ w. IsGiven l.handles p w.0)) e (lower_given l.handles k p q h.sound))
 
@@ -274,7 +279,8 @@ map-append_table : (tables : List (TableState Entry)) (s : TableState Entry) →
 map-append_table [] s = refl
 map-append_table (x ∷ xs) s = ap (λ l. x.table ∷ l) (map-append_table xs s)
 
-pub one_table_more : (tables new : List (TableState Entry)) (s : TableState Entry) (n k : ℕ) (t : Table Entry) → map (λ (s : TableState Entry). s.table) tables ≡ replicate n t → s.table ≡ t → new ≡ tables ++ s ∷ [] → k ≡ suc n → map (λ (s : TableState Entry). s.table) new ≡ replicate k t
+pub one_table_more : (tables new : List (TableState Entry)) (s : TableState Entry) (n k : ℕ) (t : Table Entry) → map (λ (s : TableState Entry). s.table) tables ≡ replicate n t → s.table ≡ t
+    → new ≡ tables ++ s ∷ [] → k ≡ suc n → map (λ (s : TableState Entry). s.table) new ≡ replicate k t
 one_table_more tables new s n k t had is e more =
     ap (map (λ (s : TableState Entry). s.table)) e ∙ map-append_table tables s ∙ ap (λ l. l ++ s.table ∷ []) had ∙ ap (λ (x : Table Entry). replicate n t ++ x ∷ []) is ∙ append_one n t ∙ ap (λ (j : ℕ). replicate j t) (sym more)
 
@@ -295,7 +301,8 @@ module _ (l : LedgerState) (p rep i : ℕ) (m : Handles) (h : Holds l) (is_host 
   pub kept_host_own : (dtor instance : Option ℕ) (host : HostIndexes) → host ≡ with_slot l.host i instance dtor → Holds (record { handles = m; host = host })
   kept_host_own dtor instance host w =
       let at_host : handles.resource_new l.handles host_table (Host rep) ≡ Ok (i, m) = subst (λ (q : ℕ). handles.resource_new l.handles q (Host rep) ≡ Ok (i, m)) is_host e in
-      let is : ◌≡◌ {A = LedgerState} (record { handles = m; host = host }) (ledger.host_resource_lower_own l rep dtor instance).after = (did_inserting_host (handles.resource_new l.handles host_table (Host rep)) l i m host instance dtor at_host w).1 in
+      let is : ◌≡◌ {A = LedgerState} (record { handles = m; host = host }) (ledger.host_resource_lower_own l rep dtor instance).after =
+      (did_inserting_host (handles.resource_new l.handles host_table (Host rep)) l i m host instance dtor at_host w).1 in
       subst Holds (sym is)
       (holds l _ h (sound-step (HostLowerOwn rep dtor instance) l h.sound) (host-step (HostLowerOwn rep dtor instance) l h.sound h.host) (stays_new l host_table instance dtor (Host rep)))
 

@@ -71,7 +71,8 @@ same_elsewhere h q t c =
     record { as_long = ap (λ (t : Table Entry). length t.array) e; stands = λ i. ap (λ (t : Table Entry). is_some (entry_at t i)) e; handle = λ i. ap (λ (t : Table Entry). resource_and_scope (entry_at t i)) e }
 
 -- what a function of an entry is after one was written in the place of another, of which it is the same
-read-with_entry : {A : Type 0} (f : Option Entry → A) (h : Handles) (i : ℕ) (e e' : Entry) (c : Counter) → entry_at (table_at h 0) i ≡ Some e → f (Some e') ≡ f (Some e) → (j : ℕ) → f (at_host (with_table h 0 (with_entry (table_at h 0) i e') c) j) ≡ f (at_host h j)
+read-with_entry : {A : Type 0} (f : Option Entry → A) (h : Handles) (i : ℕ) (e e' : Entry) (c : Counter) → entry_at (table_at h 0) i ≡ Some e → f (Some e') ≡ f (Some e) → (j : ℕ)
+    → f (at_host (with_table h 0 (with_entry (table_at h 0) i e') c) j) ≡ f (at_host h j)
 read-with_entry f h i e e' c is alike j =
     let t' = with_entry (table_at h 0) i e' in
     let present = there_by_entry h 0 i e is in
@@ -312,13 +313,15 @@ at_zero : (p : ℕ) (P : ℕ → Type 0) → P 0 → p ≡ 0 → P p
 at_zero p P z e = subst P (sym e) z
 
 effect-new : (p : ℕ) (instance : Option ℕ) (dtor : Option ℕ) (r : TypedResource) (l : LedgerState) → IsConsistent l.handles
-    → Effect (p == 0) (inserting p instance dtor (handles.resource_new l.handles p r) l).answer (Some (r, None)) (record { generation = l.host.generation; instance = instance; dtor = dtor }) l (inserting p instance dtor (handles.resource_new l.handles p r) l).after
+    → Effect (p == 0) (inserting p instance dtor (handles.resource_new l.handles p r) l).answer (Some (r, None)) (record { generation = l.host.generation; instance = instance; dtor = dtor }) l
+    (inserting p instance dtor (handles.resource_new l.handles p r) l).after
 effect-new p instance dtor r l s = effect-inserting p instance dtor (Some (r, None)) (handles.resource_new l.handles p r) l
     (λ e. at_zero p (λ (p : ℕ). IfOk (handles.resource_new l.handles p r) (λ w. OneMoreIndex l.handles w.1 w.0 (Some (r, None)))) (more-new l.handles r s) e)
     (λ q e. subst (λ (p : ℕ). IfOk (handles.resource_new l.handles p r) (λ w. SameIndexes l.handles w.1)) (sym e) (same-new l.handles q r))
 
 effect-lower : (p : ℕ) (scope : Option ℕ) (r : TypedResource) (l : LedgerState) → IsConsistent l.handles
-    → Effect (p == 0) (inserting p None None (handles.resource_lower_borrow scope l.handles p r) l).answer (Some (r, scope)) (record { generation = l.host.generation; instance = None; dtor = None }) l (inserting p None None (handles.resource_lower_borrow scope l.handles p r) l).after
+    → Effect (p == 0) (inserting p None None (handles.resource_lower_borrow scope l.handles p r) l).answer (Some (r, scope))
+    (record { generation = l.host.generation; instance = None; dtor = None }) l (inserting p None None (handles.resource_lower_borrow scope l.handles p r) l).after
 effect-lower p scope r l s = effect-inserting p None None (Some (r, scope)) (handles.resource_lower_borrow scope l.handles p r) l
     (λ e. at_zero p (λ (p : ℕ). IfOk (handles.resource_lower_borrow scope l.handles p r) (λ w. OneMoreIndex l.handles w.1 w.0 (Some (r, scope)))) (more-lower scope l.handles r s) e)
     (λ q e. subst (λ (p : ℕ). IfOk (handles.resource_lower_borrow scope l.handles p r) (λ w. SameIndexes l.handles w.1)) (sym e) (same-lower_in (opened l.handles scope) l.handles q r))
@@ -519,7 +522,8 @@ known-run x (call ∷ calls) l s h w =
 
 -- The insertion that gives an index
 
-inserts-inserting : (instance : Option ℕ) (dtor : Option ℕ) (made : Option (TypedResource × Option ℕ)) (r : StepAnswer ℕ) (l : LedgerState) (i : ℕ) → IfOk r (λ w. OneMoreIndex l.handles w.1 w.0 made) → (inserting 0 instance dtor r l).answer ≡ Ok i
+inserts-inserting : (instance : Option ℕ) (dtor : Option ℕ) (made : Option (TypedResource × Option ℕ)) (r : StepAnswer ℕ) (l : LedgerState) (i : ℕ) → IfOk r (λ w. OneMoreIndex l.handles w.1 w.0 made)
+    → (inserting 0 instance dtor r l).answer ≡ Ok i
     → Inserts l (inserting 0 instance dtor r l).after i made (record { generation = l.host.generation; instance = instance; dtor = dtor })
 inserts-inserting instance dtor made (Err e) l i more is = absurd (cc)
 inserts-inserting instance dtor made (Ok w) l i more is =
@@ -610,7 +614,8 @@ names-keeps : (given : LedgerStep) (x : GivenIndex) (l l' : LedgerState) → Hos
 names-keeps given x l l' k n a =
     record { handle = k.indexes.handle x.index a.stands ∙ n.handle; slot = ap (λ (xs : List (Option TableSlot)). get_or xs x.index None) k.slots ∙ n.slot }
 
-names-inserts : (given : LedgerStep) (x : GivenIndex) (l l' : LedgerState) (i : ℕ) (made : Option (TypedResource × Option ℕ)) (slot : TableSlot) → Inserts l l' i made slot → IsHostSound l → IsAccepted x l → Names given x l → Names given x l'
+names-inserts : (given : LedgerStep) (x : GivenIndex) (l l' : LedgerState) (i : ℕ) (made : Option (TypedResource × Option ℕ)) (slot : TableSlot) → Inserts l l' i made slot → IsHostSound l
+    → IsAccepted x l → Names given x l → Names given x l'
 names-inserts given x l l' i made slot k s a n = elim (equal_or_not x.index i) as (λ _. Names given x l') [
   | inl at ↦ absurd (let was = k.indexes.was in let stands : is_some (host_entry l i) ≡ true = ap (λ (j : ℕ). is_some (host_entry l j)) (sym at) ∙ a.stands in cc)
   | inr ne ↦ record { handle = k.indexes.other_handles x.index ne ∙ n.handle; slot = slot_old l l' i made slot k s x.index ne ∙ n.slot }

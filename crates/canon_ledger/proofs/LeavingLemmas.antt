@@ -44,7 +44,8 @@ emptied h m k within is same =
       ap (λ n. scope_at m (n - 1)) count ∙ (ap (λ n. scope_at m n) (sym is) ∙ (ap (λ scopes. scope_at (record { tables = m.tables; counter = m.counter; scopes = scopes }) k) same ∙ get_or-set_same h.scopes k no_scope no_scope within)),
     )
 
-pub exit_refused : (h : Handles) (k : ℕ) (b : Bool) (answer : StepAnswer (Unit {0})) (l m : LedgerState) → plainly (refuse_if b fault.BorrowsRemain answer) l ≡ record { answer = Ok tt; after = m } → refuse_if b fault.BorrowsRemain answer ≡ answer
+pub exit_refused : (h : Handles) (k : ℕ) (b : Bool) (answer : StepAnswer (Unit {0})) (l m : LedgerState) → plainly (refuse_if b fault.BorrowsRemain answer) l ≡ record { answer = Ok tt; after = m }
+    → refuse_if b fault.BorrowsRemain answer ≡ answer
 exit_refused h k true answer l m e = absurd (let w = ap (λ (d : Done (Unit {0})). d.answer) e in cc)
 exit_refused h k false answer l m e = refl
 
@@ -52,7 +53,8 @@ pub some_if : (b : Bool) (n k : ℕ) → Some k ≡ (if b then Some n else None)
 some_if true n k e = (cc, refl)
 some_if false n k e = absurd (cc)
 
-exit_at : (l m : LedgerState) (o : Option ℕ) (n : ℕ) → o ≡ (if nat_lt n (length l.handles.scopes) then Some n else None) → n ≡ length l.handles.scopes - 1 → plainly (exit_scope o l.handles) l ≡ record { answer = Ok tt; after = m } → HasEmptyTop m.handles
+exit_at : (l m : LedgerState) (o : Option ℕ) (n : ℕ) → o ≡ (if nat_lt n (length l.handles.scopes) then Some n else None) → n ≡ length l.handles.scopes - 1
+    → plainly (exit_scope o l.handles) l ≡ record { answer = Ok tt; after = m } → HasEmptyTop m.handles
 exit_at l m None n is top e = absurd (let w = ap (λ (d : Done (Unit {0})). d.answer) e in cc)
 exit_at l m (Some k) n is top e =
     let answer : StepAnswer (Unit {0}) = Ok (tt, give_back (scope_at l.handles k).lenders (with_scope l.handles k no_scope)) in

@@ -45,7 +45,8 @@ sound-leaving true l can s = sound-leave l.handles s can
 sound-leaving false l can s = s
 
 sound-host_drop : (x : GivenIndex) (l : LedgerState) → IsConsistent l.handles → IsConsistent (host_resource_drop l x).after.handles
-sound-host_drop x l s = after-unless_stale IsConsistent (is_stale l.host x) l _ s (after-removing IsConsistent 0 (λ h. handles.resource_drop h host_table (HostIndex x.index)) l s (sound-resource_drop l.handles host_table (HostIndex x.index) s))
+sound-host_drop x l s = after-unless_stale IsConsistent (is_stale l.host x) l _ s
+    (after-removing IsConsistent 0 (λ h. handles.resource_drop h host_table (HostIndex x.index)) l s (sound-resource_drop l.handles host_table (HostIndex x.index) s))
 
 pub sound-step : (call : LedgerStep) (l : LedgerState) → IsConsistent l.handles → IsConsistent (do_step call l).after.handles
 sound-step Enter l s = sound-enter l.handles s
@@ -58,8 +59,10 @@ sound-step (LiftOwn p idx) l s = after-removing IsConsistent p (λ h. handles.re
 sound-step (LiftBorrow scope p idx) l s = after-plainly IsConsistent (handles.resource_lift_borrow scope l.handles p idx) l s (sound-resource_lift_borrow scope l.handles p idx s)
 sound-step (LowerBorrow scope p r) l s = after-inserting IsConsistent p None None (handles.resource_lower_borrow scope l.handles p r) l s (sound-resource_lower_borrow scope l.handles p r s)
 sound-step (ExitScope scope) l s = after-plainly IsConsistent (handles.validate_scope_exit scope l.handles) l s (sound-validate_scope_exit scope l.handles s)
-sound-step (HostLiftOwn x) l s = after-unless_stale IsConsistent (is_stale l.host x) l _ s (after-removing IsConsistent 0 (λ h. handles.resource_lift_own h host_table (HostIndex x.index)) l s (sound-resource_lift_own l.handles host_table (HostIndex x.index) s))
-sound-step (HostLiftBorrow scope x) l s = after-unless_stale IsConsistent (is_stale l.host x) l _ s (after-plainly IsConsistent (handles.resource_lift_borrow scope l.handles host_table (HostIndex x.index)) l s (sound-resource_lift_borrow scope l.handles host_table (HostIndex x.index) s))
+sound-step (HostLiftOwn x) l s = after-unless_stale IsConsistent (is_stale l.host x) l _ s
+    (after-removing IsConsistent 0 (λ h. handles.resource_lift_own h host_table (HostIndex x.index)) l s (sound-resource_lift_own l.handles host_table (HostIndex x.index) s))
+sound-step (HostLiftBorrow scope x) l s = after-unless_stale IsConsistent (is_stale l.host x) l _ s
+    (after-plainly IsConsistent (handles.resource_lift_borrow scope l.handles host_table (HostIndex x.index)) l s (sound-resource_lift_borrow scope l.handles host_table (HostIndex x.index) s))
 sound-step (HostDrop x) l s = sound-host_drop x l s
 sound-step (HostRemove x) l s = after-unless_stale IsConsistent (is_stale l.host x) l _ s (after-once_told IsConsistent (resource_rep l host_table (HostIndex x.index)) l x s (sound-host_drop x l s))
 sound-step (HostLowerOwn rep dtor instance) l s = after-inserting IsConsistent host_table instance dtor (handles.resource_new l.handles host_table (Host rep)) l s (sound-resource_new l.handles host_table (Host rep) s)
@@ -95,7 +98,8 @@ refused-then : {A B : Type 0} (f : A → B) (r : Result A ResourceFault) (e : Re
 refused-then f (Ok a) e is = absurd (cc)
 refused-then f (Err e') e is = cc
 
-refused-unless_stale : (removal : Bool) {A : Type 0} (b : Bool) (l : LedgerState) (d : Done A) (e : ResourceFault) → (unless_stale l b d).answer ≡ Err e → (d.answer ≡ Err e → OrRaised removal l d.after) → OrRaised removal l (unless_stale l b d).after
+refused-unless_stale : (removal : Bool) {A : Type 0} (b : Bool) (l : LedgerState) (d : Done A) (e : ResourceFault) → (unless_stale l b d).answer ≡ Err e
+    → (d.answer ≡ Err e → OrRaised removal l d.after) → OrRaised removal l (unless_stale l b d).after
 refused-unless_stale removal true l d e is h = inl refl
 refused-unless_stale removal false l d e is h = h is
 

@@ -104,7 +104,8 @@ module _ (tables : List (TableState Entry)) (counter : Counter) (lender : Lender
         omega arith
 
     module _ (s' : TableState Entry) (c' : Counter) (r : Result (Unit {0}) HandleError) (does : Does (resource_undo_lend s.table counter lender.index) r s s' counter c') where
-      next : (scopes : List Context) → handles_of (set tables lender.table s') c' scopes ≡ undone (handles_of tables counter scopes) (on_table (handles_of tables counter scopes) lender.table (raw_index lender.index) (λ t c. resource_undo_lend t c lender.index))
+      next : (scopes : List Context) → handles_of (set tables lender.table s') c' scopes ≡ undone (handles_of tables counter scopes)
+          (on_table (handles_of tables counter scopes) lender.table (raw_index lender.index) (λ t c. resource_undo_lend t c lender.index))
       next scopes =
           let e = map-set (λ (s : TableState Entry). s.table) tables lender.table s' in
           (λ i. record { tables = e i; counter = c'; scopes = map (λ (c : Context). c.scope) scopes })

@@ -121,10 +121,12 @@ abbrev CountsScope : RemovedResource → Handles → Type 0
 CountsScope (Own rep) h = Unit {0}
 CountsScope (Borrow scope) h = (number_of scope < length h.scopes) × (0 < (scope_at h (number_of scope)).borrow_count)
 
-counted_scope : (h : Handles) (p i : ℕ) (scope : Scope) (r : TypedResource) → IsConsistent h → entry_at (table_at h p) i ≡ Some (ResourceBorrow r scope) → (number_of scope < length h.scopes) × (0 < (scope_at h (number_of scope)).borrow_count)
+counted_scope : (h : Handles) (p i : ℕ) (scope : Scope) (r : TypedResource) → IsConsistent h → entry_at (table_at h p) i ≡ Some (ResourceBorrow r scope) → (number_of scope < length h.scopes)
+    × (0 < (scope_at h (number_of scope)).borrow_count)
 counted_scope h p i (Id k) r s is = counted_borrow h p i k r s is
 
-pub removed_counts : (h : Handles) (p : ℕ) (idx : TypedResourceIndex) (scope : Scope) (m : Handles) → IsConsistent h → removing_resource h p idx ≡ Ok (Borrow scope, m) → (number_of scope < length m.scopes) × (0 < (scope_at m (number_of scope)).borrow_count)
+pub removed_counts : (h : Handles) (p : ℕ) (idx : TypedResourceIndex) (scope : Scope) (m : Handles) → IsConsistent h → removing_resource h p idx ≡ Ok (Borrow scope, m)
+    → (number_of scope < length m.scopes) × (0 < (scope_at m (number_of scope)).borrow_count)
 removed_counts h p idx scope m s e =
     subst (λ (a : StepAnswer RemovedResource). IfOk a (λ w. CountsScope w.0 w.1)) e
     (if_ok-finished (λ (w : RemovedResource × Handles). CountsScope w.0 w.1) h p (raw_index idx) _

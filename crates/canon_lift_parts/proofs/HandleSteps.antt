@@ -96,7 +96,8 @@ pub blames_none : (F : Kind → Place → Type 0) (Low : Type 0) (e : Fault) →
 blames_none F Low e (inl is) = subst (λ x. LiftBlames F Low x) (sym is) tt
 blames_none F Low e (inr (r, is, as_is)) = subst (λ x. LiftBlames F Low x) (sym is) as_is
 
-module _ (w : Setting) (at : Spot) (type : InterfaceType) (n : ℕ) (before after : LedgerState) (fuel left : ℕ) (f : IsHandleType w.types type) (number : n ≡ handle_in w.memory at) (room : HasRoom w.memory at (shape_of w.types.types type)) (same : left ≡ fuel) where
+module _ (w : Setting) (at : Spot) (type : InterfaceType) (n : ℕ) (before after : LedgerState) (fuel left : ℕ) (f : IsHandleType w.types type) (number : n ≡ handle_in w.memory at)
+    (room : HasRoom w.memory at (shape_of w.types.types type)) (same : left ≡ fuel) where
   abbrev s : Shape
   s = shape_of w.types.types type
 

@@ -14,5 +14,6 @@ held_more Held k m p (y ∷ ys) x (first, rest) one =
     (first, held_more Held k m (p + k) ys x rest (subst (λ a. Held x (num m a k)) here one))
 
 -- the same memory
-pub held_there : {A E : Type 0} (Held : A → ℕ → Type 0) (k : ℕ) (ms ms2 : List ℕ) (p : ℕ) (r : Result (Vec A Global) E) → ms ≡ ms2 → IfOk r (λ v. AreSpelled Held k (narrow ms) p v.items) → IfOk r (λ v. AreSpelled Held k (narrow ms2) p v.items)
+pub held_there : {A E : Type 0} (Held : A → ℕ → Type 0) (k : ℕ) (ms ms2 : List ℕ) (p : ℕ) (r : Result (Vec A Global) E) → ms ≡ ms2 → IfOk r (λ v. AreSpelled Held k (narrow ms) p v.items)
+    → IfOk r (λ v. AreSpelled Held k (narrow ms2) p v.items)
 held_there Held k ms ms2 p r same h = subst (λ (xs : List ℕ). IfOk r (λ v. AreSpelled Held k (narrow xs) p v.items)) same h

@@ -29,7 +29,8 @@ module _ (t t2 : TypeTable) (j : ℕ) (type element : InterfaceType) (same : t2 
   lift_list_known = subst (λ (x : TypeTable). Knows x element) same (d.known 0 element (omega arith))
 
 -- the element that a look-up gave fits
-pub list_fits : (Fit : Instance → InterfaceType → Type 0) (i : Instance) (t2 : TypeTable) (j : ℕ) (type element : InterfaceType) → t2 ≡ i.types → type ≡ ty.List j → IsDefined t2 (ty.List j) (ListType element) → IsListOf Fit i type → Fit i element
+pub list_fits : (Fit : Instance → InterfaceType → Type 0) (i : Instance) (t2 : TypeTable) (j : ℕ) (type element : InterfaceType) → t2 ≡ i.types → type ≡ ty.List j
+    → IsDefined t2 (ty.List j) (ListType element) → IsListOf Fit i type → Fit i element
 list_fits Fit i t2 j type element same is d f =
     let (other, d2, fits) = subst (λ x. IsListOf Fit i x) is f in
     let here = subst (λ (x : TypeTable). IsDefined x (ty.List j) (ListType element)) same d in

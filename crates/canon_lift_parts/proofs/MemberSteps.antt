@@ -47,7 +47,8 @@ some_left F fs i (x ∷ xs) zero h = omega arith
 some_left F fs i (x ∷ xs) (suc k) h = omega (arith, some_left F fs i xs k h)
 
 -- of a tuple, by its look-up
-pub next_of_tuple : (t t2 : TypeTable) (i k : ℕ) (items : List InterfaceType) (x : InterfaceType) (F : Instance → InterfaceType → Type 0) (fs : List (Instance → InterfaceType → Type 0)) (j : Instance) → t2 ≡ t → items ≡ table.types_of t2 i → x ≡ slice_index_or items k x
+pub next_of_tuple : (t t2 : TypeTable) (i k : ℕ) (items : List InterfaceType) (x : InterfaceType) (F : Instance → InterfaceType → Type 0) (fs : List (Instance → InterfaceType → Type 0))
+    (j : Instance) → t2 ≡ t → items ≡ table.types_of t2 i → x ≡ slice_index_or items k x
     → AreOf (F ∷ fs) j (drop k (table.types_of t i)) → drop k (table.types_of t i) ≡ x ∷ drop (k + 1) (table.types_of t i)
 next_of_tuple t t2 i k items x F fs j same are is h =
     let all : items ≡ table.types_of t i = are ∙ ap (λ z. table.types_of z i) same in
@@ -148,7 +149,8 @@ module _ {A B C : Type 0} (first : C → A) (others_of : C → B) (R : Reading A
       (λ low. omega (arith, low)) (λ all. or_left R.allocates S.allocates all) (λ stops. stops_first (stop_of e) before after _ _ stops) (omega arith) r
 
   pub others_refused : AreTaken R → (x : A) (mid : LedgerState) (now : ℕ) → R.reads w (first_spot w.memory s from) s before x mid → fuel ≡ now + R.reach w (first_spot w.memory s from) s
-      → (e : Fault) (after : LedgerState) (left : ℕ) (y : Shape) → Refused (rest_reading S (others w.memory s from) ms) w (spot_of (others w.memory s from)) y mid now e after left → Refused lift_whole w (spot_of from) z before fuel e after left
+      → (e : Fault) (after : LedgerState) (left : ℕ) (y : Shape) → Refused (rest_reading S (others w.memory s from) ms) w (spot_of (others w.memory s from)) y mid now e after left
+      → Refused lift_whole w (spot_of from) z before fuel e after left
   others_refused taken x mid now read spent e after left y r =
       refused_by (rest_reading S (others w.memory s from) ms) lift_whole w (spot_of (others w.memory s from)) (spot_of from) y z mid before after now fuel left e
       (λ k p h. others_named (lift_whole.faults w (spot_of from) z) from k p (lift_named_by (spot_of (others w.memory s from)) (S.faults w (others w.memory s from) ms) (lift_whole.faults w (spot_of from) z) (λ j q f. inr f) k p h))
@@ -175,7 +177,8 @@ module _ {D G B : Type 0} (S : RestReading B) (core now : Parts D G) (same : now
   abbrev words_of : Parts D G → Members
   words_of z = members_of (component_types z) (drop j (table.types_of (component_types z) i))
 
-  pub others_in_words : (before after : LedgerState) (fuel left : ℕ) (r : Result B Fault) → Lifts (rest_reading S (flat_from ws at) (words_of now)) (setting_in now o2) (flat_in ws at) (product of_places (words_of now)) before fuel r after left
+  pub others_in_words : (before after : LedgerState) (fuel left : ℕ) (r : Result B Fault)
+      → Lifts (rest_reading S (flat_from ws at) (words_of now)) (setting_in now o2) (flat_in ws at) (product of_places (words_of now)) before fuel r after left
       → Lifts (rest_reading S (flat_from ws at) (words_of core)) (setting_in core o) (flat_in ws at) (product of_places (words_of core)) before fuel r after left
   others_in_words before after fuel left r h =
       subst (λ n. Lifts (rest_reading S (flat_from ws at) (words_of core)) (setting_in core n) (flat_in ws at) (product of_places (words_of core)) before fuel r after left) eo
@@ -183,7 +186,8 @@ module _ {D G B : Type 0} (S : RestReading B) (core now : Parts D G) (same : now
 
 -- ---- the whole tuple
 
-tuple_shape : (all : List (Instance → InterfaceType → Type 0)) (j : Instance) (i : ℕ) (type : InterfaceType) → type ≡ ty.Tuple i → IsTupleOf all j type → shape_of j.types type ≡ product of_places (members_of j.types (table.types_of j.types i))
+tuple_shape : (all : List (Instance → InterfaceType → Type 0)) (j : Instance) (i : ℕ) (type : InterfaceType) → type ≡ ty.Tuple i → IsTupleOf all j type
+    → shape_of j.types type ≡ product of_places (members_of j.types (table.types_of j.types i))
 tuple_shape all j i type is f =
     let (types, d, fits) = subst (λ x. IsTupleOf all j x) is f in
     let these : table.types_of j.types i ≡ types = ap (λ x. option_map_or table.tuple_types x []) d.definition in

@@ -96,7 +96,8 @@ module _ {D G K V : Type 0} (R : Reading K) (S : Reading V) (core : Parts D G) (
       record { cause = h.cause; memory = h.memory; stops = h.stops; falls = h.falls }
 
   -- the value, where only the ledger changed
-  module _ (now : Parts D G) (same : now ≡ record core { ledger = now.ledger }) (o2 : ℕ) (eo : o2 ≡ o) (offset : ℕ) (is : offset ≡ begins false (ends false 0 ks) vs) (before after : LedgerState) (fuel mid left : ℕ) (x : K) (taken : AreTaken R)
+  module _ (now : Parts D G) (same : now ≡ record core { ledger = now.ledger }) (o2 : ℕ) (eo : o2 ≡ o) (offset : ℕ) (is : offset ≡ begins false (ends false 0 ks) vs) (before after : LedgerState)
+      (fuel mid left : ℕ) (x : K) (taken : AreTaken R)
       (read : R.reads w (stored at) ks before x now.ledger) (spent : fuel ≡ mid + R.reach w (stored at) ks) where
     value_lifts : (r : Result V Fault) → Lifts S (setting_in now o2) (stored (at + offset)) (shape_of (component_types now) value) now.ledger mid r after left
         → Lifts S w (stored (at + begins false (ends false 0 ks) vs)) vs now.ledger mid r after left
@@ -105,7 +106,8 @@ module _ {D G K V : Type 0} (R : Reading K) (S : Reading V) (core : Parts D G) (
         (subst (λ (z : Shape). Lifts S w (stored (at + offset)) z now.ledger mid r after left) (same_shape core now same value)
         (subst (λ (v : Setting). Lifts S v (stored (at + offset)) (shape_of (component_types now) value) now.ledger mid r after left) (same_setting core now same o o2 eo) h))
 
-    pub lift_value_refused : (e : Fault) → Lifts S (setting_in now o2) (stored (at + offset)) (shape_of (component_types now) value) now.ledger mid (Err e) after left → Refused (pair_reading R S) w (stored at) lift_both before fuel e after left
+    pub lift_value_refused : (e : Fault) → Lifts S (setting_in now o2) (stored (at + offset)) (shape_of (component_types now) value) now.ledger mid (Err e) after left
+        → Refused (pair_reading R S) w (stored at) lift_both before fuel e after left
     lift_value_refused e r =
         let second = member_refused (of_value {K = K}) of_none S (none_reading {A = Unit {0}}) w (stored_from at (ends false 0 ks)) [] vs no_members lift_both now.ledger mid e after left (value_lifts (Err e) r) in
         let h = others_refused of_key itself R (value_reading {K = K} S) w (stored_from at 0) [] ks (member [] vs no_members) lift_both before fuel taken x now.ledger mid
@@ -120,7 +122,8 @@ module _ {D G K V : Type 0} (R : Reading K) (S : Reading V) (core : Parts D G) (
 
   -- what lifting a pair answered, where only the ledger changed
   pub pair_item : (now : Parts D G) (o2 p k step at : ℕ) (before after : LedgerState) (fuel left : ℕ) (r : Result (K × V) Fault) → now ≡ record core { ledger = now.ledger } → o2 ≡ o → step ≡ size false (pair_in core) → at ≡ p + k * step
-      → Lifts (pair_reading R S) (setting_in now o2) (stored at) (pair_in now) before fuel r after left → Lifts (pair_reading R S) (setting_in core o) (item_spot (narrow core.memory) (pair_in core) (stored p) k) (pair_in core) before fuel r after left
+      → Lifts (pair_reading R S) (setting_in now o2) (stored at) (pair_in now) before fuel r after left
+      → Lifts (pair_reading R S) (setting_in core o) (item_spot (narrow core.memory) (pair_in core) (stored p) k) (pair_in core) before fuel r after left
   pair_item now o2 p k step at before after fuel left r same eo es place h =
       let there : stored at ≡ item_spot (narrow core.memory) (pair_in core) (stored p) k = ap stored (place ∙ ap (λ n. p + k * n) es) in
       subst (λ x. Lifts (pair_reading R S) (setting_in core o) x (pair_in core) before fuel r after left) there

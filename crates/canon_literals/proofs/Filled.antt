@@ -40,7 +40,8 @@ module _ (f : Any → Any) where
     pub tuple_filled : (xs ys : Vec Val Global) (vs : List Val) → v ≡ val.Tuple ys → vs ≡ ys.items → literals_view xs.items ≡ map (replaced f) (literals_view vs) → literal_view (val.Tuple xs) ≡ replaced f (literal_view v)
     tuple_filled = in_row val.Tuple tuple literal-Tuple (λ ys. refl)
 
-    pub fixed_filled : (xs ys : Vec Val Global) (vs : List Val) → v ≡ val.FixedLengthList ys → vs ≡ ys.items → literals_view xs.items ≡ map (replaced f) (literals_view vs) → literal_view (val.FixedLengthList xs) ≡ replaced f (literal_view v)
+    pub fixed_filled : (xs ys : Vec Val Global) (vs : List Val) → v ≡ val.FixedLengthList ys → vs ≡ ys.items → literals_view xs.items ≡ map (replaced f) (literals_view vs)
+        → literal_view (val.FixedLengthList xs) ≡ replaced f (literal_view v)
     fixed_filled = in_row val.FixedLengthList fixed literal-FixedLengthList (λ ys. refl)
 
     pub map_filled : (xs ys : Vec (Val × Val) Global) (vs : List (Val × Val)) → v ≡ val.Map ys → vs ≡ ys.items → pairs_view xs.items ≡ map (pair_replaced f) (pairs_view vs) → literal_view (val.Map xs) ≡ replaced f (literal_view v)
@@ -54,12 +55,15 @@ module _ (f : Any → Any) where
         literal-Record xs ∙ (ap (λ (gs : List (Name × Literal)). fields (fields_of gs)) (sym (field_views xs.items) ∙ (e ∙ ap (λ (gs : List (Name × Literal)). map (field_replaced f) gs) (ap (map field_view) es ∙ field_views ys.items)))
         ∙ (ap fields (fields_filled (fields_view ys.items)) ∙ (ap (replaced f) (sym (literal-Record ys)) ∙ ap (λ (w : Val). replaced f (literal_view w)) (sym ev))))
 
-    pub ok_filled : (r : Result (Option (Box Val Global)) (Option (Box Val Global))) (p q : Option (Box Val Global)) → v ≡ val.Result r → r ≡ Ok q → payload_view p ≡ payload_replaced f (payload_view q) → literal_view (val.Result (Ok p)) ≡ replaced f (literal_view v)
+    pub ok_filled : (r : Result (Option (Box Val Global)) (Option (Box Val Global))) (p q : Option (Box Val Global)) → v ≡ val.Result r → r ≡ Ok q
+        → payload_view p ≡ payload_replaced f (payload_view q) → literal_view (val.Result (Ok p)) ≡ replaced f (literal_view v)
     ok_filled r p q ev er e = literal-Ok p ∙ (ap (λ (x : Payload). ok x) e ∙ (ap (replaced f) (sym (literal-Ok q)) ∙ ap (λ (w : Val). replaced f (literal_view w)) (sym (ev ∙ ap val.Result er))))
 
-    pub err_filled : (r : Result (Option (Box Val Global)) (Option (Box Val Global))) (p q : Option (Box Val Global)) → v ≡ val.Result r → r ≡ Err q → payload_view p ≡ payload_replaced f (payload_view q) → literal_view (val.Result (Err p)) ≡ replaced f (literal_view v)
+    pub err_filled : (r : Result (Option (Box Val Global)) (Option (Box Val Global))) (p q : Option (Box Val Global)) → v ≡ val.Result r → r ≡ Err q
+        → payload_view p ≡ payload_replaced f (payload_view q) → literal_view (val.Result (Err p)) ≡ replaced f (literal_view v)
     err_filled r p q ev er e = literal-Err p ∙ (ap (λ (x : Payload). error x) e ∙ (ap (replaced f) (sym (literal-Err q)) ∙ ap (λ (w : Val). replaced f (literal_view w)) (sym (ev ∙ ap val.Result er))))
 
-    pub flags_filled : (xs ys : Vec (String Global) Global) (ns : List (String Global)) → v ≡ val.Flags ys → ns ≡ ys.items → map (λ s. string_bytes s) xs.items ≡ map (λ s. string_bytes s) ns → literal_view (val.Flags xs) ≡ replaced f (literal_view v)
+    pub flags_filled : (xs ys : Vec (String Global) Global) (ns : List (String Global)) → v ≡ val.Flags ys → ns ≡ ys.items → map (λ s. string_bytes s) xs.items ≡ map (λ s. string_bytes s) ns
+        → literal_view (val.Flags xs) ≡ replaced f (literal_view v)
     flags_filled xs ys ns ev en e =
         literal-Flags xs ∙ (ap (λ (ms : List Name). flags ms) (e ∙ ap (λ (os : List (String Global)). map (λ s. string_bytes s) os) en) ∙ (ap (replaced f) (sym (literal-Flags ys)) ∙ ap (λ (w : Val). replaced f (literal_view w)) (sym ev)))

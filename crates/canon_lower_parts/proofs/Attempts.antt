@@ -116,7 +116,8 @@ module _ {D G : Type 0} (L : GuestLaws G) where
   AttemptDoes a b places aim gives blocks still Large r = TypedAttempt L.seen L.moves a b places aim gives blocks still Large r
 
   -- nothing is asked for, and no handle is given
-  pub typed_none : {X : Type 0} (a : Parts D G) (places : List Block) (aim : Aim X) (blocks : Bool) (Large : Fault → X → Type 0) → Attempt false (stage_of L.seen L.moves a) (stage_of L.seen L.moves a) places aim [] done → IsSmall aim.Is Large
+  pub typed_none : {X : Type 0} (a : Parts D G) (places : List Block) (aim : Aim X) (blocks : Bool) (Large : Fault → X → Type 0)
+      → Attempt false (stage_of L.seen L.moves a) (stage_of L.seen L.moves a) places aim [] done → IsSmall aim.Is Large
       → AttemptDoes a a places aim [] blocks (AttemptKept a a) Large (Ok tt)
   typed_none a places aim blocks Large h small = record {
     handles = [];
@@ -133,7 +134,8 @@ module _ {D G : Type 0} (L : GuestLaws G) where
   -- the same said of another aim
   pub typed_map : {X Y : Type 0} (a b : Parts D G) (part whole : List Block) (aim : Aim X) (other : Aim Y) (gives : List (List Part)) (blocks blocks2 : Bool) (still : Type 0) (Large : Fault → X → Type 0) (Large2 : Fault → Y → Type 0)
       (r : Result (Unit {0}) Fault)
-      → ((hs : List ℕ) (e : Ending) → Attempt false (stage_of L.seen L.moves a) (stage_of L.seen L.moves b) part aim hs e → Attempt false (stage_of L.seen L.moves a) (stage_of L.seen L.moves b) whole other hs e) → (blocks2 ≡ false → blocks ≡ false)
+      → ((hs : List ℕ) (e : Ending) → Attempt false (stage_of L.seen L.moves a) (stage_of L.seen L.moves b) part aim hs e
+      → Attempt false (stage_of L.seen L.moves a) (stage_of L.seen L.moves b) whole other hs e) → (blocks2 ≡ false → blocks ≡ false)
       → AsLarge aim.Is other.Is Large Large2 → AttemptDoes a b part aim gives blocks still Large r → AttemptDoes a b whole other gives blocks2 still Large2 r
   typed_map a b part whole aim other gives blocks blocks2 still Large Large2 r f quieter same h = record {
     handles = h.handles;

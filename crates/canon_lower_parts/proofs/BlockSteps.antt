@@ -37,12 +37,14 @@ use Rattle.canon_lowering.specs.Stages.{Stage, holding}
 
 -- ---- what is asked for
 
-asked_as : {D G : Type 0} (seen : G → Seen) (moves : GuestIn G → List Event → GuestIn G → Type 0) (before after : Parts D G) (s : Shape) (n bytes : ℕ) (c : Call) (r : Result ℕ Fault) → c ≡ items_call false s n → n < 2 ^ 32 → n * size false s < 2 ^ 32
+asked_as : {D G : Type 0} (seen : G → Seen) (moves : GuestIn G → List Event → GuestIn G → Type 0) (before after : Parts D G) (s : Shape) (n bytes : ℕ) (c : Call) (r : Result ℕ Fault)
+    → c ≡ items_call false s n → n < 2 ^ 32 → n * size false s < 2 ^ 32
     → AsksFor seen moves before after c r → BlockAsked seen moves before after s n r
 asked_as seen moves before after s n bytes c (Ok p) is narrow fit h = record { asked = subst (λ (x : Call). AsksFor seen moves before after x (Ok p)) is h; few = narrow; fit = fit }
 asked_as seen moves before after s n bytes c (Err e) is narrow fit h = inr (subst (λ (x : Call). AsksFor seen moves before after x (Err e)) is h)
 
-pub asked_items : {D G : Type 0} (seen : G → Seen) (moves : GuestIn G → List Event → GuestIn G → Type 0) (before after : Parts D G) (s : Shape) (n bytes unit alignment : ℕ) (r : Result ℕ Fault) → unit ≡ size false s → alignment ≡ align false s
+pub asked_items : {D G : Type 0} (seen : G → Seen) (moves : GuestIn G → List Event → GuestIn G → Type 0) (before after : Parts D G) (s : Shape) (n bytes unit alignment : ℕ) (r : Result ℕ Fault)
+    → unit ≡ size false s → alignment ≡ align false s
     → (bytes ≡ n * unit) × (n < 2 ^ 32) × (bytes < 2 ^ 32) → AsksFor seen moves before after (call 0 0 alignment bytes) r → BlockAsked seen moves before after s n r
 asked_items seen moves before after s n bytes unit alignment r eu ea (whole, few, fit) h =
     let same : bytes ≡ n * size false s = whole ∙ ap (λ (x : ℕ). n * x) eu in
@@ -75,7 +77,8 @@ elsewhere_asked a b c (fault.Resource r) p h = absurd h
 
 -- ---- a value that was lowered to words, and not to its end
 
-stop_at : {K : Type 0} {hs : List ℕ} (a b : Stage K) (enc : Encoding) (s : Shape) (at : ℕ) (Has : Tree → Type 0) (ws : List ℕ) (e : Ending) → NotDone e → LowersValue false a b (host_texts enc) s ws 0 Has hs e → StoresValue false a b (host_texts enc) s at Has hs e
+stop_at : {K : Type 0} {hs : List ℕ} (a b : Stage K) (enc : Encoding) (s : Shape) (at : ℕ) (Has : Tree → Type 0) (ws : List ℕ) (e : Ending) → NotDone e
+    → LowersValue false a b (host_texts enc) s ws 0 Has hs e → StoresValue false a b (host_texts enc) s at Has hs e
 stop_at a b enc s at Has ws e not h = record {
   answers = h.answers;
   trap = h.trap;
@@ -130,8 +133,10 @@ module _ {D G : Type 0} (L : GuestLaws G) (options : ℕ) where
     module _ (all : ℕ) (ms : Members) (group : Trees → Trees) (back : Tree → Trees) (row : (enc : Encoding) → MakesRow false (host_texts enc) s n ms all group) (Have : Trees → Type 0)
         (to : (ts : Trees) → Have ts → Has (items (group ts)) × (tree_count ts ≡ all)) (from : (t : Tree) → Has t → Have (back t) × (trees_of t ≡ group (back t)))
         (items_large : (enc : Encoding) → AsItems enc s ms Has back) (a b c : Parts D G) (p : ℕ) (g : IsGivenBlock L.seen L.moves a b s n p) where
-      words : (r : Result (Unit {0}) Fault) (h : TypedMembersStore L.seen L.moves options b c ms 0 p Have gs r) → LowersValue false (stage_of L.seen L.moves a) (stage_of L.seen L.moves c) (host_texts (encoding_by a options)) (list k s) (p ∷ n ∷ []) 0 Has h.handles h.ending
-      words r h = pairs.rows_words false (stage_of L.seen L.moves a) (stage_of L.seen L.moves b) (stage_of L.seen L.moves c) (host_texts (encoding_by a options)) k s n p all ms group back (row (encoding_by a options)) Have Has h.ending g.asked.small g.asked.does (λ _. g.few) to from
+      words : (r : Result (Unit {0}) Fault) (h : TypedMembersStore L.seen L.moves options b c ms 0 p Have gs r)
+          → LowersValue false (stage_of L.seen L.moves a) (stage_of L.seen L.moves c) (host_texts (encoding_by a options)) (list k s) (p ∷ n ∷ []) 0 Has h.handles h.ending
+      words r h = pairs.rows_words false (stage_of L.seen L.moves a) (stage_of L.seen L.moves b) (stage_of L.seen L.moves c) (host_texts (encoding_by a options)) k s n p all ms group back
+          (row (encoding_by a options)) Have Has h.ending g.asked.small g.asked.does (λ _. g.few) to from
           (subst (λ (x : Encoding). StoresMembers false (stage_of L.seen L.moves b) (stage_of L.seen L.moves c) (host_texts x) ms 0 p Have h.handles h.ending) (same_encoding a b options g.asked.same) h.attempt)
 
       passed : (r : Result (Unit {0}) Fault) (h : TypedMembersStore L.seen L.moves options b c ms 0 p Have gs r) → HandlesCross a.ledger c.ledger gs h.handles r
@@ -162,7 +167,8 @@ module _ {D G : Type 0} (L : GuestLaws G) (options : ℕ) where
           handles = h.handles;
           ending = h.ending;
           ends = h.ends;
-          attempt = attempt_other false (stage_of L.seen L.moves a) (stage_of L.seen L.moves c) [] _ (value_words false (host_texts (encoding_by a options)) (list k s) [] 0 Has) h.ending (ends_early gs e h.ending h.ends) (λ t has. (has, refl)) (words (Err e) h);
+          attempt = attempt_other false (stage_of L.seen L.moves a) (stage_of L.seen L.moves c) [] _ (value_words false (host_texts (encoding_by a options)) (list k s) [] 0 Has) h.ending
+              (ends_early gs e h.ending h.ends) (λ t has. (has, refl)) (words (Err e) h);
           passed = passed (Err e) h;
           same = handles_then a b c (same_handles a b g.asked.same) h.same;
           quiet = λ none. absurd (lower_not_false none);
@@ -175,7 +181,8 @@ module _ {D G : Type 0} (L : GuestLaws G) (options : ℕ) where
 
   -- ---- its pointer and its length, in memory
 
-  pub placed_stops : (a b : Parts D G) (s : Shape) (at : ℕ) (Has : Tree → Type 0) (gs : List (List Part)) (e : Fault) → has_block s ≡ true → TypedPlaces L.seen L.moves options a b s Has gs (Err e) → TypedStores L.seen L.moves options a b s at Has gs (Err e)
+  pub placed_stops : (a b : Parts D G) (s : Shape) (at : ℕ) (Has : Tree → Type 0) (gs : List (List Part)) (e : Fault) → has_block s ≡ true → TypedPlaces L.seen L.moves options a b s Has gs (Err e)
+      → TypedStores L.seen L.moves options a b s at Has gs (Err e)
   placed_stops a b s at Has gs e block h = record {
     handles = h.placed.handles;
     ending = h.placed.ending;

@@ -62,7 +62,12 @@ module _ {D G : Type 0} (L : GuestLaws G) (options : ℕ) where
         ending = g.ending;
         ends = g.ends;
         attempt = variant_stored false (host_texts enc) k cs at d lt Have (stage_of L.seen L.moves a) (stage_of L.seen L.moves b2) (stage_of L.seen L.moves c)
-            (tag_written false (host_texts enc) (stage_of L.seen L.moves a) a.memory b.memory cs at d w.small (omega (arith, room, ap (size false) shape, tag-le-size false k cs)) w.put.writes (w.put.stored ∙ mod-eq_of_lt (tag_fits (case_count cs) d lt few)))
+            (tag_written false (host_texts enc) (stage_of L.seen L.moves a) a.memory b.memory cs at d w.small (omega (
+              arith,
+              room,
+              ap (size false) shape,
+              tag-le-size false k cs,
+            )) w.put.writes (w.put.stored ∙ mod-eq_of_lt (tag_fits (case_count cs) d lt few)))
             Has g.ending (omega (arith, room, ap (size false) shape, w.put.writes.same_length, g.attempt.lowering.goes.no_shorter)) to from g.attempt;
         passed = g.passed;
         same = g.same;

@@ -45,7 +45,8 @@ fixed_found count Fits i t2 type j element n e is fits defined =
       fits = subst (Fits i) (same_item other element count n both) f;
     })
 
-module _ {D G : Type 0} (L : GuestLaws G) (options : ℕ) {A : Type 0} (Walks : A → Tree → Type 0) (gives : Instance → Shape → A → List (List Part)) (Fits : Instance → InterfaceType → Type 0) (a : Parts D G) (type element : InterfaceType) (xs : List A) (n : ℕ)
+module _ {D G : Type 0} (L : GuestLaws G) (options : ℕ) {A : Type 0} (Walks : A → Tree → Type 0) (gives : Instance → Shape → A → List (List Part)) (Fits : Instance → InterfaceType → Type 0)
+    (a : Parts D G) (type element : InterfaceType) (xs : List A) (n : ℕ)
     (of : IsElementOf (λ s. fixed n s) Fits a.component.types type element) (is : length xs ≡ n) (at : ℕ) (room : at + size false (shape_of (component_types a) type) ≤ length a.memory) where
   abbrev s : Shape
   s = shape_of (component_types a) element
@@ -68,7 +69,8 @@ module _ {D G : Type 0} (L : GuestLaws G) (options : ℕ) {A : Type 0} (Walks : 
         handles = h.handles;
         ending = h.ending;
         ends = h.ends;
-        attempt = aimed.fixed_stored false (stage_of L.seen L.moves a) (stage_of L.seen L.moves c) (host_texts (encoding_by a options)) n s at (EachMeans Walks xs) (RowMeans Walks xs) (omega (arith, room, ap (size false) of.shape, h.attempt.lowering.goes.no_shorter))
+        attempt = aimed.fixed_stored false (stage_of L.seen L.moves a) (stage_of L.seen L.moves c) (host_texts (encoding_by a options)) n s at (EachMeans Walks xs) (RowMeans Walks xs)
+            (omega (arith, room, ap (size false) of.shape, h.attempt.lowering.goes.no_shorter))
             (λ ts each. ((ts, refl, each), lower_each_count Walks xs ts each ∙ is)) (row_trees Walks xs) h.ending h.attempt;
         passed = h.passed;
         same = h.same;

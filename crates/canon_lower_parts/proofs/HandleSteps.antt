@@ -55,12 +55,14 @@ refused_one a b parts e only moves = record {
   refusal = (inl refl, tt);
 }
 
-given_by : {D G : Type 0} (a b : Parts D G) (parts : List Part) (r : Result ℕ ResourceFault) → b ≡ record a { ledger = b.ledger } → IfOk (faulted r) (λ h. h < 2 ^ 32) → LeafMoves a.ledger b.ledger parts r → GivesNumber a b (parts ∷ []) (faulted r)
+given_by : {D G : Type 0} (a b : Parts D G) (parts : List Part) (r : Result ℕ ResourceFault) → b ≡ record a { ledger = b.ledger } → IfOk (faulted r) (λ h. h < 2 ^ 32)
+    → LeafMoves a.ledger b.ledger parts r → GivesNumber a b (parts ∷ []) (faulted r)
 given_by a b parts (Ok h) only few moves = record { passed = leaves_one a.ledger b.ledger parts h moves; only_ledger = only; narrow = few; refusal = tt }
 given_by a b parts (Err e) only few moves = refused_one a b parts e only moves
 
 -- what the ledger answered is the guest's number, or a fault
-pub given_number : {D G : Type 0} (a b : Parts D G) (parts : List Part) (gives : List (List Part)) (r : Result ℕ ResourceFault) (q : Result ℕ Fault) → b ≡ record a { ledger = b.ledger } → gives ≡ parts ∷ [] → q ≡ faulted r → IfOk q (λ h. h < 2 ^ 32)
+pub given_number : {D G : Type 0} (a b : Parts D G) (parts : List Part) (gives : List (List Part)) (r : Result ℕ ResourceFault) (q : Result ℕ Fault) → b ≡ record a { ledger = b.ledger }
+    → gives ≡ parts ∷ [] → q ≡ faulted r → IfOk q (λ h. h < 2 ^ 32)
     → LeafMoves a.ledger b.ledger parts r → GivesNumber a b gives q
 given_number a b parts gives r q only eg eq few moves = subst (λ (gs : List (List Part)). GivesNumber a b gs q) (sym eg) (subst (λ (x : Result ℕ Fault). GivesNumber a b (parts ∷ []) x) (sym eq)
     (given_by a b parts r only (subst (λ (x : Result ℕ Fault). IfOk x (λ h. h < 2 ^ 32)) eq few) moves))

@@ -32,7 +32,8 @@ use Rattle.canon_lower_parts.specs.declared.blocks.Placed.{Placed}
 same_list : (x y : InterfaceType) → Some (ListType x) ≡ Some (ListType y) → x ≡ y
 same_list x y e = cc
 
-pub list_found : (Fits : Instance → InterfaceType → Type 0) (i : Instance) (t2 : TypeTable) (type : InterfaceType) (j : ℕ) (element : InterfaceType) → t2 ≡ i.types → type ≡ ty.List j → IsListOf Fits i type → IsDefined t2 (ty.List j) (ListType element)
+pub list_found : (Fits : Instance → InterfaceType → Type 0) (i : Instance) (t2 : TypeTable) (type : InterfaceType) (j : ℕ) (element : InterfaceType) → t2 ≡ i.types → type ≡ ty.List j
+    → IsListOf Fits i type → IsDefined t2 (ty.List j) (ListType element)
     → IsElementOf (λ s. list of_items s) Fits i type element
 list_found Fits i t2 type j element e is fits defined =
     let here : IsDefined i.types (ty.List j) (ListType element) = subst (λ (x : TypeTable). IsDefined x (ty.List j) (ListType element)) e defined in
@@ -46,7 +47,8 @@ list_found Fits i t2 type j element e is fits defined =
 -- ---- in a block
 
 -- values in a row, in a block that is a list's
-module _ {D G : Type 0} (L : GuestLaws G) (options : ℕ) {A : Type 0} (Walks : A → Tree → Type 0) (give : A → List (List Part)) (a b : Parts D G) (z s : Shape) (k : ListKind) (shape : z ≡ list k s) (xs : List A) (n : ℕ) (is : n ≡ length xs) where
+module _ {D G : Type 0} (L : GuestLaws G) (options : ℕ) {A : Type 0} (Walks : A → Tree → Type 0) (give : A → List (List Part)) (a b : Parts D G) (z s : Shape) (k : ListKind) (shape : z ≡ list k s)
+    (xs : List A) (n : ℕ) (is : n ≡ length xs) where
   counts : (t : Tree) → ListMeans Walks xs t → tree_count (trees_of t) ≡ n
   counts t has = lower_each_count Walks xs (trees_of t) (lower_list_trees Walks xs t has) ∙ sym is
 
@@ -72,7 +74,8 @@ module _ {D G : Type 0} (L : GuestLaws G) (options : ℕ) {A : Type 0} (Walks : 
         (λ ts each. ((ts, refl, each), lower_each_count Walks xs ts each ∙ sym is)) (λ t has. (lower_list_trees Walks xs t has, refl)) items_large a b c p g e (as_many (Err e) h)
 
 -- the same of the items that a list's type has, said of the types of the start
-module _ {D G : Type 0} (L : GuestLaws G) (options : ℕ) {A : Type 0} (Walks : A → Tree → Type 0) (gives : Instance → Shape → A → List (List Part)) (Fits : Instance → InterfaceType → Type 0) (a b : Parts D G) (type element : InterfaceType) (xs : List A) (n : ℕ)
+module _ {D G : Type 0} (L : GuestLaws G) (options : ℕ) {A : Type 0} (Walks : A → Tree → Type 0) (gives : Instance → Shape → A → List (List Part)) (Fits : Instance → InterfaceType → Type 0)
+    (a b : Parts D G) (type element : InterfaceType) (xs : List A) (n : ℕ)
     (of : IsElementOf (λ s. list of_items s) Fits a.component.types type element) (is : n ≡ length xs) where
   abbrev s : Shape
   s = shape_of (component_types a) element
@@ -143,4 +146,5 @@ module _ {D G : Type 0} (L : GuestLaws G) (options : ℕ) (a b : Parts D G) (z s
   pub list_done : (c : Parts D G) (r : Result Placed Fault) (q : Result (Unit {0}) Fault) → q ≡ without_value r → IsPlacedPut b c at r → TypedPlaces L.seen L.moves options a b z Has gs r
       → TypedStores L.seen L.moves options a c z at Has gs q
   list_done c (Ok x) q e w h = subst (λ (y : Result (Unit {0}) Fault). TypedStores L.seen L.moves options a c z at Has gs y) (sym e) (list_stores c x h w)
-  list_done c (Err f) q e w h = subst (λ (y : Result (Unit {0}) Fault). TypedStores L.seen L.moves options a c z at Has gs y) (sym e) (subst (λ (x : Parts D G). TypedStores L.seen L.moves options a x z at Has gs (Err f)) (sym w) (list_stops f h))
+  list_done c (Err f) q e w h = subst (λ (y : Result (Unit {0}) Fault). TypedStores L.seen L.moves options a c z at Has gs y) (sym e)
+      (subst (λ (x : Parts D G). TypedStores L.seen L.moves options a x z at Has gs (Err f)) (sym w) (list_stops f h))

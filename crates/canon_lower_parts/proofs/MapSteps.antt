@@ -34,7 +34,8 @@ same_key a b c d e = cc
 same_value : (a b c d : InterfaceType) → Some (MapType a b) ≡ Some (MapType c d) → b ≡ d
 same_value a b c d e = cc
 
-pub pair_found : (Key Value : Instance → InterfaceType → Type 0) (i : Instance) (t2 : TypeTable) (type : InterfaceType) (j : ℕ) (m : TypeMap) → t2 ≡ i.types → type ≡ ty.Map j → IsMapOf Key Value i type → IsDefined t2 (ty.Map j) (MapType m.key m.value)
+pub pair_found : (Key Value : Instance → InterfaceType → Type 0) (i : Instance) (t2 : TypeTable) (type : InterfaceType) (j : ℕ) (m : TypeMap) → t2 ≡ i.types → type ≡ ty.Map j
+    → IsMapOf Key Value i type → IsDefined t2 (ty.Map j) (MapType m.key m.value)
     → HasPair m (shape_of t2 (ty.Map j)) → IsPairType Key Value i (record { key = m.key; value = m.value; second = m.value_offset32; abi = m.entry_abi })
 pair_found Key Value i t2 type j m e is fits defined pair =
     let here : IsDefined i.types (ty.Map j) (MapType m.key m.value) = subst (λ (x : TypeTable). IsDefined x (ty.Map j) (MapType m.key m.value)) e defined in
@@ -72,7 +73,8 @@ pub map_is : (Key Value : Instance → InterfaceType → Type 0) (i : Instance) 
 map_is Key Value i (ty.Map j) (key, value, d, f, f2) = (shape_of i.types key, shape_of i.types value, d.shape)
 map_is Key Value i _ h = absurd h
 
-module _ {D G : Type 0} (L : GuestLaws G) (options : ℕ) {K V : Type 0} (Walks : K × V → Tree → Type 0) (gives : Instance → Shape → K × V → List (List Part)) (Key Value : Instance → InterfaceType → Type 0) (a b : Parts D G) (type : InterfaceType) (pair : PairType)
+module _ {D G : Type 0} (L : GuestLaws G) (options : ℕ) {K V : Type 0} (Walks : K × V → Tree → Type 0) (gives : Instance → Shape → K × V → List (List Part))
+    (Key Value : Instance → InterfaceType → Type 0) (a b : Parts D G) (type : InterfaceType) (pair : PairType)
     (xs : List (K × V)) (n : ℕ) (shape : shape_of (component_types a) type ≡ map_of (shape_of (component_types a) pair.key) (shape_of (component_types a) pair.value)) (is : n ≡ length xs) where
   abbrev s : Shape
   s = pair_in (component_types a) pair

@@ -45,7 +45,8 @@ module _ {D G : Type 0} (L : GuestLaws G) (options : ℕ) where
     handles = [];
     ending = done;
     ends = inl refl;
-    attempt = attempt_none false (stage_of L.seen L.moves a) (members_span false no_members o at ∷ []) (members_at false (host_texts (encoding_by a options)) no_members o at NoTrees) no_trees small refl (λ ts e. refl) refl (λ pointer rest. refl);
+    attempt = attempt_none false (stage_of L.seen L.moves a) (members_span false no_members o at ∷ [])
+        (members_at false (host_texts (encoding_by a options)) no_members o at NoTrees) no_trees small refl (λ ts e. refl) refl (λ pointer rest. refl);
     passed = (refl, refl);
     same = refl;
     quiet = λ none. (refl, tt);
@@ -70,8 +71,10 @@ module _ {D G : Type 0} (L : GuestLaws G) (options : ℕ) where
         passed = cross_then a.ledger b.ledger c.ledger gs ks h.handles k.handles r h.passed k.passed;
         same = handles_then a b c h.same k.same;
         quiet = λ none. ((k.quiet (no_later (has_block s) (have_block ms) none)).0 ∙ (h.quiet (no_first (has_block s) (have_block ms) none)).0, (k.quiet (no_later (has_block s) (have_block ms) none)).1);
-        cause = cause_then Has Have (FirstAnd Has Have) (HasLarge enc s) (HaveLarge enc ms) (HaveLarge enc (member [] s ms)) (first_large enc s ms Has Have) r (subst (λ (z : Encoding). IfErr r (Cause Have (HaveLarge z ms))) same_enc k.cause);
-        small = small_then Has Have (FirstAnd Has Have) (HasLarge enc s) (HaveLarge enc ms) (HaveLarge enc (member [] s ms)) (first_large enc s ms Has Have) r h.small (subst (λ (z : Encoding). OnOk r (IsSmall Have (HaveLarge z ms))) same_enc k.small);
+        cause = cause_then Has Have (FirstAnd Has Have) (HasLarge enc s) (HaveLarge enc ms) (HaveLarge enc (member [] s ms)) (first_large enc s ms Has Have) r
+            (subst (λ (z : Encoding). IfErr r (Cause Have (HaveLarge z ms))) same_enc k.cause);
+        small = small_then Has Have (FirstAnd Has Have) (HasLarge enc s) (HaveLarge enc ms) (HaveLarge enc (member [] s ms)) (first_large enc s ms Has Have) r h.small
+            (subst (λ (z : Encoding). OnOk r (IsSmall Have (HaveLarge z ms))) same_enc k.small);
       }
 
   -- the first one ends it
@@ -112,7 +115,8 @@ module _ {D G : Type 0} (L : GuestLaws G) (options : ℕ) where
     handles = h.handles;
     ending = h.ending;
     ends = h.ends;
-    attempt = aimed.product_stored false (stage_of L.seen L.moves a) (stage_of L.seen L.moves c) (host_texts (encoding_by a options)) k ms at Have (ProductMeans Have) h.ending (omega (arith, room, ap (size false) shape, h.attempt.lowering.goes.no_shorter))
+    attempt = aimed.product_stored false (stage_of L.seen L.moves a) (stage_of L.seen L.moves c) (host_texts (encoding_by a options)) k ms at Have (ProductMeans Have) h.ending
+        (omega (arith, room, ap (size false) shape, h.attempt.lowering.goes.no_shorter))
         (λ ts have. (ts, refl, have)) (λ t (ts, is, have). subst Have (sym (ap trees_of is)) have) h.attempt;
     passed = h.passed;
     same = h.same;

@@ -36,7 +36,8 @@ pick_known : (t : TypeTable) (d : ℕ) (a b : Option InterfaceType) → KnowsPay
 pick_known t zero a b h k = h
 pick_known t (suc d) a b h k = k
 
-pub result_put : {D G : Type 0} (unit : Bool) (F : Instance → InterfaceType → Type 0) (unit2 : Bool) (F2 : Instance → InterfaceType → Type 0) (a b : Parts D G) (t2 : TypeTable) (type : InterfaceType) (j : ℕ) (first second part : Option InterfaceType) (at d place : ℕ)
+pub result_put : {D G : Type 0} (unit : Bool) (F : Instance → InterfaceType → Type 0) (unit2 : Bool) (F2 : Instance → InterfaceType → Type 0) (a b : Parts D G) (t2 : TypeTable) (type : InterfaceType)
+    (j : ℕ) (first second part : Option InterfaceType) (at d place : ℕ)
     → t2 ≡ component_types a → type ≡ ty.Result j → IsResultOf unit F unit2 F2 a.component.types type → IsDefined t2 (ty.Result j) (ResultType first second) → part ≡ pick d first second
     → IsCasePut a b (variant_cases (shape_of (component_types a) (ty.Result j))) at d place → IsResultPut unit F unit2 F2 a b type at d part place
 result_put unit F unit2 F2 a b t2 type j first second part at d place e is fits defined picked put =
@@ -64,7 +65,8 @@ payload_as t false F i (Some type) cs h = (refl, refl)
 payload_as t true F i (Some type) cs h = absurd h
 payload_as t false F i None cs h = absurd h
 
-later_as : (t : TypeTable) (q : Option InterfaceType) (cs : Cases) (d : ℕ) → (case_members (case_for (payload_in (all_shapes t) q) cs) (suc d) ≡ case_members cs d) × (payload_shape (case_for (payload_in (all_shapes t) q) cs) (suc d) ≡ payload_shape cs d)
+later_as : (t : TypeTable) (q : Option InterfaceType) (cs : Cases) (d : ℕ) → (case_members (case_for (payload_in (all_shapes t) q) cs) (suc d) ≡ case_members cs d)
+    × (payload_shape (case_for (payload_in (all_shapes t) q) cs) (suc d) ≡ payload_shape cs d)
 later_as t None cs d = (refl, refl)
 later_as t (Some type) cs d = (refl, refl)
 
@@ -90,21 +92,25 @@ module _ {D G : Type 0} (L : GuestLaws G) (options : ℕ) {A : Type 0} (Walks : 
     (F : Instance → InterfaceType → Type 0) (x : A) (unit : Bool) (a : Parts D G) (p : Option InterfaceType) (at : ℕ)
     (fits : IsPayloadOf unit F a.component.types p) where
   abbrev pub ResultPayload : Parts D G → Option InterfaceType → Result (Unit {0}) Fault → Type 0
-  ResultPayload b q r = TypedMembersStore L.seen L.moves options a b (payload_members (unless_unit unit (payload_type (component_types a) q))) 0 at (PayloadTrees unit (Walks x)) (part_gives unit (gives a.component.types (payload_type (component_types a) q) x)) r
+  ResultPayload b q r = TypedMembersStore L.seen L.moves options a b (payload_members (unless_unit unit (payload_type (component_types a) q))) 0 at (PayloadTrees unit (Walks x))
+      (part_gives unit (gives a.component.types (payload_type (component_types a) q) x)) r
 
   pub no_payload : p ≡ None → length a.memory ≤ 2 ^ 32 → ResultPayload a p (Ok tt)
   no_payload is small = subst (λ (q : Option InterfaceType). ResultPayload a q (Ok tt)) (sym is) (of_none unit (subst (IsPayloadOf unit F a.component.types) is fits))
     where
       of_none : (u : Bool) → IsPayloadOf u F a.component.types None
-          → TypedMembersStore L.seen L.moves options a a (payload_members (unless_unit u (payload_type (component_types a) None))) 0 at (PayloadTrees u (Walks x)) (part_gives u (gives a.component.types (payload_type (component_types a) None) x)) (Ok tt)
+          → TypedMembersStore L.seen L.moves options a a (payload_members (unless_unit u (payload_type (component_types a) None))) 0 at (PayloadTrees u (Walks x))
+          (part_gives u (gives a.component.types (payload_type (component_types a) None) x)) (Ok tt)
       of_none true h = members_nothing L options a 0 at small
       of_none false h = absurd h
 
-  pub some_payload : (b : Parts D G) (type : InterfaceType) (r : Result (Unit {0}) Fault) → p ≡ Some type → TypedStores L.seen L.moves options a b (shape_of (component_types a) type) at (Walks x) (gives a.component.types (shape_of (component_types a) type) x) r → ResultPayload b p r
+  pub some_payload : (b : Parts D G) (type : InterfaceType) (r : Result (Unit {0}) Fault) → p ≡ Some type
+      → TypedStores L.seen L.moves options a b (shape_of (component_types a) type) at (Walks x) (gives a.component.types (shape_of (component_types a) type) x) r → ResultPayload b p r
   some_payload b type r is h = subst (λ (q : Option InterfaceType). ResultPayload b q r) (sym is) (of_some unit (subst (IsPayloadOf unit F a.component.types) is fits))
     where
       of_some : (u : Bool) → IsPayloadOf u F a.component.types (Some type)
-          → TypedMembersStore L.seen L.moves options a b (payload_members (unless_unit u (payload_type (component_types a) (Some type)))) 0 at (PayloadTrees u (Walks x)) (part_gives u (gives a.component.types (payload_type (component_types a) (Some type)) x)) r
+          → TypedMembersStore L.seen L.moves options a b (payload_members (unless_unit u (payload_type (component_types a) (Some type)))) 0 at (PayloadTrees u (Walks x))
+          (part_gives u (gives a.component.types (payload_type (component_types a) (Some type)) x)) r
       of_some false k = members_one L options a b (shape_of (component_types a) type) at (Walks x) (gives a.component.types (shape_of (component_types a) type) x) r h
       of_some true k = absurd k
 
@@ -113,7 +119,8 @@ module _ {D G : Type 0} (L : GuestLaws G) (options : ℕ) {A : Type 0} (Walks : 
 put_types : {D G : Type 0} (a b : Parts D G) (at n bytes : ℕ) → IsPut a b at n bytes → b.component.types ≡ a.component.types
 put_types a b at n bytes h = ap (λ x. x.component.types) h.same
 
-module _ {D G : Type 0} (unit : Bool) (F : Instance → InterfaceType → Type 0) (unit2 : Bool) (F2 : Instance → InterfaceType → Type 0) (a b : Parts D G) (type : InterfaceType) (at d : ℕ) (part : Option InterfaceType) (place : ℕ) (h : IsResultPut unit F unit2 F2 a b type at d part place) where
+module _ {D G : Type 0} (unit : Bool) (F : Instance → InterfaceType → Type 0) (unit2 : Bool) (F2 : Instance → InterfaceType → Type 0) (a b : Parts D G) (type : InterfaceType) (at d : ℕ)
+    (part : Option InterfaceType) (place : ℕ) (h : IsResultPut unit F unit2 F2 a b type at d part place) where
   cases : Cases
   cases = case_for (payload_in (all_shapes (component_types a)) h.first) (case_for (payload_in (all_shapes (component_types a)) h.second) no_cases)
 
@@ -143,7 +150,8 @@ module _ {D G : Type 0} (unit : Bool) (F : Instance → InterfaceType → Type 0
   -- the payload's shape, and the case's members
   ok_shape : d ≡ 0 → payload_shape cases d ≡ payload_type (component_types a) part
   unfolding cases
-  ok_shape e = ap (payload_shape cases) e ∙ (first_shape (component_types a) h.first (case_for (payload_in (all_shapes (component_types a)) h.second) no_cases) ∙ ap (payload_type (component_types a)) (sym (h.part ∙ ap (λ (k : ℕ). pick k h.first h.second) e)))
+  ok_shape e = ap (payload_shape cases) e ∙ (first_shape (component_types a) h.first (case_for (payload_in (all_shapes (component_types a)) h.second) no_cases)
+      ∙ ap (payload_type (component_types a)) (sym (h.part ∙ ap (λ (k : ℕ). pick k h.first h.second) e)))
 
   error_shape : d ≡ 1 → payload_shape cases d ≡ payload_type (component_types a) part
   unfolding cases
@@ -163,14 +171,16 @@ module _ {D G : Type 0} (unit : Bool) (F : Instance → InterfaceType → Type 0
       let same : size false (payload_type (component_types b) part) ≡ size false (payload_type (component_types a) part) = ap (λ (i : Instance). size false (payload_type i.types part)) instance_put in
       omega (arith, room, ap (size false) whole, same, ap (size false) u, cases_put.inner, cases_put.put.writes.same_length, (payloads_fit false of_result cases).inside d (few lt))
 
-  module _ (L : GuestLaws G) (options : ℕ) (room : at + size false s ≤ length a.memory) {A : Type 0} (Walks : A → Tree → Type 0) (gives : Instance → Shape → A → List (List Part)) (alone : Bool) (x : A) (c : Parts D G) (options2 : ℕ) (r : Result (Unit {0}) Fault) (eo : options2 ≡ options)
+  module _ (L : GuestLaws G) (options : ℕ) (room : at + size false s ≤ length a.memory) {A : Type 0} (Walks : A → Tree → Type 0) (gives : Instance → Shape → A → List (List Part)) (alone : Bool)
+      (x : A) (c : Parts D G) (options2 : ℕ) (r : Result (Unit {0}) Fault) (eo : options2 ≡ options)
       (stored : TypedMembersStore L.seen L.moves options2 b c (payload_members (unless_unit alone (payload_type (component_types b) part))) 0 place (PayloadTrees alone (Walks x)) (part_gives alone (gives b.component.types (payload_type (component_types b) part) x)) r) where
     payload_stores : d < 2 → payload_shape cases d ≡ payload_type (component_types a) part → case_members cases d ≡ payload_members (unless_unit alone (payload_type (component_types a) part))
         → TypedStores L.seen L.moves options a c s at (CaseMeans alone Walks d x) (payload_gives alone gives d a.component.types s x) r
     payload_stores lt u members =
         let i = a.component.types in
         let part_is : payload_type (component_types a) part ≡ case_shape d s = sym (ap (case_shape d) whole ∙ u) in
-        let here : TypedMembersStore L.seen L.moves options b c (payload_members (unless_unit alone (payload_type (component_types a) part))) 0 place (PayloadTrees alone (Walks x)) (part_gives alone (gives i (payload_type (component_types a) part) x)) r =
+        let here : TypedMembersStore L.seen L.moves options b c (payload_members (unless_unit alone (payload_type (component_types a) part))) 0 place (PayloadTrees alone (Walks x))
+        (part_gives alone (gives i (payload_type (component_types a) part) x)) r =
         subst (λ (j : Instance). TypedMembersStore L.seen L.moves options b c (payload_members (unless_unit alone (payload_type j.types part))) 0 place (PayloadTrees alone (Walks x)) (part_gives alone (gives j (payload_type j.types part) x)) r) instance_put
         (subst (λ (o : ℕ). TypedMembersStore L.seen L.moves o b c (payload_members (unless_unit alone (payload_type (component_types b) part))) 0 place (PayloadTrees alone (Walks x)) (part_gives alone (gives b.component.types (payload_type (component_types b) part) x)) r) eo stored) in
         let given : part_gives alone (gives i (payload_type (component_types a) part) x) ≡ payload_gives alone gives d i s x = ap (λ (v : Shape). part_gives alone (gives i v x)) part_is ∙ sym (gives_as alone gives d i s x) in
@@ -183,7 +193,8 @@ module _ {D G : Type 0} (unit : Bool) (F : Instance → InterfaceType → Type 0
         let part_is : part ≡ h.first = h.part ∙ ap (λ (k : ℕ). pick k h.first h.second) e in
         let members : case_members cases d ≡ payload_members (unless_unit alone (payload_type (component_types a) part)) =
         ap (case_members cases) e ∙ ((payload_as (component_types a) unit F a.component.types h.first (case_for (payload_in (all_shapes (component_types a)) h.second) no_cases) h.fits).0
-        ∙ (ap (λ (u : Bool). payload_members (unless_unit u (payload_type (component_types a) h.first))) (sym same) ∙ ap (λ (o : Option InterfaceType). payload_members (unless_unit alone (payload_type (component_types a) o))) (sym part_is))) in
+        ∙ (ap (λ (u : Bool). payload_members (unless_unit u (payload_type (component_types a) h.first))) (sym same)
+        ∙ ap (λ (o : Option InterfaceType). payload_members (unless_unit alone (payload_type (component_types a) o))) (sym part_is))) in
         subst (λ (k : ℕ). TypedStores L.seen L.moves options a c s at (CaseMeans alone Walks k x) (payload_gives alone gives k a.component.types s x) r) e (payload_stores (omega (arith, e)) (ok_shape e) members)
 
     pub error_stores : d ≡ 1 → alone ≡ unit2 → TypedStores L.seen L.moves options a c s at (CaseMeans alone Walks 1 x) (payload_gives alone gives 1 a.component.types s x) r
@@ -191,8 +202,10 @@ module _ {D G : Type 0} (unit : Bool) (F : Instance → InterfaceType → Type 0
     error_stores e same =
         let part_is : part ≡ h.second = h.part ∙ ap (λ (k : ℕ). pick k h.first h.second) e in
         let members : case_members cases d ≡ payload_members (unless_unit alone (payload_type (component_types a) part)) =
-        ap (case_members cases) e ∙ ((later_as (component_types a) h.first (case_for (payload_in (all_shapes (component_types a)) h.second) no_cases) 0).0 ∙ ((payload_as (component_types a) unit2 F2 a.component.types h.second no_cases h.fits2).0
-        ∙ (ap (λ (u : Bool). payload_members (unless_unit u (payload_type (component_types a) h.second))) (sym same) ∙ ap (λ (o : Option InterfaceType). payload_members (unless_unit alone (payload_type (component_types a) o))) (sym part_is)))) in
+        ap (case_members cases) e ∙ ((later_as (component_types a) h.first (case_for (payload_in (all_shapes (component_types a)) h.second) no_cases) 0).0
+        ∙ ((payload_as (component_types a) unit2 F2 a.component.types h.second no_cases h.fits2).0
+        ∙ (ap (λ (u : Bool). payload_members (unless_unit u (payload_type (component_types a) h.second))) (sym same)
+        ∙ ap (λ (o : Option InterfaceType). payload_members (unless_unit alone (payload_type (component_types a) o))) (sym part_is)))) in
         subst (λ (k : ℕ). TypedStores L.seen L.moves options a c s at (CaseMeans alone Walks k x) (payload_gives alone gives k a.component.types s x) r) e (payload_stores (omega (arith, e)) (error_shape e) members)
 
   pub ok_room : d ≡ 0 → at + size false s ≤ length a.memory → place + size false (payload_type (component_types b) part) ≤ length b.memory

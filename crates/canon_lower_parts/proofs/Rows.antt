@@ -50,7 +50,8 @@ module _ {D G : Type 0} (L : GuestLaws G) (options : ℕ) {A : Type 0} (Walks : 
   row_nothing : (a : Parts D G) (i : ℕ) → length a.memory ≤ 2 ^ 32 → RowFrom a a i [] (Ok tt)
   row_nothing a i small = members_nothing L options a (i * size false s) at small
 
-  row_more : (a b c : Parts D G) (i : ℕ) (x : A) (xs : List A) (r : Result (Unit {0}) Fault) → TypedStores L.seen L.moves options a b s (at + i * size false s) (Walks x) (gives x) (Ok tt) → RowFrom b c (i + 1) xs r → RowFrom a c i (x ∷ xs) r
+  row_more : (a b c : Parts D G) (i : ℕ) (x : A) (xs : List A) (r : Result (Unit {0}) Fault) → TypedStores L.seen L.moves options a b s (at + i * size false s) (Walks x) (gives x) (Ok tt)
+      → RowFrom b c (i + 1) xs r → RowFrom a c i (x ∷ xs) r
   row_more a b c i x xs r h k = members_more L options a b c s (copies (length xs) s) (i * size false s) at (Walks x) (EachMeans Walks xs) (gives x) (flat_map gives xs) r
       (subst (λ (n : ℕ). TypedStores L.seen L.moves options a b s (at + n) (Walks x) (gives x) (Ok tt)) (sym (row_begins s i)) h)
       (subst (λ (n : ℕ). TypedMembersStore L.seen L.moves options b c (copies (length xs) s) n at (EachMeans Walks xs) (flat_map gives xs) r) (sym (row_ends s i)) k)
@@ -68,7 +69,12 @@ module _ {D G : Type 0} (L : GuestLaws G) (options : ℕ) {A : Type 0} (Walks : 
       pub rest : (z : Parts D G) (r : Result (Unit {0}) Fault) → RowFrom now z i (drop i xs) r → Row start z xs r
 
     pub row_begin : length start.memory ≤ 2 ^ 32 → RowIsStored start 0
-    row_begin small = record { small = small; longer = omega arith; same = refl; rest = λ z r h. subst (λ (n : ℕ). TypedMembersStore L.seen L.moves options start z (copies (length xs) s) n at (EachMeans Walks xs) (flat_map gives xs) r) (omega arith) h }
+    row_begin small = record {
+      small = small;
+      longer = omega arith;
+      same = refl;
+      rest = λ z r h. subst (λ (n : ℕ). TypedMembersStore L.seen L.moves options start z (copies (length xs) s) n at (EachMeans Walks xs) (flat_map gives xs) r) (omega arith) h;
+    }
 
     pub row_go_on : (now now2 : Parts D G) (i : ℕ) (x : A) → drop i xs ≡ x ∷ drop (i + 1) xs → TypedStores L.seen L.moves options now now2 s (at + i * size false s) (Walks x) (gives x) (Ok tt) → RowIsStored now i → RowIsStored now2 (i + 1)
     row_go_on now now2 i x here one h = record {
@@ -78,7 +84,8 @@ module _ {D G : Type 0} (L : GuestLaws G) (options : ℕ) {A : Type 0} (Walks : 
       rest = λ z r more. h.rest z r (subst (λ (ys : List A). RowFrom now z i ys r) (sym here) (row_more now now2 z i x (drop (i + 1) xs) r one more));
     }
 
-    pub row_broken : (now now2 : Parts D G) (i : ℕ) (x : A) (e : Fault) → drop i xs ≡ x ∷ drop (i + 1) xs → TypedStores L.seen L.moves options now now2 s (at + i * size false s) (Walks x) (gives x) (Err e) → RowIsStored now i → Row start now2 xs (Err e)
+    pub row_broken : (now now2 : Parts D G) (i : ℕ) (x : A) (e : Fault) → drop i xs ≡ x ∷ drop (i + 1) xs
+        → TypedStores L.seen L.moves options now now2 s (at + i * size false s) (Walks x) (gives x) (Err e) → RowIsStored now i → Row start now2 xs (Err e)
     row_broken now now2 i x e here one h = h.rest now2 (Err e) (subst (λ (ys : List A). RowFrom now now2 i ys (Err e)) (sym here) (row_stops now now2 i x (drop (i + 1) xs) e one))
 
     pub row_ended : (now : Parts D G) (i : ℕ) → drop i xs ≡ [] → RowIsStored now i → Row start now xs (Ok tt)
@@ -90,7 +97,8 @@ module _ {D G : Type 0} (L : GuestLaws G) (options : ℕ) {A : Type 0} (Walks : 
 -- ---- what was stored, said of the types of the start
 
 module _ {D G A : Type 0} (seen : G → Seen) (moves : GuestIn G → List Event → GuestIn G → Type 0) (options : ℕ) (Walks : A → Tree → Type 0) (gives : Instance → Shape → A → List (List Part)) where
-  pub item_stood : (i : Instance) (now now2 : Parts D G) (options2 : ℕ) (type : InterfaceType) (at k bytes : ℕ) (x : A) (r : Result (Unit {0}) Fault) → options2 ≡ options → now.component.types ≡ i → bytes ≡ size false (shape_of i.types type)
+  pub item_stood : (i : Instance) (now now2 : Parts D G) (options2 : ℕ) (type : InterfaceType) (at k bytes : ℕ) (x : A) (r : Result (Unit {0}) Fault) → options2 ≡ options → now.component.types ≡ i
+      → bytes ≡ size false (shape_of i.types type)
       → TypedStores seen moves options2 now now2 (shape_of (component_types now) type) (at + k * bytes) (Walks x) (gives now.component.types (shape_of (component_types now) type) x) r
       → TypedStores seen moves options now now2 (shape_of i.types type) (at + k * size false (shape_of i.types type)) (Walks x) (gives i (shape_of i.types type) x) r
   item_stood i now now2 options2 type at k bytes x r eo ei is h =

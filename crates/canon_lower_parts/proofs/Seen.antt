@@ -15,7 +15,8 @@ option_seen Walks gives i s P None h = h
 option_seen Walks gives i s P (Some r) h = h
 
 -- and of a result; where a payload's type is the unit, nothing is said of it
-pub lower_result_seen : {T E : Type 0} (unit : Bool) (Walks : T → Tree → Type 0) (gives : Instance → Shape → T → List (List Part)) (unit2 : Bool) (Walks2 : E → Tree → Type 0) (gives2 : Instance → Shape → E → List (List Part)) (i : Instance) (s : Shape)
+pub lower_result_seen : {T E : Type 0} (unit : Bool) (Walks : T → Tree → Type 0) (gives : Instance → Shape → T → List (List Part)) (unit2 : Bool) (Walks2 : E → Tree → Type 0)
+    (gives2 : Instance → Shape → E → List (List Part)) (i : Instance) (s : Shape)
     (P : (Tree → Type 0) → List (List Part) → Type 0) (v : Result (Bor T) (Bor E))
     → P (ResultMeans unit (λ r. Walks r.now) unit2 (λ r. Walks2 r.now) v) (result_gives unit (λ j z r. gives j z r.now) unit2 (λ j z r. gives2 j z r.now) i s v)
     → P (ResultMeans unit Walks unit2 Walks2 (result_copied v)) (result_gives unit gives unit2 gives2 i s (result_copied v))

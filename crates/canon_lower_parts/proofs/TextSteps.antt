@@ -111,7 +111,8 @@ module _ {D G : Type 0} (L : GuestLaws G) (options : ℕ) (a b : Parts D G) (s :
 
 -- ---- in memory: a pointer and a length
 
-module _ {D G : Type 0} (L : GuestLaws G) (options : ℕ) (a b : Parts D G) (type : InterfaceType) (is : type ≡ ty.String) (at : ℕ) (room : at + size false (shape_of (component_types a) type) ≤ length a.memory) (Has : Tree → Type 0) (gs : List (List Part)) where
+module _ {D G : Type 0} (L : GuestLaws G) (options : ℕ) (a b : Parts D G) (type : InterfaceType) (is : type ≡ ty.String) (at : ℕ)
+    (room : at + size false (shape_of (component_types a) type) ≤ length a.memory) (Has : Tree → Type 0) (gs : List (List Part)) where
   shape : shape_of (component_types a) type ≡ string
   shape = ap (shape_of (component_types a)) is
 
@@ -125,7 +126,8 @@ module _ {D G : Type 0} (L : GuestLaws G) (options : ℕ) (a b : Parts D G) (typ
   text_stops : (e : Fault) → TypedPlaces L.seen L.moves options a b string Has gs (Err e) → TypedStores L.seen L.moves options a b (shape_of (component_types a) type) at Has gs (Err e)
   text_stops e h = subst (λ (s : Shape). TypedStores L.seen L.moves options a b s at Has gs (Err e)) (sym shape) (placed_stops L options a b string at Has gs e refl h)
 
-  pub text_done : (c : Parts D G) (r : Result Placed Fault) (q : Result (Unit {0}) Fault) → q ≡ without_value r → IsPlacedPut b c at r → TypedPlaces L.seen L.moves options a b string Has gs r → TypedStores L.seen L.moves options a c (shape_of (component_types a) type) at Has gs q
+  pub text_done : (c : Parts D G) (r : Result Placed Fault) (q : Result (Unit {0}) Fault) → q ≡ without_value r → IsPlacedPut b c at r → TypedPlaces L.seen L.moves options a b string Has gs r
+      → TypedStores L.seen L.moves options a c (shape_of (component_types a) type) at Has gs q
   text_done c (Ok x) q e w h = subst (λ (y : Result (Unit {0}) Fault). TypedStores L.seen L.moves options a c (shape_of (component_types a) type) at Has gs y) (sym e) (text_stores c x h w)
   text_done c (Err f) q e w h = subst (λ (y : Result (Unit {0}) Fault). TypedStores L.seen L.moves options a c (shape_of (component_types a) type) at Has gs y) (sym e)
       (subst (λ (x : Parts D G). TypedStores L.seen L.moves options a x (shape_of (component_types a) type) at Has gs (Err f)) (sym w) (text_stops f h))

@@ -54,7 +54,8 @@ module _ {D G : Type 0} (L : GuestLaws G) (options : ℕ) (a b : Parts D G) (s :
     handles = h.placed.handles;
     ending = h.placed.ending;
     ends = h.placed.ends;
-    attempt = attempt_other false (stage_of L.seen L.moves a) (stage_of L.seen L.moves b) [] _ (value_words false (host_texts (encoding_by a options)) s ws 0 Has) h.placed.ending (ends_early gs e h.placed.ending h.placed.ends) (λ t has. (has, refl)) h.placed.attempt;
+    attempt = attempt_other false (stage_of L.seen L.moves a) (stage_of L.seen L.moves b) [] _ (value_words false (host_texts (encoding_by a options)) s ws 0 Has) h.placed.ending
+        (ends_early gs e h.placed.ending h.placed.ends) (λ t has. (has, refl)) h.placed.attempt;
     passed = h.placed.passed;
     same = h.placed.same;
     quiet = λ none. absurd (lower_not_false (sym block ∙ none));

@@ -61,7 +61,8 @@ unfolding requests
 only_asks enc u ts t e = subst (λ (zs : Trees). members_requests false (host_asks enc) (only u) zs ≡ requests false (host_asks enc) u (tree_at zs 0)) (sym e) (append-nil (requests false (host_asks enc) u t))
 
 -- a value as the only member
-only_member : {K : Type 0} {hs : List ℕ} (a c : Stage K) (enc : Encoding) (u : Shape) (ws : List ℕ) (i : ℕ) (Has : Tree → Type 0) (e : Ending) → LowersValue false a c (host_texts enc) u ws i Has hs e → LowersMembers false a c (host_texts enc) (only u) ws i (FirstAnd Has NoTrees) hs e
+only_member : {K : Type 0} {hs : List ℕ} (a c : Stage K) (enc : Encoding) (u : Shape) (ws : List ℕ) (i : ℕ) (Has : Tree → Type 0) (e : Ending) → LowersValue false a c (host_texts enc) u ws i Has hs e
+    → LowersMembers false a c (host_texts enc) (only u) ws i (FirstAnd Has NoTrees) hs e
 unfolding requests leaves flat
 only_member a c enc u ws i Has e h = attempt_as false a c [] [] _ (members_words false (host_texts enc) (only u) ws i (FirstAnd Has NoTrees)) e (λ j q. q) (record {
   turn = λ t. tree t no_trees;
@@ -147,7 +148,8 @@ module _ {D G : Type 0} (L : GuestLaws G) (options : ℕ) (a c : Parts D G) (s :
       → HasCase s d None → IsCaseWords d 1 ws → TypedLowers L.seen L.moves options a a s ws 0 (CaseMeans unit Walks d v) (payload_gives unit f d i s v) (Ok tt)
   bare_case unit Walks f i v ws is few small room h words = subst (λ (b : Bool). TypedLowers L.seen L.moves options a a s ws 0 (CaseMeans b Walks d v) (payload_gives b f d i s v) (Ok tt)) (sym is) (has_bare ws few small room h words)
 
-  pub payload_case : {A : Type 0} (unit : Bool) (Walks : A → Tree → Type 0) (f : Instance → Shape → A → List (List Part)) (i : Instance) (v : A) (u : Shape) (ws : List ℕ) (r : Result (Unit {0}) Fault) → unit ≡ false → d < 2 ^ 32 → length ws ≡ flat s
+  pub payload_case : {A : Type 0} (unit : Bool) (Walks : A → Tree → Type 0) (f : Instance → Shape → A → List (List Part)) (i : Instance) (v : A) (u : Shape) (ws : List ℕ)
+      (r : Result (Unit {0}) Fault) → unit ≡ false → d < 2 ^ 32 → length ws ≡ flat s
       → HasCase s d (Some u) → TypedLowers L.seen L.moves options a c u ws 1 (Walks v) (f i u v) r → IfOk r (λ x. IsCaseWords d (1 + flat u) ws)
       → TypedLowers L.seen L.moves options a c s ws 0 (CaseMeans unit Walks d v) (payload_gives unit f d i s v) r
   payload_case unit Walks f i v u ws r is few room h low words =

@@ -34,7 +34,8 @@ use Rattle.canon_value_parts.proofs.Walks.{copies_quiet}
 
 -- ---- a row
 
-module _ {D G A : Type 0} (seen : G → Seen) (moves : GuestIn G → List Event → GuestIn G → Type 0) (options : ℕ) (start : Parts D G) (type : InterfaceType) (Walks : A → Tree → Type 0) (f : Instance → Shape → A → List (List Part)) (xs : List A) where
+module _ {D G A : Type 0} (seen : G → Seen) (moves : GuestIn G → List Event → GuestIn G → Type 0) (options : ℕ) (start : Parts D G) (type : InterfaceType) (Walks : A → Tree → Type 0)
+    (f : Instance → Shape → A → List (List Part)) (xs : List A) where
   abbrev item : Shape
   item = shape_of (component_types start) type
 
@@ -80,9 +81,11 @@ module _ {D G A : Type 0} (L : GuestLaws G) (options : ℕ) (start : Parts D G) 
     pub row_room : at + flat (shape_of (component_types now) type) ≤ length ws
     row_room = done_room L options start (copies (length xs) one) (EachMeans Walks xs) (lower_gives xs) now opts ws at type (copies (length zs) one) (Walks x) (EachMeans Walks zs) (λ i u. f i u x) (lower_gives zs) next
 
-    pub lower_row_more : (c : Parts D G) (opts2 : ℕ) (vs : List ℕ) (at2 : ℕ) → ((t : Tree) → Walks x t → Fits one t) → WordsStay at ws vs → at2 ≡ at + flat (shape_of (component_types now) type) → opts2 ≡ opts → Item c vs (Ok tt) → Row c opts2 vs at2 zs
+    pub lower_row_more : (c : Parts D G) (opts2 : ℕ) (vs : List ℕ) (at2 : ℕ) → ((t : Tree) → Walks x t → Fits one t) → WordsStay at ws vs → at2 ≡ at + flat (shape_of (component_types now) type)
+        → opts2 ≡ opts → Item c vs (Ok tt) → Row c opts2 vs at2 zs
     lower_row_more c opts2 vs at2 fits stays end eo low =
-        done_more L options start (copies (length xs) one) (EachMeans Walks xs) (lower_gives xs) now opts ws at type (copies (length zs) one) (Walks x) (EachMeans Walks zs) (λ i u. f i u x) (lower_gives zs) next c opts2 vs at2 fits stays end eo low
+        done_more L options start (copies (length xs) one) (EachMeans Walks xs) (lower_gives xs) now opts ws at type (copies (length zs) one) (Walks x) (EachMeans Walks zs) (λ i u. f i u x)
+        (lower_gives zs) next c opts2 vs at2 fits stays end eo low
 
     pub row_stop : (c : Parts D G) (vs : List ℕ) (e : Fault) → WordsStay at ws vs → Item c vs (Err e) → Whole c vs (Err e)
     row_stop c vs e stays low =
@@ -90,7 +93,8 @@ module _ {D G A : Type 0} (L : GuestLaws G) (options : ℕ) (start : Parts D G) 
 
 -- ---- a list of fixed length
 
-pub fixed_lowers : {D G A : Type 0} (L : GuestLaws G) (options : ℕ) (a c : Parts D G) (s u : Shape) (n : ℕ) (Walks : A → Tree → Type 0) (xs : List A) (ws : List ℕ) (gs : List (List Part)) (r : Result (Unit {0}) Fault) → s ≡ fixed n u → length xs ≡ n
+pub fixed_lowers : {D G A : Type 0} (L : GuestLaws G) (options : ℕ) (a c : Parts D G) (s u : Shape) (n : ℕ) (Walks : A → Tree → Type 0) (xs : List A) (ws : List ℕ) (gs : List (List Part))
+    (r : Result (Unit {0}) Fault) → s ≡ fixed n u → length xs ≡ n
     → TypedMembersLower L.seen L.moves options a c (copies (length xs) u) ws 0 (EachMeans Walks xs) gs r → TypedLowers L.seen L.moves options a c s ws 0 (RowMeans Walks xs) gs r
 fixed_lowers L options a c s u n Walks xs ws gs r shape count h =
     let enc : Encoding = encoding_by a options in

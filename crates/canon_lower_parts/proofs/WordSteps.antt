@@ -113,7 +113,11 @@ module _ {D G : Type 0} (L : GuestLaws G) (options : ℕ) where
       subst (λ (z : Shape). Low a c z ws 0 (ProductMeans Have) gives r) (sym shape)
       (typed_map L a c [] [] (members_words false (host_texts enc) ms ws 0 Have) (value_words false (host_texts enc) (product k ms) ws 0 (ProductMeans Have)) gives (have_block ms) (has_block (product k ms)) (AttemptKept a c)
       (HaveLarge enc ms) (HasLarge enc (product k ms)) r
-      (λ hs e m. product_words false (stage_of L.seen L.moves a) (stage_of L.seen L.moves c) (host_texts enc) k ms ws 0 Have (ProductMeans Have) e (λ ts have. (ts, refl, have)) (λ t (ts, e2, have). subst Have (sym (ap trees_of e2)) have) m) (λ e. e)
+      (λ hs e m. product_words false (stage_of L.seen L.moves a) (stage_of L.seen L.moves c) (host_texts enc) k ms ws 0 Have (ProductMeans Have) e (λ ts have. (ts, refl, have)) (λ t (
+        ts,
+        e2,
+        have,
+      ). subst Have (sym (ap trees_of e2)) have) m) (λ e. e)
       (product_large enc k ms Have) h)
 
 pub lower_scalar_room : (s : Shape) (k : Scalar) (dst : List ℕ) → s ≡ scalar k → length dst ≡ flat s → 0 < length dst

@@ -56,7 +56,8 @@ pub record IsOptionPut {D G : Type 0} (Fits : Instance → InterfaceType → Typ
   pub put : IsCasePut before after (variant_cases (shape_of (component_types before) type)) at d place
 
 -- the number of a result's case was written, and this is its payload's type
-pub record IsResultPut {D G : Type 0} (unit : Bool) (Good : Instance → InterfaceType → Type 0) (unit2 : Bool) (Bad : Instance → InterfaceType → Type 0) (before after : Parts D G) (type : InterfaceType) (at d : ℕ) (payload : Option InterfaceType) (place : ℕ) : Type 0 where
+pub record IsResultPut {D G : Type 0} (unit : Bool) (Good : Instance → InterfaceType → Type 0) (unit2 : Bool) (Bad : Instance → InterfaceType → Type 0) (before after : Parts D G)
+    (type : InterfaceType) (at d : ℕ) (payload : Option InterfaceType) (place : ℕ) : Type 0 where
   pub first : Option InterfaceType
   pub second : Option InterfaceType
   pub shape : shape_of (component_types before) type ≡ result_of (payload_in (all_shapes (component_types before)) first) (payload_in (all_shapes (component_types before)) second)

@@ -26,7 +26,8 @@ module _ {D G : Type 0} (seen : G → Seen) (moves : GuestIn G → List Event �
 
   -- values in a row as members at `at`, where the one before them ends at offset o
   abbrev pub TypedMembersStore : Members → ℕ → ℕ → (Trees → Type 0) → List (List Part) → Result (Unit {0}) Fault → Type 0
-  TypedMembersStore ms o at Have gives result = TypedAttempt seen moves before after (members_span false ms o at ∷ []) (members_at false (host_texts (encoding_by before options)) ms o at Have) gives (have_block ms) (after.guest ≡ before.guest)
+  TypedMembersStore ms o at Have gives result = TypedAttempt seen moves before after (members_span false ms o at ∷ []) (members_at false (host_texts (encoding_by before options)) ms o at Have) gives
+      (have_block ms) (after.guest ≡ before.guest)
       (HaveLarge (encoding_by before options) ms) result
 
 -- the lowest bytes of a number were written at an address, and nothing else changed

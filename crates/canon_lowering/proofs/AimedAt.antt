@@ -61,7 +61,10 @@ pub value_framed : (wide : Bool) (texts : Texts) (s : Shape) (at : ℕ) (Has : T
 value_framed wide texts s at Has = record { rep = λ blocks more xs ys k t h. value_kept wide texts blocks more xs ys k s at t h; home = λ blocks more xs ys k t ps qs h g. value_homes_kept wide texts blocks more xs ys k s at t ps qs h g }
 
 pub members_framed : (wide : Bool) (texts : Texts) (ms : Members) (o at : ℕ) (Have : Trees → Type 0) → IsFramed wide (members_at wide texts ms o at Have)
-members_framed wide texts ms o at Have = record { rep = λ blocks more xs ys k ts h. members_kept wide texts blocks more xs ys k ms o at ts h; home = λ blocks more xs ys k ts ps qs h g. members_homes_kept wide texts blocks more xs ys k ms o at ts ps qs h g }
+members_framed wide texts ms o at Have = record {
+  rep = λ blocks more xs ys k ts h. members_kept wide texts blocks more xs ys k ms o at ts h;
+  home = λ blocks more xs ys k ts ps qs h g. members_homes_kept wide texts blocks more xs ys k ms o at ts ps qs h g;
+}
 
 -- ---- members in memory
 
@@ -106,7 +109,8 @@ module _ (wide : Bool) (texts : Texts) (name : Name) (s : Shape) (ms : Members) 
   pub members_stop : {K : Type 0} {hs ks : List ℕ} (a b : Stage K) (e : Ending) → NotDone e → StoresValue wide a b texts s (at + begins wide o s) Has hs e → StoresMembers wide a b texts (member name s ms) o at (FirstAnd Has Have) ks e
   members_stop a b e not h = attempt_stop wide a b b first others big _ _ _ _ members_join (value_framed wide texts s _ Has) (members_framed wide texts ms _ at Have) first_in others_in apart e not h
 
-pub product_stored : {K : Type 0} {hs : List ℕ} (wide : Bool) (a c : Stage K) (texts : Texts) (k : ProductKind) (ms : Members) (at : ℕ) (Have : Trees → Type 0) (Has : Tree → Type 0) (e : Ending) → at + size wide (product k ms) ≤ length c.bytes
+pub product_stored : {K : Type 0} {hs : List ℕ} (wide : Bool) (a c : Stage K) (texts : Texts) (k : ProductKind) (ms : Members) (at : ℕ) (Have : Trees → Type 0) (Has : Tree → Type 0) (e : Ending)
+    → at + size wide (product k ms) ≤ length c.bytes
     → ((ts : Trees) → Have ts → Has (parts ts)) → ((t : Tree) → Has t → Have (trees_of t)) → StoresMembers wide a c texts ms 0 at Have hs e → StoresValue wide a c texts (product k ms) at Has hs e
 unfolding requests leaves
 product_stored wide a c texts k ms at Have Has e room to from h =

@@ -71,7 +71,8 @@ module _ (wide : Bool) (texts : Texts) where
   unfolding leaves
   case_handles k cs d ts is = ap (λ i. handle_numbers (case_leaves cs i (payload_of (case_tree d ts)))) (number_of d ts) ∙ ap handle_numbers (payload_leaves cs d d ts is)
 
-  pub case_home : (pointer : ℕ → ℕ → Type 0) (cs : Cases) (i d a : ℕ) (ts : Trees) (xs ys : List ℕ) → CaseIs (case_members cs i) d (case_tree d ts) → MembersHome pointer texts wide (case_members cs i) 0 a ts xs ys → CaseHome pointer texts wide cs i a (payload_of (case_tree d ts)) xs ys
+  pub case_home : (pointer : ℕ → ℕ → Type 0) (cs : Cases) (i d a : ℕ) (ts : Trees) (xs ys : List ℕ) → CaseIs (case_members cs i) d (case_tree d ts)
+      → MembersHome pointer texts wide (case_members cs i) 0 a ts xs ys → CaseHome pointer texts wide cs i a (payload_of (case_tree d ts)) xs ys
   case_home pointer no_cases i d a ts xs ys is h = h
   case_home pointer (bare name cs) zero d a ts xs ys is h = h
   case_home pointer (bare name cs) (suc i) d a ts xs ys is h = case_home pointer cs i d a ts xs ys is h

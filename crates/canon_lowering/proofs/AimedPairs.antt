@@ -103,7 +103,8 @@ rows_words wide a b c texts k s n p all ms group back row Have Has e small g few
     }) r
 
 pub list_words : {K : Type 0} {hs : List ℕ} (wide : Bool) (a b c : Stage K) (texts : Texts) (k : ListKind) (s : Shape) (n p : ℕ) (Have : Trees → Type 0) (Has : Tree → Type 0) (e : Ending) → length b.bytes ≤ 2 ^ 32
-    → (g : Granted a b (items_call wide s n) p) → (IsFalse wide → n < 2 ^ 32) → ((ts : Trees) → Have ts → Has (items ts) × (tree_count ts ≡ n)) → ((t : Tree) → Has t → Have (trees_of t)) → StoresMembers wide b c texts (copies n s) 0 p Have hs e
+    → (g : Granted a b (items_call wide s n) p) → (IsFalse wide → n < 2 ^ 32) → ((ts : Trees) → Have ts → Has (items ts) × (tree_count ts ≡ n)) → ((t : Tree) → Has t → Have (trees_of t))
+    → StoresMembers wide b c texts (copies n s) 0 p Have hs e
     → LowersValue wide a c texts (list k s) (p ∷ n ∷ []) 0 Has hs e
 list_words wide a b c texts k s n p Have Has e small g few to from r =
     rows_words wide a b c texts k s n p n (copies n s) (λ ts. ts) (λ t. trees_of t) (copies_row wide texts s n) Have Has e small g few to (λ t is. (from t is, refl)) r
@@ -138,7 +139,8 @@ pair_framed wide at p n = record {
   home = λ blocks more xs ys k u ps qs (r, ep, en) (q, e). (points_same wide (host_texts utf8) blocks more xs ys k at _ r at (omega arith) (omega arith) ∙ q, e);
 }
 
-pub pair_written : {K : Type 0} (wide : Bool) (g : Stage K) (m m2 : List ℕ) (at p n : ℕ) → length m ≤ 2 ^ 32 → at + 2 * pointer_size wide ≤ length m → Writes (pair_place wide at) m m2 → pointer_at (memory_of m2 wide) at ≡ p → length_at (memory_of m2 wide) at ≡ n
+pub pair_written : {K : Type 0} (wide : Bool) (g : Stage K) (m m2 : List ℕ) (at p n : ℕ) → length m ≤ 2 ^ 32 → at + 2 * pointer_size wide ≤ length m → Writes (pair_place wide at) m m2
+    → pointer_at (memory_of m2 wide) at ≡ p → length_at (memory_of m2 wide) at ≡ n
     → Attempt wide (holding g m) (holding g m2) (pair_place wide at ∷ []) (pair_aim wide at p n) [] done
 pair_written wide g m m2 at p n small room w ep en = attempt_write wide g m m2 (pair_place wide at) (pair_aim wide at p n) tt small w tt (λ u h. refl)
     ((omega (arith, room, w.same_length), λ i l u. inl (l, u)), ep, en) (λ rest. (tt, refl)) (λ rest. (ep, refl))

@@ -25,7 +25,8 @@ use Rattle.canon_lowering.proofs.WordsKept.{flat_homes_kept, flat_homes_moved, m
 -- ---- what is read stays
 
 module _ (wide : Bool) (texts : Texts) (blocks more : List Block) (xs ys : List ℕ) (k : AttemptKeeps blocks more xs ys) (ws vs : List ℕ) where
-  pub flat_kept : (s : Shape) (i j : ℕ) (t : Tree) → SameWords ws i vs j (flat s) → Flat (InsideBlocks blocks (memory_of xs wide)) true texts.encoding (memory_of xs wide) ws s i t → Flat (InsideBlocks more (memory_of ys wide)) true texts.encoding (memory_of ys wide) vs s j t
+  pub flat_kept : (s : Shape) (i j : ℕ) (t : Tree) → SameWords ws i vs j (flat s) → Flat (InsideBlocks blocks (memory_of xs wide)) true texts.encoding (memory_of xs wide) ws s i t
+      → Flat (InsideBlocks more (memory_of ys wide)) true texts.encoding (memory_of ys wide) vs s j t
   flat_kept s i j t same h = flat_along _ _ true true (λ e. e) texts.encoding xs ys wide (reads_more wide texts blocks more xs ys k) (reads_same wide texts blocks more xs ys k) ws vs s i j t same h
 
   pub members_flat_kept : (ms : Members) (i j : ℕ) (ts : Trees) → SameWords ws i vs j (members_flat ms) → MembersFlat (InsideBlocks blocks (memory_of xs wide)) true texts.encoding (memory_of xs wide) ws ms i ts

@@ -104,7 +104,8 @@ module _ {K : Type 0} {X Y Z : Type 0} (wide : Bool) (a b c : Stage K) (p q big 
           handles = joins.handles _ _ ∙ ap₂ (λ xs ys. xs ++ ys) h.shown.handles r.shown.handles;
           rep = λ all held. joins.rep _ _ _ _ (f1.rep _ _ _ _ (first_kept r all held) _ (h.shown.rep (lawful_first h.answers r.answers all) (held1 held)))
               (f2.rep _ _ _ _ more _ (r.shown.rep (lawful_second h.answers r.answers all) (held2 all held)));
-          homes = λ rest. joins.home _ _ _ _ (addresses_of r.answers ++ rest) _ (subst (λ ps. first.Home AnyPointer h.shown.it ps (addresses_of r.answers ++ rest)) (sym (addresses_append h.answers r.answers rest)) (h.shown.homes _)) (r.shown.homes rest);
+          homes = λ rest. joins.home _ _ _ _ (addresses_of r.answers ++ rest) _
+              (subst (λ ps. first.Home AnyPointer h.shown.it ps (addresses_of r.answers ++ rest)) (sym (addresses_append h.answers r.answers rest)) (h.shown.homes _)) (r.shown.homes rest);
           memory_homes = λ all held rest. joins.home _ _ _ _ (addresses_of r.answers ++ rest) _
               (subst (λ ps. first.Home (PointsTo (memory_of c.bytes wide)) h.shown.it ps (addresses_of r.answers ++ rest)) (sym (addresses_append h.answers r.answers rest))
               (f1.home _ _ _ _ (first_kept r all held) _ _ _ (h.shown.rep (lawful_first h.answers r.answers all) (held1 held)) (h.shown.memory_homes (lawful_first h.answers r.answers all) (held1 held) _)))
@@ -209,7 +210,8 @@ attempt_other wide a b places aim other e not same h = record {
 }
 
 -- with the same answers
-pub other_asked : {K : Type 0} {X : Type 0} {hs : List ℕ} (wide : Bool) (a b : Stage K) (places : List Block) (aim other : Aim X) (ks : List ℕ) (e : Ending) (not : NotDone e) (same : (x : X) → other.Is x → aim.Is x × (other.asks x ≡ aim.asks x))
+pub other_asked : {K : Type 0} {X : Type 0} {hs : List ℕ} (wide : Bool) (a b : Stage K) (places : List Block) (aim other : Aim X) (ks : List ℕ) (e : Ending) (not : NotDone e)
+    (same : (x : X) → other.Is x → aim.Is x × (other.asks x ≡ aim.asks x))
     (h : Attempt wide a b places aim hs e) → let r = attempt_other {ks = ks} wide a b places aim other e not same h in (r.answers ≡ h.answers) × (r.trap ≡ h.trap)
 unfolding attempt_other
 other_asked wide a b places aim other ks e not same h = (refl, refl)
@@ -316,12 +318,22 @@ bare_so (out_of_bounds n) a b es = λ more k on. tt
 bare_so trapped a b es = λ more k on. tt
 bare_so short a b es = tt
 
-pub attempt_bare : {K : Type 0} {X : Type 0} {hs : List ℕ} (wide : Bool) (a b : Stage K) (places : List Block) (aim : Aim X) (e : Ending) → Attempt wide a b places aim hs e → Attempt wide (bare (moment_at a)) (bare (moment_at b)) places aim hs e
+pub attempt_bare : {K : Type 0} {X : Type 0} {hs : List ℕ} (wide : Bool) (a b : Stage K) (places : List Block) (aim : Aim X) (e : Ending) → Attempt wide a b places aim hs e
+    → Attempt wide (bare (moment_at a)) (bare (moment_at b)) places aim hs e
 attempt_bare {hs = hs} wide a b places aim e h = record {
   answers = h.answers;
   trap = h.trap;
   fresh = h.fresh;
-  lowering = record { goes = h.lowering.goes; moves = bare_so e a b (events_of h.answers h.trap); small = h.lowering.small; lawful = h.lowering.lawful; tidy = h.lowering.tidy; gained = h.lowering.gained; cause = h.lowering.cause; accepted = h.lowering.accepted };
+  lowering = record {
+    goes = h.lowering.goes;
+    moves = bare_so e a b (events_of h.answers h.trap);
+    small = h.lowering.small;
+    lawful = h.lowering.lawful;
+    tidy = h.lowering.tidy;
+    gained = h.lowering.gained;
+    cause = h.lowering.cause;
+    accepted = h.lowering.accepted;
+  };
   requested = h.requested;
   shown = when e (Shown wide a b places aim h.answers h.fresh hs) (Shown wide (bare (moment_at a)) (bare (moment_at b)) places aim h.answers h.fresh hs) (λ k. record {
     it = k.it;

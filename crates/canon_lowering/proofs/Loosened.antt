@@ -63,7 +63,8 @@ loose_turns R L wide part whole aim other after kself lself t alike is is_back =
 }
 
 -- what stands as it is told stands where another may
-pub loosely : {K : Type 0} {X : Type 0} {hs : List ℕ} (R : X → X → Type 0) (wide : Bool) (a b : Stage K) (places : List Block) (aim : Aim X) (e : Ending) → ((x : X) → R x x) → Attempt wide a b places aim hs e → Attempt wide a b places (loosened R aim) hs e
+pub loosely : {K : Type 0} {X : Type 0} {hs : List ℕ} (R : X → X → Type 0) (wide : Bool) (a b : Stage K) (places : List Block) (aim : Aim X) (e : Ending) → ((x : X) → R x x)
+    → Attempt wide a b places aim hs e → Attempt wide a b places (loosened R aim) hs e
 loosely R wide a b places aim e itself h = attempt_as wide a b places places aim (loosened R aim) e (λ i g. g) (record {
   turn = λ x. x;
   back = λ x. x;
@@ -109,7 +110,8 @@ carried_members_framed wide texts ms o at Have = record {
 }
 
 module _ (wide : Bool) (texts : Texts) (name : Name) (s : Shape) (ms : Members) (o at : ℕ) (Has : Tree → Type 0) (Have : Trees → Type 0) where
-  carried_join : Joins (loosened Respelled (value_at wide texts s (at + begins wide o s) Has)) (loosened AllRespelled (members_at wide texts ms (ends wide o s) at Have)) (loosened AllRespelled (members_at wide texts (member name s ms) o at (FirstAnd Has Have))) (λ t ts. tree t ts)
+  carried_join : Joins (loosened Respelled (value_at wide texts s (at + begins wide o s) Has)) (loosened AllRespelled (members_at wide texts ms (ends wide o s) at Have))
+      (loosened AllRespelled (members_at wide texts (member name s ms) o at (FirstAnd Has Have))) (λ t ts. tree t ts)
   carried_join = loose_joins Respelled AllRespelled AllRespelled _ _ _ _ (members_join wide texts name s ms o at Has Have) (λ t u ts us k l. (u, us, refl, k, l))
 
   -- a member was carried, and then the others
@@ -124,7 +126,8 @@ module _ (wide : Bool) (texts : Texts) (name : Name) (s : Shape) (ms : Members) 
       (first_in wide texts name s ms o at Has Have) (others_in wide texts name s ms o at Has Have) (apart wide texts name s ms o at Has Have) e not h
 
 -- members that were carried make up a product
-pub product_carried : {K : Type 0} {hs : List ℕ} (wide : Bool) (a c : Stage K) (texts : Texts) (k : ProductKind) (ms : Members) (at : ℕ) (Have : Trees → Type 0) (Has : Tree → Type 0) (e : Ending) → at + size wide (product k ms) ≤ length c.bytes
+pub product_carried : {K : Type 0} {hs : List ℕ} (wide : Bool) (a c : Stage K) (texts : Texts) (k : ProductKind) (ms : Members) (at : ℕ) (Have : Trees → Type 0) (Has : Tree → Type 0) (e : Ending)
+    → at + size wide (product k ms) ≤ length c.bytes
     → ((ts : Trees) → Have ts → Has (parts ts)) → ((t : Tree) → Has t → Have (trees_of t)) → MembersCarried wide a c texts ms 0 at Have hs e → StoresCarried wide a c texts (product k ms) at Has hs e
 unfolding requests leaves
 product_carried wide a c texts k ms at Have Has e room to from h =
@@ -179,13 +182,15 @@ module _ {K : Type 0} (wide : Bool) (g : Stage K) (xs ys : List ℕ) (texts : Te
 -- ---- texts
 
 -- A text that was transcoded stands in its block. It is told with k bytes, as it is spelled where it comes from.
-pub text_carried : {K : Type 0} (wide : Bool) (a b : Stage K) (texts : Texts) (rs : List Request) (p room n k : ℕ) (cs bytes : List ℕ) (Has : Tree → Type 0) → TextBegun a b rs p room bytes → p < 2 ^ 32 → n < 2 ^ 32 → p % text_align texts.encoding ≡ 0
+pub text_carried : {K : Type 0} (wide : Bool) (a b : Stage K) (texts : Texts) (rs : List Request) (p room n k : ℕ) (cs bytes : List ℕ) (Has : Tree → Type 0) → TextBegun a b rs p room bytes
+    → p < 2 ^ 32 → n < 2 ^ 32 → p % text_align texts.encoding ≡ 0
     → length bytes ≡ text_bytes texts.encoding n → Spells (text_form texts.encoding n) bytes cs → IsLeastTag texts.encoding n cs → Has (text cs k) → texts.Long n (text cs k)
     → ((t : Tree) → Has t → texts.asks t ≡ rs) → LowersCarried wide a b texts string (p ∷ n ∷ []) 0 Has [] done
 unfolding requests leaves
 text_carried wide a b texts rs p room n k cs bytes Has h narrow_pointer narrow_length aligned len spelled least has long asks =
     let exact : LowersValue wide a b (record texts { asks = λ t. rs; Long = λ j t. texts.Long j (text cs k) }) string (p ∷ n ∷ []) 0 (λ t. t ≡ text cs (text_bytes texts.encoding n)) [] done =
-    text_end wide a b (record texts { asks = λ t. rs; Long = λ j t. texts.Long j (text cs k) }) rs p room n cs bytes (λ t. t ≡ text cs (text_bytes texts.encoding n)) h narrow_pointer narrow_length aligned len spelled least refl long (λ t is. refl) in
+    text_end wide a b (record texts { asks = λ t. rs; Long = λ j t. texts.Long j (text cs k) }) rs p room n cs bytes
+    (λ t. t ≡ text cs (text_bytes texts.encoding n)) h narrow_pointer narrow_length aligned len spelled least refl long (λ t is. refl) in
     let counted : (xs ys : List ℕ) (t : Tree) → IsTextHome (λ u. rs) t p xs ys → IsTextHome texts.asks (text cs k) p xs ys =
     λ xs ys t home. record { earlier = home.earlier; answers = home.answers; count = home.count ∙ ap length (sym (asks (text cs k) has)) } in
     record {
@@ -218,7 +223,8 @@ ended_late h = record {
 }
 
 -- A text whose block is begun is spelled in no way: there is no tree of it.
-pub text_spoiled : {K : Type 0} {hs : List ℕ} (wide : Bool) (a b : Stage K) (texts : Texts) (rs : List Request) (p room : ℕ) (bytes : List ℕ) (Has : Tree → Type 0) (ws : List ℕ) (i : ℕ) → TextBegun a b rs p room bytes → ((t : Tree) → Has t → ⊥)
+pub text_spoiled : {K : Type 0} {hs : List ℕ} (wide : Bool) (a b : Stage K) (texts : Texts) (rs : List Request) (p room : ℕ) (bytes : List ℕ) (Has : Tree → Type 0) (ws : List ℕ) (i : ℕ)
+    → TextBegun a b rs p room bytes → ((t : Tree) → Has t → ⊥)
     → LowersCarried wide a b texts string ws i Has hs refused
 text_spoiled wide a b texts rs p room bytes Has ws i h none = record {
   answers = h.answers;

@@ -53,46 +53,52 @@ carried_words_moved wide a b texts s ws vs i j Has e fits same h = attempt_as wi
 }) h
 
 module _ (wide : Bool) (texts : Texts) (name : Name) (s : Shape) (ms : Members) (i : ℕ) (Has : Tree → Type 0) (Have : Trees → Type 0) (vs : List ℕ) where
-  carried_words_join : Joins (loosened Respelled (value_words wide texts s vs i Has)) (loosened AllRespelled (members_words wide texts ms vs (i + flat s) Have)) (loosened AllRespelled (members_words wide texts (member name s ms) vs i (FirstAnd Has Have))) (λ t ts. tree t ts)
+  carried_words_join : Joins (loosened Respelled (value_words wide texts s vs i Has)) (loosened AllRespelled (members_words wide texts ms vs (i + flat s) Have))
+      (loosened AllRespelled (members_words wide texts (member name s ms) vs i (FirstAnd Has Have))) (λ t ts. tree t ts)
   carried_words_join = loose_joins Respelled AllRespelled AllRespelled _ _ _ _ (words_join wide texts name s ms i Has Have vs) (λ t u ts us k l. (u, us, refl, k, l))
 
   pub words_carried_cons : {K : Type 0} {hs ks : List ℕ} (a b c : Stage K) (ws : List ℕ) (e : Ending) → ((t : Tree) → Has t → Fits s t) → SameWords ws i vs i (flat s) → LowersCarried wide a b texts s ws i Has hs done
       → WordsCarried wide b c texts ms vs (i + flat s) Have ks e → WordsCarried wide a c texts (member name s ms) vs i (FirstAnd Has Have) (hs ++ ks) e
-  words_carried_cons a b c ws e fits same h r = attempt_then wide a b c [] [] [] _ _ _ _ carried_words_join (carried_words_framed wide texts s vs i Has) (carried_members_words_framed wide texts ms vs _ Have) (λ k q. q) (λ k q. q) (λ k q r. q)
+  words_carried_cons a b c ws e fits same h r = attempt_then wide a b c [] [] [] _ _ _ _ carried_words_join (carried_words_framed wide texts s vs i Has)
+      (carried_members_words_framed wide texts ms vs _ Have) (λ k q. q) (λ k q. q) (λ k q r. q)
       (carried_words_moved wide a b texts s ws vs i i Has done fits same h) e r
 
   pub words_carried_stop : {K : Type 0} {hs ks : List ℕ} (a b : Stage K) (ws : List ℕ) (e : Ending) → NotDone e → LowersCarried wide a b texts s ws i Has hs e → WordsCarried wide a b texts (member name s ms) vs i (FirstAnd Has Have) ks e
-  words_carried_stop {hs = hs} a b ws e not h = attempt_stop wide a b b [] [] [] _ _ _ _ carried_words_join (carried_words_framed wide texts s vs i Has) (carried_members_words_framed wide texts ms vs _ Have) (λ k q. q) (λ k q. q) (λ k q r. q) e not
+  words_carried_stop {hs = hs} a b ws e not h = attempt_stop wide a b b [] [] [] _ _ _ _ carried_words_join (carried_words_framed wide texts s vs i Has)
+      (carried_members_words_framed wide texts ms vs _ Have) (λ k q. q) (λ k q. q) (λ k q r. q) e not
       (attempt_other {ks = hs} wide a b [] _ (loosened Respelled (value_words wide texts s vs i Has)) e not (λ t has. (has, refl)) h)
 
 pub product_words_carried : {K : Type 0} {hs : List ℕ} (wide : Bool) (a c : Stage K) (texts : Texts) (k : ProductKind) (ms : Members) (ws : List ℕ) (i : ℕ) (Have : Trees → Type 0) (Has : Tree → Type 0) (e : Ending)
     → ((ts : Trees) → Have ts → Has (parts ts)) → ((t : Tree) → Has t → Have (trees_of t)) → WordsCarried wide a c texts ms ws i Have hs e → LowersCarried wide a c texts (product k ms) ws i Has hs e
 unfolding requests leaves
-product_words_carried wide a c texts k ms ws i Have Has e to from h = attempt_as wide a c [] [] (loosened AllRespelled (members_words wide texts ms ws i Have)) (loosened Respelled (value_words wide texts (product k ms) ws i Has)) e (λ k q. q) (record {
-  turn = λ ts. parts ts;
-  back = λ t. trees_of t;
-  is = to;
-  is_back = from;
-  asks = λ t is. refl;
-  rep = λ fresh ts is (us, same, g). (parts us, (us, refl, same), (us, refl, g));
-  home = λ pointer ts xs ys is g. g;
-  handles = λ ts is. refl;
-}) h
+product_words_carried wide a c texts k ms ws i Have Has e to from h =
+    attempt_as wide a c [] [] (loosened AllRespelled (members_words wide texts ms ws i Have)) (loosened Respelled (value_words wide texts (product k ms) ws i Has)) e (λ k q. q) (record {
+      turn = λ ts. parts ts;
+      back = λ t. trees_of t;
+      is = to;
+      is_back = from;
+      asks = λ t is. refl;
+      rep = λ fresh ts is (us, same, g). (parts us, (us, refl, same), (us, refl, g));
+      home = λ pointer ts xs ys is g. g;
+      handles = λ ts is. refl;
+    }) h
 
 pub fixed_words_carried : {K : Type 0} {hs : List ℕ} (wide : Bool) (a c : Stage K) (texts : Texts) (n : ℕ) (s : Shape) (ws : List ℕ) (i : ℕ) (Have : Trees → Type 0) (Has : Tree → Type 0) (e : Ending)
     → ((ts : Trees) → Have ts → Has (parts ts) × (tree_count ts ≡ n)) → ((t : Tree) → Has t → Have (trees_of t)) → WordsCarried wide a c texts (copies n s) ws i Have hs e
     → LowersCarried wide a c texts (fixed n s) ws i Has hs e
 unfolding requests leaves
-fixed_words_carried wide a c texts n s ws i Have Has e to from h = attempt_as wide a c [] [] (loosened AllRespelled (members_words wide texts (copies n s) ws i Have)) (loosened Respelled (value_words wide texts (fixed n s) ws i Has)) e (λ k q. q) (record {
-  turn = λ ts. parts ts;
-  back = λ t. trees_of t;
-  is = λ ts is. (to ts is).0;
-  is_back = from;
-  asks = λ t is. copies_ask wide texts n s (trees_of t) (to (trees_of t) (from t is)).1;
-  rep = λ fresh ts is (us, same, g). let rows = copies_in_words (InsideBlocks fresh (memory_of c.bytes wide)) true texts.encoding (memory_of c.bytes wide) ws n s i us g in (parts us, (us, refl, same), record { trees = us; is = refl; count = rows.1; each = rows.0 });
-  home = λ pointer ts xs ys is g. copies_flat_home wide texts pointer ws n s i ts xs ys (to ts is).1 g;
-  handles = λ ts is. ap handle_numbers (copies_leaves n s ts (to ts is).1);
-}) h
+fixed_words_carried wide a c texts n s ws i Have Has e to from h =
+    attempt_as wide a c [] [] (loosened AllRespelled (members_words wide texts (copies n s) ws i Have)) (loosened Respelled (value_words wide texts (fixed n s) ws i Has)) e (λ k q. q) (record {
+      turn = λ ts. parts ts;
+      back = λ t. trees_of t;
+      is = λ ts is. (to ts is).0;
+      is_back = from;
+      asks = λ t is. copies_ask wide texts n s (trees_of t) (to (trees_of t) (from t is)).1;
+      rep = λ fresh ts is (us, same, g). let rows = copies_in_words (InsideBlocks fresh (memory_of c.bytes wide)) true texts.encoding (memory_of c.bytes wide) ws n s i us g in
+          (parts us, (us, refl, same), record { trees = us; is = refl; count = rows.1; each = rows.0 });
+      home = λ pointer ts xs ys is g. copies_flat_home wide texts pointer ws n s i ts xs ys (to ts is).1 g;
+      handles = λ ts is. ap handle_numbers (copies_leaves n s ts (to ts is).1);
+    }) h
 
 -- ---- cases
 
@@ -130,7 +136,8 @@ variant_words_carried wide a c texts k cs ws i d Have Has e lt first narrow zero
       handles = λ ts have. case_handles wide texts k cs d ts (to ts have).1;
     }) h
 
-module _ {K : Type 0} (wide : Bool) (texts : Texts) (k : VariantKind) (cs : Cases) (at d : ℕ) (lt : d < case_count cs) (Have : Trees → Type 0) (a b c : Stage K) (w : Attempt wide a b (tag_span wide texts cs at ∷ []) (tag_aim wide texts cs at d) [] done) where
+module _ {K : Type 0} (wide : Bool) (texts : Texts) (k : VariantKind) (cs : Cases) (at d : ℕ) (lt : d < case_count cs) (Have : Trees → Type 0) (a b c : Stage K)
+    (w : Attempt wide a b (tag_span wide texts cs at ∷ []) (tag_aim wide texts cs at d) [] done) where
   abbrev there : ℕ
   there = at + payload_offset wide cs
 
@@ -167,7 +174,8 @@ module _ {K : Type 0} (wide : Bool) (texts : Texts) (k : VariantKind) (cs : Case
         );
         home = λ pointer ts xs ys have h. subst (λ i. CaseHome pointer texts wide cs i there (payload_of (case_tree d ts)) xs ys) (sym (number_of d ts)) (case_home wide texts pointer cs d d there ts xs ys (to ts have).1 h);
         handles = λ ts have. case_handles wide texts k cs d ts (to ts have).1;
-      }) (attempt_then wide a b c (tag_span wide texts cs at ∷ []) (members_span wide (case_members cs d) 0 there ∷ []) whole _ _ _ _ carried_case_join (tag_framed wide texts cs at d) (carried_members_framed wide texts (case_members cs d) 0 there Have)
+      }) (attempt_then wide a b c (tag_span wide texts cs at ∷ []) (members_span wide
+      (case_members cs d) 0 there ∷ []) whole _ _ _ _ carried_case_join (tag_framed wide texts cs at d) (carried_members_framed wide texts (case_members cs d) 0 there Have)
       (within_block _ _ _ _ (omega arith) (omega (arith, tag-le-size wide k cs))) (within_block _ _ _ _ (omega arith) (omega (arith, case_room wide texts k cs d lt)))
       (λ i q r. tag_apart wide texts cs at (members_end wide 0 (case_members cs d)) i q r) w e r)
 
@@ -186,7 +194,8 @@ pub rows_carried : {K : Type 0} {hs : List ℕ} (wide : Bool) (a b c : Stage K) 
 unfolding requests leaves
 rows_carried wide a b c texts k s n p all ms group back row Have Has e small g few alike to from r =
     let span : Within (members_span wide ms 0 p ∷ []) (block p (n * size wide s) ∷ []) = within_block _ _ _ _ (omega arith) (omega (arith, row.room)) in
-    attempt_block wide a b c (items_call wide s n) p (members_span wide ms 0 p ∷ []) (loosened AllRespelled (members_at wide texts ms 0 p Have)) (loosened Respelled (value_words wide texts (list k s) (p ∷ n ∷ []) 0 Has)) e refl small g (carried_members_framed wide texts _ 0 p Have)
+    attempt_block wide a b c (items_call wide s n) p (members_span wide ms 0 p ∷ []) (loosened AllRespelled (members_at wide texts ms 0 p Have))
+    (loosened Respelled (value_words wide texts (list k s) (p ∷ n ∷ []) 0 Has)) e refl small g (carried_members_framed wide texts _ 0 p Have)
     span (record {
       turn = λ ts. items (group ts);
       back = back;
@@ -225,7 +234,8 @@ rows_carried wide a b c texts k s n p all ms group back row Have Has e small g f
 -- ---- a function's parameters
 
 module _ (wide : Bool) (texts : Texts) (ms : Members) (Have Have2 : Trees → Type 0) (to : (ts : Trees) → Have ts → Have2 ts) (from : (ts : Trees) → Have2 ts → Have ts) where
-  pub args_carried_near : {K : Type 0} {hs : List ℕ} (a c : Stage K) (ws : List ℕ) (e : Ending) → members_flat ms ≤ max_params → length ws ≡ members_flat ms → WordsCarried wide a c texts ms ws 0 Have hs e → ArgsCarried wide a c texts ms Have2 ws hs e
+  pub args_carried_near : {K : Type 0} {hs : List ℕ} (a c : Stage K) (ws : List ℕ) (e : Ending) → members_flat ms ≤ max_params → length ws ≡ members_flat ms
+      → WordsCarried wide a c texts ms ws 0 Have hs e → ArgsCarried wide a c texts ms Have2 ws hs e
   args_carried_near a c ws e near count h = attempt_as wide a c [] [] (loosened AllRespelled (members_words wide texts ms ws 0 Have)) (loosened AllRespelled (args_in wide texts ms ws Have2)) e (λ i q. q) (record {
     turn = λ ts. ts;
     back = λ ts. ts;
@@ -242,7 +252,8 @@ module _ (wide : Bool) (texts : Texts) (ms : Members) (Have Have2 : Trees → Ty
   args_carried_far a b c p e far small g r =
       let span : Within (members_span wide ms 0 p ∷ []) (block p (size wide (product of_places ms)) ∷ []) = within_block _ _ _ _ (omega arith) (omega (arith, members_end-le-size wide of_places ms)) in
       let same : ptr (memory_of c.bytes wide) p ≡ p = ptr_same wide c.bytes p (λ nar. g.narrow) in
-      attempt_block wide a b c (args_call wide ms) p (members_span wide ms 0 p ∷ []) (loosened AllRespelled (members_at wide texts ms 0 p Have)) (loosened AllRespelled (args_in wide texts ms (p ∷ []) Have2)) e refl small g (carried_members_framed wide texts ms 0 p Have) span (record {
+      attempt_block wide a b c (args_call wide ms) p (members_span wide ms 0 p ∷ []) (loosened AllRespelled (members_at wide texts ms 0 p Have))
+      (loosened AllRespelled (args_in wide texts ms (p ∷ []) Have2)) e refl small g (carried_members_framed wide texts ms 0 p Have) span (record {
         turn = λ ts. ts;
         back = λ ts. ts;
         is = to;

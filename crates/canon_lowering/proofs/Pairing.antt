@@ -84,7 +84,8 @@ module _ (wide : Bool) (s u : Shape) where
     pub second_begins : begins wide (ends wide o s) u ≡ base + begins wide (ends wide 0 s) u
     second_begins =
         let start : ends wide 0 s ≡ size wide s = omega (arith, first_begins) in
-        ap (λ k. align_to (k + size wide s) (align wide u)) h.first ∙ (align_to-past base (size wide s) (align wide u) (align_pos wide u) (dvd_trans (align wide u) second_divides h.whole) ∙ ap (λ k. base + align_to k (align wide u)) (sym start))
+        ap (λ k. align_to (k + size wide s) (align wide u)) h.first
+        ∙ (align_to-past base (size wide s) (align wide u) (align_pos wide u) (dvd_trans (align wide u) second_divides h.whole) ∙ ap (λ k. base + align_to k (align wide u)) (sym start))
 
     pair_ends : ends wide (ends wide o s) u ≡ base + pair_end
     pair_ends = omega (arith, second_begins)

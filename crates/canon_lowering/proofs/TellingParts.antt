@@ -22,7 +22,8 @@ handed_count (tree u us) ts (t, more, e, k, ks) = ap tree_count e ∙ ap suc (ha
 
 module _ (readable : ℕ → ℕ → Type 0) (strict : Bool) (enc : Encoding) (m : Memory) where
   -- a row of items, as members
-  pub row_members : (n o : ℕ) (s : Shape) (at b : ℕ) (ts : Trees) → align m.wide s ∣ o → at + o ≡ b → tree_count ts ≡ n → EachAt (Stored readable strict enc m s) (size m.wide s) b ts → MembersStored readable strict enc m (copies n s) o at ts
+  pub row_members : (n o : ℕ) (s : Shape) (at b : ℕ) (ts : Trees) → align m.wide s ∣ o → at + o ≡ b → tree_count ts ≡ n → EachAt (Stored readable strict enc m s) (size m.wide s) b ts
+      → MembersStored readable strict enc m (copies n s) o at ts
   row_members zero o s at b no_trees al is e h = refl
   row_members zero o s at b (tree t ts) al is e h = absurd (omega (arith, e))
   row_members (suc n) o s at b no_trees al is e h = absurd (omega (arith, e))
@@ -89,7 +90,8 @@ module _ (enc : Encoding) (m : Memory) where
   HasPayload no_members d t = t ≡ case d
   HasPayload (member name s ms) d t = (u : Tree) × (t ≡ case_of d u)
 
-  pub told_case : (k : VariantKind) (cs : Cases) (a d : ℕ) (ts : Trees) → Inside m a (size m.wide (variant k cs)) → tag_at m a cs ≡ d → d < case_count cs → StandWith enc m (case_members cs d) 0 (a + payload_offset m.wide cs) ts → StandsWith enc m (variant k cs) a (case_tree d ts)
+  pub told_case : (k : VariantKind) (cs : Cases) (a d : ℕ) (ts : Trees) → Inside m a (size m.wide (variant k cs)) → tag_at m a cs ≡ d → d < case_count cs
+      → StandWith enc m (case_members cs d) 0 (a + payload_offset m.wide cs) ts → StandsWith enc m (variant k cs) a (case_tree d ts)
   told_case k cs a d ts room tag lt (us, rs, h) = (
     case_tree d us,
     (room, subst (λ i. CaseStored (Inside m) false enc m cs i i (a + payload_offset m.wide cs) (case_tree d us)) (sym tag) (case_stored (Inside m) false enc m cs d d (a + payload_offset m.wide cs) us lt rs)),

@@ -75,7 +75,8 @@ module _ (enc : Encoding) (m : Memory) (ws : List ℕ) where
     case_handed enc m d us ts h,
   )
 
-  case_parts_in : (cs : Cases) (c d j e : ℕ) (u t : Tree) → CaseFlat (Inside m) false enc m ws cs c d j e u → Handed u t → (case_number t ≡ d) × StandWithIn enc m ws (case_members cs c) j (payload_trees t) × HasPayload enc m (case_members cs c) d t
+  case_parts_in : (cs : Cases) (c d j e : ℕ) (u t : Tree) → CaseFlat (Inside m) false enc m ws cs c d j e u → Handed u t → (case_number t ≡ d)
+      × StandWithIn enc m ws (case_members cs c) j (payload_trees t) × HasPayload enc m (case_members cs c) d t
   case_parts_in no_cases c d j e u t h g = absurd h
   case_parts_in (bare name cs) zero d j e u t (h, least) g = let is : t ≡ case d = subst (λ w. Handed w t) h g in (ap case_number is, (no_trees, refl, ap payload_trees is), is)
   case_parts_in (bare name cs) (suc c) d j e u t h g = case_parts_in cs c d j e u t h g

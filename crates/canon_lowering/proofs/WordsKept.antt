@@ -123,9 +123,12 @@ module _ (wide : Bool) (texts : Texts) (blocks more : List Block) (xs ys : List 
           each_home_along There (Homes (PointsTo (memory_of xs wide)) texts wide s) (Homes (PointsTo (memory_of ys wide)) texts wide s) (λ b u vs us m g. value_homes_kept wide texts blocks more xs ys k s b u vs us m g)
               (size wide s) (slice_index ws i) (trees_of t) zs qs (subst₂ (λ p us. EachAt There (size wide s) p us) narrow (ap trees_of (sym f.is)) f.each) h,
         )
-    flat_homes_kept (fixed n s) i t ps qs f h = each_home_along (Flat (InsideBlocks blocks (memory_of xs wide)) true texts.encoding (memory_of xs wide) ws s) (FlatHomes (PointsTo (memory_of xs wide)) texts wide ws s) (FlatHomes (PointsTo (memory_of ys wide)) texts wide ws s)
-        (λ j u vs us g w. flat_homes_kept s j u vs us g w) (flat s) i (trees_of t) ps qs (subst (λ us. EachAt (Flat (InsideBlocks blocks (memory_of xs wide)) true texts.encoding (memory_of xs wide) ws s) (flat s) i us) (ap trees_of (sym f.is)) f.each) h
-    flat_homes_kept (product k ms) i t ps qs (ts, is, f) h = members_flat_homes_kept ms i (trees_of t) ps qs (subst (λ us. MembersFlat (InsideBlocks blocks (memory_of xs wide)) true texts.encoding (memory_of xs wide) ws ms i us) (ap trees_of (sym is)) f) h
+    flat_homes_kept (fixed n s) i t ps qs f h = each_home_along (Flat (InsideBlocks blocks (memory_of xs wide)) true texts.encoding (memory_of xs wide) ws s)
+        (FlatHomes (PointsTo (memory_of xs wide)) texts wide ws s) (FlatHomes (PointsTo (memory_of ys wide)) texts wide ws s)
+        (λ j u vs us g w. flat_homes_kept s j u vs us g w) (flat s) i (trees_of t) ps qs
+        (subst (λ us. EachAt (Flat (InsideBlocks blocks (memory_of xs wide)) true texts.encoding (memory_of xs wide) ws s) (flat s) i us) (ap trees_of (sym f.is)) f.each) h
+    flat_homes_kept (product k ms) i t ps qs (ts, is, f) h =
+        members_flat_homes_kept ms i (trees_of t) ps qs (subst (λ us. MembersFlat (InsideBlocks blocks (memory_of xs wide)) true texts.encoding (memory_of xs wide) ws ms i us) (ap trees_of (sym is)) f) h
     flat_homes_kept (variant k cs) i t ps qs (f, least) (d, h) = (
       d,
       case_flat_homes_kept cs _ _ (i + 1) _ t (case_number t) (payload_of t) ps qs f (case_flat_is (InsideBlocks blocks (memory_of xs wide)) true texts.encoding (memory_of xs wide) ws cs _ _ _ _ t f) refl h,
@@ -183,7 +186,9 @@ module _ (wide : Bool) (texts : Texts) (blocks more : List Block) (xs ys : List 
         )
     flat_homes_respelled (fixed n s) i t u ps qs same f h = each_home_respelled (InWords s) (FlatHomes (PointsTo (memory_of xs wide)) texts wide ws s) (FlatHomes (PointsTo (memory_of ys wide)) texts wide ws s)
         (λ j v w vs us l m g. flat_homes_respelled s j v w vs us l m g) (flat s) i (trees_of t) (trees_of u) ps qs (respelled_trees t u same) (subst (λ us. EachAt (InWords s) (flat s) i us) (ap trees_of (sym f.is)) f.each) h
-    flat_homes_respelled (product k ms) i t u ps qs same (ts, is, f) h = members_flat_respelled ms i (trees_of t) (trees_of u) ps qs (respelled_trees t u same) (subst (λ us. MembersFlat (InsideBlocks blocks (memory_of xs wide)) true texts.encoding (memory_of xs wide) ws ms i us) (ap trees_of (sym is)) f) h
+    flat_homes_respelled (product k ms) i t u ps qs same (ts, is, f) h =
+        members_flat_respelled ms i (trees_of t) (trees_of u) ps qs (respelled_trees t u same)
+        (subst (λ us. MembersFlat (InsideBlocks blocks (memory_of xs wide)) true texts.encoding (memory_of xs wide) ws ms i us) (ap trees_of (sym is)) f) h
     flat_homes_respelled (variant k cs) i t u ps qs same (f, least) (d, h) = (
       d,
       case_flat_respelled cs _ _ (i + 1) _ u (case_number t) (payload_of t) ps qs f
@@ -202,7 +207,8 @@ module _ (wide : Bool) (texts : Texts) (blocks more : List Block) (xs ys : List 
           members_flat_respelled ms (i + flat s) ts other zs qs ls (subst (λ vs. MembersFlat (InsideBlocks blocks (memory_of xs wide)) true texts.encoding (memory_of xs wide) ws ms (i + flat s) vs) (other_trees v u other rest both) fs) hs,
         )
 
-    case_flat_respelled : (cs : Cases) (c d j e : ℕ) (u : Tree) (n : ℕ) (v : Tree) (ps qs : List ℕ) → CaseFlat (InsideBlocks blocks (memory_of xs wide)) true texts.encoding (memory_of xs wide) ws cs c d j e u → n ≡ c → Respelled v (payload_of u)
+    case_flat_respelled : (cs : Cases) (c d j e : ℕ) (u : Tree) (n : ℕ) (v : Tree) (ps qs : List ℕ)
+        → CaseFlat (InsideBlocks blocks (memory_of xs wide)) true texts.encoding (memory_of xs wide) ws cs c d j e u → n ≡ c → Respelled v (payload_of u)
         → CaseFlatHome (PointsTo (memory_of xs wide)) texts wide ws cs n j e v ps qs → CaseFlatHome (PointsTo (memory_of ys wide)) texts wide ws cs n j e v ps qs
     case_flat_respelled no_cases c d j e u n v ps qs f is same h = absurd f
     case_flat_respelled (bare name cs) c d j e u zero v ps qs f is same h = h

@@ -328,7 +328,8 @@ module _ (w : Bool) (live : List Block) (before after : List ℕ) (o os al ns an
       let h4 : IsTrue l ↔ LawHolds live before after (call o os al ns) answer = (λ e. both.0 (h3.0 e), λ e. h3.1 (both.1 e)) in
       let g1 : IsTrue t → IsTrue w × IsTidy before after (block answer ns) =
       λ e. ((g e).0, subst (λ (xs : List ℕ). IsTidy xs after (block answer ns)) (whole_shot before shot is.0 is.1 (is.4 (g e).0)) (subst (λ (b : Block). IsTidy shot after b) en (g e).1)) in
-      let k1 : IsTrue w → IsTidy before after (block answer ns) → IsTrue t = λ e tidy. k e (subst (λ (b : Block). IsTidy shot after b) (sym en) (subst (λ (xs : List ℕ). IsTidy xs after (block answer ns)) (sym (whole_shot before shot is.0 is.1 (is.4 e))) tidy)) in
+      let k1 : IsTrue w → IsTidy before after (block answer ns) → IsTrue t =
+      λ e tidy. k e (subst (λ (b : Block). IsTidy shot after b) (sym en) (subst (λ (xs : List ℕ). IsTidy xs after (block answer ns)) (sym (whole_shot before shot is.0 is.1 (is.4 e))) tidy)) in
       let l1 : live2 ≡ relisted live (call o os al ns) answer = el ∙ ap₂ (λ (x y : Block). other_blocks live x ++ unless_empty y) eo en in
       subst (λ (ys : List Block). IsExactMark w live ys before after (call o os al ns) answer (record { lawful = l; tidy = t })) (sym l1) (exact longer h4 g1 k1)
 

@@ -107,7 +107,8 @@ module _ (t : TypeTable) where
 module _ (t : TypeTable) (i : ℕ) (cases : List (String Global × Option InterfaceType)) (defined : IsDefined t (ty.Variant i) (cases_type cases)) where
   pub variant_has : (names : List Name) → names_of (map (λ c. c.0) cases) ≡ names → HasCases names t (ty.Variant i) (map (λ c. c.1) cases)
   variant_has names e = subst (λ (ns : List Name). HasCases ns t (ty.Variant i) (map (λ c. c.1) cases)) (sym (map-map (λ (n : String Global). string_bytes n) (λ (c : String Global × Option InterfaceType). c.0) cases) ∙ e) (
-    subst (λ (cs : List (Name × Option InterfaceType)). IsDefined t (ty.Variant i) (VariantType cs)) (sym (zip-maps (λ (c : String Global × Option InterfaceType). string_bytes c.0) (λ (c : String Global × Option InterfaceType). c.1) cases)) defined,
+    subst (λ (cs : List (Name × Option InterfaceType)). IsDefined t (ty.Variant i) (VariantType cs))
+        (sym (zip-maps (λ (c : String Global × Option InterfaceType). string_bytes c.0) (λ (c : String Global × Option InterfaceType). c.1) cases)) defined,
     maps_long (λ (c : String Global × Option InterfaceType). string_bytes c.0) (λ (c : String Global × Option InterfaceType). c.1) cases,
   )
 

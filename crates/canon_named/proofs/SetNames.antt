@@ -54,13 +54,15 @@ named_more names k d l = ap (map (λ n. string_bytes n)) (take_more names k d l)
 named_length : (names : List (String Global)) (k : ℕ) → k < length names → length (named_before names k) ≡ k
 named_length names k l = length-map (take k names) (λ n. string_bytes n) ∙ length-take-le k names (omega arith)
 
-chosen_more : (b : Bool) (words : List ℕ) (names : List (String Global)) (k : ℕ) (d : String Global) → k < length names → is_set words k ≡ b → set_names words (named_before names (k + 1)) ≡ set_names words (named_before names k) ++ one_if b (string_bytes (get_or names k d))
+chosen_more : (b : Bool) (words : List ℕ) (names : List (String Global)) (k : ℕ) (d : String Global) → k < length names → is_set words k ≡ b
+    → set_names words (named_before names (k + 1)) ≡ set_names words (named_before names k) ++ one_if b (string_bytes (get_or names k d))
 chosen_more b words names k d l e =
     ap (set_names words) (named_more names k d l)
     ∙ set_more b words (named_before names k) (string_bytes (get_or names k d)) (subst (λ m. is_set words m ≡ b) (sym (named_length names k l)) e)
 
 -- a name whose flag is set
-pub set_step : (words : List ℕ) (names : List (String Global)) (k : ℕ) (x : String Global) → k < length names → is_set words k ≡ true → x ≡ get_or names k x → set_names words (named_before names (k + 1)) ≡ set_names words (named_before names k) ++ string_bytes x ∷ []
+pub set_step : (words : List ℕ) (names : List (String Global)) (k : ℕ) (x : String Global) → k < length names → is_set words k ≡ true → x ≡ get_or names k x
+    → set_names words (named_before names (k + 1)) ≡ set_names words (named_before names k) ++ string_bytes x ∷ []
 set_step words names k x l e is = chosen_more true words names k x l e ∙ ap (λ (y : String Global). set_names words (named_before names k) ++ string_bytes y ∷ []) (sym is)
 
 -- and one whose flag isn't

@@ -76,7 +76,8 @@ module _ {Z : Type 0} (t : TypeTable) (j : ℕ) (entries : List (String Z × Opt
   pub plan_variant_told : (tag : ℕ) (name : String Z) (o : Option InterfaceType) (c : CaseSlots) → slice_get entries tag ≡ Some (name, o) → IsPayload o c.payload → c.name_length ≡ length (string_bytes name)
       → IsCaseSlots t (shape_of t (ty.Variant j)) tag c
   plan_variant_told tag name o c e p n =
-      let here : slice_get named tag ≡ Some (string_bytes name, o) = slice_get-map (λ (x : String Z × Option InterfaceType). (string_bytes x.0, x.1)) entries tag ∙ ap (option_map (λ (x : String Z × Option InterfaceType). (string_bytes x.0, x.1))) e in
+      let here : slice_get named tag ≡ Some (string_bytes name, o) = slice_get-map (λ (x : String Z × Option InterfaceType). (string_bytes x.0, x.1)) entries tag
+      ∙ ap (option_map (λ (x : String Z × Option InterfaceType). (string_bytes x.0, x.1))) e in
       let is = case_at t named tag (string_bytes name, o) here in
       subst (λ (s : Shape). IsCaseSlots t s tag c) (sym defined.shape) (record {
         there = is.there;
@@ -128,7 +129,8 @@ none_told t j some tag c defined e p n =
     subst (λ (i : ℕ). IsCaseSlots t (shape_of t (ty.Option j)) i c) (sym e) (subst (λ (s : Shape). IsCaseSlots t s 0 c) (sym defined.shape)
     (record { there = omega arith; known = subst (AreKnown t) (sym p) tt; shapes = ap (shapes_of t) p; charge = n }))
 
-pub some_told : (t : TypeTable) (j : ℕ) (some : InterfaceType) (tag : ℕ) (c : CaseSlots) → IsDefined t (ty.Option j) (OptionType some) → tag ≡ 1 → c.payload ≡ slots.Single some → c.name_length ≡ 0 → IsCaseSlots t (shape_of t (ty.Option j)) tag c
+pub some_told : (t : TypeTable) (j : ℕ) (some : InterfaceType) (tag : ℕ) (c : CaseSlots) → IsDefined t (ty.Option j) (OptionType some) → tag ≡ 1 → c.payload ≡ slots.Single some → c.name_length ≡ 0
+    → IsCaseSlots t (shape_of t (ty.Option j)) tag c
 some_told t j some tag c defined e p n =
     subst (λ (i : ℕ). IsCaseSlots t (shape_of t (ty.Option j)) i c) (sym e) (subst (λ (s : Shape). IsCaseSlots t s 1 c) (sym defined.shape)
     (record { there = omega arith; known = subst (AreKnown t) (sym p) (defined.known 0 some (omega arith)); shapes = ap (shapes_of t) p; charge = n }))

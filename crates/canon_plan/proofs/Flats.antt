@@ -266,7 +266,8 @@ payloads_of : (entries : List (String Global × Option InterfaceType)) → map (
 payloads_of [] = refl
 payloads_of (c ∷ entries) = ap (λ ps. c.1 ∷ ps) (payloads_of entries)
 
-pub variant_made : (t : TypeTable) (type : InterfaceType) (i : ℕ) (entries : List (String Global × Option InterfaceType)) (ps : List (Option InterfaceType)) → type ≡ ty.Variant i → IsDefined t (ty.Variant i) (cases_type entries) → ps ≡ values_of entries
+pub variant_made : (t : TypeTable) (type : InterfaceType) (i : ℕ) (entries : List (String Global × Option InterfaceType)) (ps : List (Option InterfaceType)) → type ≡ ty.Variant i
+    → IsDefined t (ty.Variant i) (cases_type entries) → ps ≡ values_of entries
     → IsMadeOf t type ps
 unfolding flat
 variant_made t type i entries ps is h same =

@@ -13,7 +13,8 @@ no_length t [] = refl
 no_length t (type ∷ types) = omega (arith, no_length t types)
 
 -- of the kinds that are rebuilt a list is left
-pub list_left : (type : InterfaceType) (s : Shape) → IsKind type s → ((i : ℕ) → type ≡ ty.Record i → ⊥) → ((i : ℕ) → type ≡ ty.Tuple i → ⊥) → ((i : ℕ) → type ≡ ty.FixedLengthList i → ⊥) → ((i : ℕ) → type ≡ ty.Map i → ⊥) → s ≡ list of_items (element_shape s)
+pub list_left : (type : InterfaceType) (s : Shape) → IsKind type s → ((i : ℕ) → type ≡ ty.Record i → ⊥) → ((i : ℕ) → type ≡ ty.Tuple i → ⊥) → ((i : ℕ) → type ≡ ty.FixedLengthList i → ⊥)
+    → ((i : ℕ) → type ≡ ty.Map i → ⊥) → s ≡ list of_items (element_shape s)
 list_left (ty.List i) s h no_record no_tuple no_fixed no_map = h
 list_left (ty.Record i) s h no_record no_tuple no_fixed no_map = absurd (no_record i refl)
 list_left (ty.Tuple i) s h no_record no_tuple no_fixed no_map = absurd (no_tuple i refl)

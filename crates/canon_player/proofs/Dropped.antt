@@ -39,7 +39,8 @@ no_marks before new after e f =
     nil_from_length new (omega (arith, counted))
 
 -- what became of a handle, by what the drop says
-removed_by : (x : GivenIndex) (s left : ScriptStore) (d : Result (Unit {0}) Error) → IsOtherItem d → DropAnswers journaled x s left d → OnOk d (LeavesMemory LeavesSame (destructor_at s.core.ledger x) s.core.memory left.core.memory) → Removed x (state_of s) (state_of left) d
+removed_by : (x : GivenIndex) (s left : ScriptStore) (d : Result (Unit {0}) Error) → IsOtherItem d → DropAnswers journaled x s left d
+    → OnOk d (LeavesMemory LeavesSame (destructor_at s.core.ledger x) s.core.memory left.core.memory) → Removed x (state_of s) (state_of left) d
 removed_by x s left (Ok u) n h memory = (h, left_same s.core.ledger x s.core.memory left.core.memory memory)
 removed_by x s left (Err (error.Fault fault.GuestTrap)) n h memory = h.0
 removed_by x s left (Err (error.Fault fault.OutOfMemory)) n h memory = absurd (n refl)

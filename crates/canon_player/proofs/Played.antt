@@ -103,7 +103,8 @@ side_of s = host_side s.core (Some (entries_of s.imports.lines.items)) s.imports
 -- ---- the blocks that lived
 
 -- a call whose guest's way is said otherwise
-lives_as : {T R : Type 0} (args : Arguments) (its : ReturnedValues R) (P Q : List Leg → List Event → Type 0) (Leaves : List ℕ → List ℕ → Type 0) (gives : Giving T) (callee : Callee) (limits : Limits) (before after : Moment) (host left : HostSide T)
+lives_as : {T R : Type 0} (args : Arguments) (its : ReturnedValues R) (P Q : List Leg → List Event → Type 0) (Leaves : List ℕ → List ℕ → Type 0) (gives : Giving T) (callee : Callee) (limits : Limits)
+    (before after : Moment) (host left : HostSide T)
     (called : Result R Error) (events : List Event) → ((legs : List Leg) (es : List Event) → P legs es → Q legs es) → IsCallOf args its P Leaves gives callee limits before after host left called events
     → IsCallOf args its Q Leaves gives callee limits before after host left called events
 lives_as args its P Q Leaves gives callee limits before after host left called events f h = record {

@@ -220,7 +220,8 @@ pub record WasItemCalled {R : Type 0} (args : Arguments) (its : ReturnedValues R
   pub ended : Result R Error
   pub told : Tells Told ended r.answer
   pub left : Plan
-  pub called : IsCallOf args its (LivesBy (guest_in (plan before.allocator) (narrow before.memory)) (guest_in left (narrow after.memory))) LeavesSame (GivesAnswers answers) callee limits (moment_with_events before []) (moment_with_events after r.events) (host_side_of before) (host_side_of after) ended r.events
+  pub called : IsCallOf args its (LivesBy (guest_in (plan before.allocator) (narrow before.memory)) (guest_in left (narrow after.memory))) LeavesSame (GivesAnswers answers) callee limits
+      (moment_with_events before []) (moment_with_events after r.events) (host_side_of before) (host_side_of after) ended r.events
   pub served : Logs before.log after.log r.served.items
   pub new_marks : List Mark
   pub does : CarriesOut (plan before.allocator) (length before.memory) r.events new_marks left (length after.memory)

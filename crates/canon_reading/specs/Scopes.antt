@@ -155,7 +155,8 @@ pub end_kept : {A : Type 0} → AreKept [] (none_reading {A = A})
 end_kept = record { kept = λ w at types f none. none_kept }
 
 more_keeps : {A B C : Type 0} (first : C → A) (others_of : C → B) (Fit : Instance → InterfaceType → Type 0) (R : Reading A) (rest : List (Instance → InterfaceType → Type 0)) (S : RestReading B) → IsKept Fit R → AreKept rest S
-    → (w : Setting) (at : Rest) (types : List InterfaceType) → AreOf (Fit ∷ rest) w.types types → member_borrows (members_of w.types.types types) ≡ false → AllKeep ((first_reading first others_of R S).steps w at (members_of w.types.types types))
+    → (w : Setting) (at : Rest) (types : List InterfaceType) → AreOf (Fit ∷ rest) w.types types → member_borrows (members_of w.types.types types) ≡ false
+    → AllKeep ((first_reading first others_of R S).steps w at (members_of w.types.types types))
 more_keeps first others_of Fit R rest S law more w at [] f none = absurd f
 more_keeps first others_of Fit R rest S law more w at (type ∷ types) (f, fs) none =
     let t = w.types.types in

@@ -93,7 +93,8 @@ module _ (exports imports : Functions) where
 
 -- ---- an image that is none
 
-pub bad_image : (s : Shape) (bs : List ℕ) (from to at : ℕ) (ys : List ℕ) (e : ImageError) → HasNoHandle s → IsOnlyReading s ys (Err e) → ReadsFormat byte_list bs from to (Ok ys) → ReadsFormat (value true s) bs from at (Err (told_as (to - length ys) e))
+pub bad_image : (s : Shape) (bs : List ℕ) (from to at : ℕ) (ys : List ℕ) (e : ImageError) → HasNoHandle s → IsOnlyReading s ys (Err e) → ReadsFormat byte_list bs from to (Ok ys)
+    → ReadsFormat (value true s) bs from at (Err (told_as (to - length ys) e))
 bad_image s bs from to at ys image.OutOfMemory free only h = tt
 bad_image s bs from to at ys image.Resource free only h = block_bad (SpellsValue true s) bs from to at ys (λ v spelled. let (t, lifted, is) = spelled in only (Ok v) (free, (t, is, lifted))) h
 bad_image s bs from to at ys (image.NotOfType f) free only h = block_bad (SpellsValue true s) bs from to at ys (λ v spelled. let (t, lifted, is) = spelled in only (Ok v) (free, (t, is, lifted))) h

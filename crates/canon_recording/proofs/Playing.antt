@@ -17,7 +17,8 @@ none_so_far c calls = record { rest = λ h. h; later = λ j h. subst (IsNoRunAt 
     omega_zero : (j : ℕ) → j ≡ 0 + j
     omega_zero j = omega arith
 
-pub recorded_one_more : (c : Component) (calls : List RecordedCall) (k len : ℕ) (call : RecordedCall) → drop k calls ≡ call ∷ drop (k + 1) calls → IsRunFrom c len call → AreSoFar c calls k len → AreSoFar c calls (k + 1) (last_len len call.events)
+pub recorded_one_more : (c : Component) (calls : List RecordedCall) (k len : ℕ) (call : RecordedCall) → drop k calls ≡ call ∷ drop (k + 1) calls → IsRunFrom c len call → AreSoFar c calls k len
+    → AreSoFar c calls (k + 1) (last_len len call.events)
 recorded_one_more c calls k len call e run s = record {
   rest = λ h. s.rest (subst (AreRuns c len) (sym e) (run, h));
   later = λ j h. subst (IsNoRunAt c 0 calls) (next j) (s.later (suc j) (subst (λ l. IsNoRunAt c len l (suc j)) (sym e) (run, h)));

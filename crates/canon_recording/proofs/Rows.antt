@@ -43,7 +43,8 @@ map_more f (x ∷ xs) a = ap (λ l. f x ∷ l) (map_more f xs a)
 module _ {I A : Type 0} (F : I → Format A) (sound : (i : I) → IsFormat (F i)) (is : List I) (things : List A) (old : List ℕ) where
   pub some_added : (now new : List ℕ) (n : ℕ) (i : I) (a : A) → n < length is → length things ≡ length is → slice_index_or is n i ≡ i → slice_index_or things n a ≡ a
       → IsAdded (for_each F (take n is)) (take n things) old now → WritesFormat (F i) a now new (Ok tt) → IsAdded (for_each F (take (n + 1) is)) (take (n + 1) things) old new
-  some_added now new n i a more same ie ae r h = subst₂ (λ js xs. IsAdded (for_each F js) xs old new) (take_next is n i more ie) (take_next things n a (omega (arith, more, same)) ae) (each_added F sound old now new (take n is) i (take n things) a r h)
+  some_added now new n i a more same ie ae r h = subst₂ (λ js xs. IsAdded (for_each F js) xs old new) (take_next is n i more ie) (take_next things n a (omega (arith, more, same)) ae)
+      (each_added F sound old now new (take n is) i (take n things) a r h)
 
   pub some_long : (now new end : List ℕ) (n : ℕ) (i : I) (a : A) (e : ReplayError) → n < length is → length things ≡ length is → slice_index_or is n i ≡ i → slice_index_or things n a ≡ a
       → IsAdded (for_each F (take n is)) (take n things) old now → WritesFormat (F i) a now new (Err e) → WritesFormat (for_each F is) things old end (Err e)
@@ -56,15 +57,19 @@ module _ {I A : Type 0} (F : I → Format A) (sound : (i : I) → IsFormat (F i)
 -- ---- so many in a row, as they are seen
 
 module _ {X A : Type 0} (f : X → A) (F : Format A) where
-  pub seen_go_on : (bs : List ℕ) (from mid to n : ℕ) (xs ys : List X) (x : X) → ys ≡ xs ++ x ∷ [] → IsReadSoFar (in_a_row F n) bs from mid (map f xs) → ReadsFormat F bs mid to (Ok (f x)) → IsReadSoFar (in_a_row F (n + 1)) bs from to (map f ys)
+  pub seen_go_on : (bs : List ℕ) (from mid to n : ℕ) (xs ys : List X) (x : X) → ys ≡ xs ++ x ∷ [] → IsReadSoFar (in_a_row F n) bs from mid (map f xs) → ReadsFormat F bs mid to (Ok (f x))
+      → IsReadSoFar (in_a_row F (n + 1)) bs from to (map f ys)
   seen_go_on bs from mid to n xs ys x e r h = subst (IsReadSoFar (in_a_row F (n + 1)) bs from to) (sym (ap (map f) e ∙ map_more f xs x)) (recording_row_go_on F bs from mid to n (map f xs) (f x) r h)
 
   module _ (sound : IsFormat F) (xs : List X) (old : List ℕ) where
-    pub seen_added : (now new : List ℕ) (n : ℕ) (x : X) → n < length xs → slice_index_or xs n x ≡ x → IsAdded (in_a_row F n) (take n (map f xs)) old now → WritesFormat F (f x) now new (Ok tt) → IsAdded (in_a_row F (n + 1)) (take (n + 1) (map f xs)) old new
+    pub seen_added : (now new : List ℕ) (n : ℕ) (x : X) → n < length xs → slice_index_or xs n x ≡ x → IsAdded (in_a_row F n) (take n (map f xs)) old now → WritesFormat F (f x) now new (Ok tt)
+        → IsAdded (in_a_row F (n + 1)) (take (n + 1) (map f xs)) old new
     seen_added now new n x more e r h = row_added F sound (map f xs) old now new n (f x) (omega (arith, more, map_length f xs)) (map_at f xs n x more e) r h
 
-    pub seen_long : (now new end : List ℕ) (n : ℕ) (x : X) (err : ReplayError) → n < length xs → slice_index_or xs n x ≡ x → IsAdded (in_a_row F n) (take n (map f xs)) old now → WritesFormat F (f x) now new (Err err) → WritesFormat (in_a_row F (length xs)) (map f xs) old end (Err err)
-    seen_long now new end n x err more e r h = subst (λ k. WritesFormat (in_a_row F k) (map f xs) old end (Err err)) (map_length f xs) (row_long F sound (map f xs) old now new end n (f x) err (omega (arith, more, map_length f xs)) (map_at f xs n x more e) r h)
+    pub seen_long : (now new end : List ℕ) (n : ℕ) (x : X) (err : ReplayError) → n < length xs → slice_index_or xs n x ≡ x → IsAdded (in_a_row F n) (take n (map f xs)) old now
+        → WritesFormat F (f x) now new (Err err) → WritesFormat (in_a_row F (length xs)) (map f xs) old end (Err err)
+    seen_long now new end n x err more e r h = subst (λ k. WritesFormat (in_a_row F k) (map f xs) old end (Err err)) (map_length f xs)
+        (row_long F sound (map f xs) old now new end n (f x) err (omega (arith, more, map_length f xs)) (map_at f xs n x more e) r h)
 
     pub seen_all : (now : List ℕ) (n : ℕ) → n ≡ length xs → IsAdded (in_a_row F n) (take n (map f xs)) old now → WritesFormat (in_a_row F (length xs)) (map f xs) old now (Ok tt)
     seen_all now n e r = subst (λ k. WritesFormat (in_a_row F k) (map f xs) old now (Ok tt)) (map_length f xs) (row_all F sound (map f xs) old now n (e ∙ sym (map_length f xs)) r)

@@ -46,7 +46,8 @@ module _ (lifted : Bool) where
         (λ n m s xs ys h k. sym (ask_number n s xs h) ∙ ask_number m s ys k)
 
     done_sound : IsFormat (what_was_done lifted exports imports)
-    done_sound = also_sound (counted_row 4 (an_event imports.count)) (counted_row 4 (an_ask lifted exports imports)) (counted_sound (an_event imports.count) 4 (event_sound imports.count)) (counted_sound (an_ask lifted exports imports) 4 an_ask_sound)
+    done_sound = also_sound (counted_row 4 (an_event imports.count)) (counted_row 4 (an_ask lifted exports imports)) (counted_sound (an_event imports.count) 4 (event_sound imports.count))
+        (counted_sound (an_ask lifted exports imports) 4 an_ask_sound)
 
     call_body_sound : (n : ℕ) → IsFormat (also (passed_values lifted exports n) (what_was_done lifted exports imports))
     call_body_sound n = also_sound (passed_values lifted exports n) (what_was_done lifted exports imports) (passed_sound exports n) done_sound

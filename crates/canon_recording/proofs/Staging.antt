@@ -56,7 +56,8 @@ module _ (func : ℕ) (post : Option ℕ) where
   realloc_before : (returned : List ℕ) (o os align ns answer : ℕ) (events : List Event) → IsOneRun func post (event.Realloc o os align ns answer ∷ events) → IsOneRun func post events
   realloc_before returned o os align ns answer events h = drop_first (run_first (event.Realloc o os align ns answer) events h)
     where
-      drop_first : (IsRealloc (event.Realloc o os align ns answer) × IsOneRun func post events) ⊎ ((words memory : List ℕ) × (event.Realloc o os align ns answer ≡ event.Start func words memory) × RunsOn post events) → IsOneRun func post events
+      drop_first : (IsRealloc (event.Realloc o os align ns answer) × IsOneRun func post events) ⊎ ((words memory : List ℕ) × (event.Realloc o os align ns answer ≡ event.Start func words memory)
+          × RunsOn post events) → IsOneRun func post events
       drop_first (inl (r, rest)) = rest
       drop_first (inr (words, memory, is, rest)) = absurd (realloc_no_start is)
         where
@@ -189,7 +190,8 @@ module _ (post : Option ℕ) where
     ask_runs : (index : ℕ) (words memory : List ℕ) (events : List Event) → RunsOn post (event.Ask index words memory ∷ events) → IsServedOn post events
     ask_runs index words memory events h = drop_first (runs_first (event.Ask index words memory) events h)
       where
-        drop_first : ((i : ℕ) × (ws m : List ℕ) × (event.Ask index words memory ≡ event.Ask i ws m) × IsServedOn post events) ⊎ ((ws m : List ℕ) × (event.Ask index words memory ≡ event.Return ws m) × (events ≡ posts post ws)) → IsServedOn post events
+        drop_first : ((i : ℕ) × (ws m : List ℕ) × (event.Ask index words memory ≡ event.Ask i ws m) × IsServedOn post events) ⊎ ((ws m : List ℕ) × (event.Ask index words memory ≡ event.Return ws m)
+            × (events ≡ posts post ws)) → IsServedOn post events
         drop_first (inl (i, ws, m, is, rest)) = rest
         drop_first (inr (ws, m, is, rest)) = absurd (differ ws m is)
           where
@@ -199,7 +201,8 @@ module _ (post : Option ℕ) where
     return_runs : (words memory : List ℕ) (events : List Event) → RunsOn post (event.Return words memory ∷ events) → events ≡ posts post words
     return_runs words memory events h = drop_first (runs_first (event.Return words memory) events h)
       where
-        drop_first : ((i : ℕ) × (ws m : List ℕ) × (event.Return words memory ≡ event.Ask i ws m) × IsServedOn post events) ⊎ ((ws m : List ℕ) × (event.Return words memory ≡ event.Return ws m) × (events ≡ posts post ws)) → events ≡ posts post words
+        drop_first : ((i : ℕ) × (ws m : List ℕ) × (event.Return words memory ≡ event.Ask i ws m) × IsServedOn post events) ⊎ ((ws m : List ℕ) × (event.Return words memory ≡ event.Return ws m)
+            × (events ≡ posts post ws)) → events ≡ posts post words
         drop_first (inl (i, ws, m, is, rest)) = absurd (differ i ws m is)
           where
             differ : (i : ℕ) (ws m : List ℕ) → ¬ (event.Return words memory ≡ event.Ask i ws m)
@@ -229,7 +232,8 @@ module _ (post : Option ℕ) where
     realloc_asks : (o os align ns answer : ℕ) (events : List Event) → IsServedOn post (event.Realloc o os align ns answer ∷ events) → IsServedOn post events
     realloc_asks o os align ns answer events h = drop_first (served_first (event.Realloc o os align ns answer) events h)
       where
-        drop_first : ((c : Call) × (a : ℕ) × (event.Realloc o os align ns answer ≡ event.Realloc c.old c.old_size c.align c.new_size a) × IsServedOn post events) ⊎ ((ws m : List ℕ) × (event.Realloc o os align ns answer ≡ event.Resume ws m) × RunsOn post events) → IsServedOn post events
+        drop_first : ((c : Call) × (a : ℕ) × (event.Realloc o os align ns answer ≡ event.Realloc c.old c.old_size c.align c.new_size a) × IsServedOn post events) ⊎
+            ((ws m : List ℕ) × (event.Realloc o os align ns answer ≡ event.Resume ws m) × RunsOn post events) → IsServedOn post events
         drop_first (inl (c, a, is, rest)) = rest
         drop_first (inr (ws, m, is, rest)) = absurd (differ ws m is)
           where
@@ -239,7 +243,8 @@ module _ (post : Option ℕ) where
     resume_asks : (words memory : List ℕ) (events : List Event) → IsServedOn post (event.Resume words memory ∷ events) → RunsOn post events
     resume_asks words memory events h = drop_first (served_first (event.Resume words memory) events h)
       where
-        drop_first : ((c : Call) × (a : ℕ) × (event.Resume words memory ≡ event.Realloc c.old c.old_size c.align c.new_size a) × IsServedOn post events) ⊎ ((ws m : List ℕ) × (event.Resume words memory ≡ event.Resume ws m) × RunsOn post events) → RunsOn post events
+        drop_first : ((c : Call) × (a : ℕ) × (event.Resume words memory ≡ event.Realloc c.old c.old_size c.align c.new_size a) × IsServedOn post events) ⊎
+            ((ws m : List ℕ) × (event.Resume words memory ≡ event.Resume ws m) × RunsOn post events) → RunsOn post events
         drop_first (inl (c, a, is, rest)) = absurd (differ c a is)
           where
             differ : (c : Call) (a : ℕ) → ¬ (event.Resume words memory ≡ event.Realloc c.old c.old_size c.align c.new_size a)

@@ -29,7 +29,8 @@ module _ (exports imports : Functions) where
   call_number n c xs (x, e, h) = ap (λ (c : RecordedCall). c.export) e
 
   pub an_ask_sound : IsFormat (an_ask false exports imports)
-  an_ask_sound = then_sound 4 (λ n. n < imports.count) (λ n. as_ (served_ask_of false n) (passed_values false imports n)) (λ n h. as_sound (served_ask_of false n) (passed_values false imports n) (passed_sound imports n) (recorded_ask_one n))
+  an_ask_sound = then_sound 4 (λ n. n < imports.count) (λ n. as_ (served_ask_of false n) (passed_values false imports n))
+      (λ n h. as_sound (served_ask_of false n) (passed_values false imports n) (passed_sound imports n) (recorded_ask_one n))
       (λ n m s xs ys h k. sym (ask_number n s xs h) ∙ ask_number m s ys k)
 
   pub recorded_events_sound : IsFormat (counted_row 4 (an_event imports.count))

@@ -191,10 +191,12 @@ module _ {I A : Type 0} (F : I → Format A) where
   pub each_begin : (bs : List ℕ) (at : ℕ) → at ≤ length bs → IsReadSoFar (for_each F []) bs at at []
   each_begin bs at h = record { xs = []; span = no_span bs at h; are = (refl, refl) }
 
-  pub each_go_on : (bs : List ℕ) (from mid to : ℕ) (is : List I) (i : I) (things : List A) (a : A) → IsReadSoFar (for_each F is) bs from mid things → ReadsFormat (F i) bs mid to (Ok a) → IsReadSoFar (for_each F (is ++ i ∷ [])) bs from to (things ++ a ∷ [])
+  pub each_go_on : (bs : List ℕ) (from mid to : ℕ) (is : List I) (i : I) (things : List A) (a : A) → IsReadSoFar (for_each F is) bs from mid things → ReadsFormat (F i) bs mid to (Ok a)
+      → IsReadSoFar (for_each F (is ++ i ∷ [])) bs from to (things ++ a ∷ [])
   each_go_on bs from mid to is i things a r (ys, s, h) = record { xs = r.xs ++ ys; span = span_then bs from mid to r.xs ys r.span s; are = each_more is i things a r.xs ys r.are h }
 
-  pub each_stop : (bs : List ℕ) (from mid to at : ℕ) (is : List I) (i : I) (rest : List I) (things : List A) (e : ReplayError) → IsReadSoFar (for_each F is) bs from mid things → ReadsFormat (F i) bs mid to (Err e) → ReadsFormat (for_each F (is ++ i ∷ rest)) bs from at (Err e)
+  pub each_stop : (bs : List ℕ) (from mid to at : ℕ) (is : List I) (i : I) (rest : List I) (things : List A) (e : ReplayError) → IsReadSoFar (for_each F is) bs from mid things
+      → ReadsFormat (F i) bs mid to (Err e) → ReadsFormat (for_each F (is ++ i ∷ rest)) bs from at (Err e)
   each_stop bs from mid to at is i rest things e r h = stops_along (F i) (for_each F (is ++ i ∷ rest)) bs from mid to at e
       (λ j p e s. (length r.xs + j, omega (arith, e, r.span.to_is), each_stops is i rest things (drop from bs) r.xs (drop mid bs) j r.span.is r.are s)) h
 

@@ -27,17 +27,21 @@ module _ (imports : ℕ) (e : Event) where
       (number_known 4 (λ n. n < imports) words_and_memory index (ws, memory) old new result known
       (subst (λ x. WritesFormat (also (any_number 4) words_and_memory) (index, x) old new result) (ap₂ (λ a b. (a, b)) ve me) h)))
 
-  pub resume_written : (ws memory vs m old new : List ℕ) (result : Result (Unit {0}) ReplayError) → e ≡ event.Resume ws memory → vs ≡ ws → m ≡ memory → WritesFormat words_and_memory (vs, m) old new result → WritesFormat (tagged imports (tag_of e)) e old new result
+  pub resume_written : (ws memory vs m old new : List ℕ) (result : Result (Unit {0}) ReplayError) → e ≡ event.Resume ws memory → vs ≡ ws → m ≡ memory
+      → WritesFormat words_and_memory (vs, m) old new result → WritesFormat (tagged imports (tag_of e)) e old new result
   resume_written ws memory vs m old new result is ve me h = is_event (event.Resume ws memory) old new result is
       (named_written resume_event words_and_memory resume_one (ws, memory) old new result (subst (λ x. WritesFormat words_and_memory x old new result) (ap₂ (λ a b. (a, b)) ve me) h))
 
-  pub return_written : (ws memory vs m old new : List ℕ) (result : Result (Unit {0}) ReplayError) → e ≡ event.Return ws memory → vs ≡ ws → m ≡ memory → WritesFormat words_and_memory (vs, m) old new result → WritesFormat (tagged imports (tag_of e)) e old new result
+  pub return_written : (ws memory vs m old new : List ℕ) (result : Result (Unit {0}) ReplayError) → e ≡ event.Return ws memory → vs ≡ ws → m ≡ memory
+      → WritesFormat words_and_memory (vs, m) old new result → WritesFormat (tagged imports (tag_of e)) e old new result
   return_written ws memory vs m old new result is ve me h = is_event (event.Return ws memory) old new result is
       (named_written return_event words_and_memory return_one (ws, memory) old new result (subst (λ x. WritesFormat words_and_memory x old new result) (ap₂ (λ a b. (a, b)) ve me) h))
 
-  pub realloc_written : (o os align ns answer : ℕ) (old new : List ℕ) (result : Result (Unit {0}) ReplayError) → e ≡ event.Realloc o os align ns answer → WritesFormat request ((o, os), (align, (ns, answer))) old new result → WritesFormat (tagged imports (tag_of e)) e old new result
+  pub realloc_written : (o os align ns answer : ℕ) (old new : List ℕ) (result : Result (Unit {0}) ReplayError) → e ≡ event.Realloc o os align ns answer
+      → WritesFormat request ((o, os), (align, (ns, answer))) old new result → WritesFormat (tagged imports (tag_of e)) e old new result
   realloc_written o os align ns answer old new result is h = is_event (event.Realloc o os align ns answer) old new result is (named_written realloc_event request realloc_one ((o, os), (align, (ns, answer))) old new result h)
 
-  pub post_written : (func : ℕ) (ws vs old new : List ℕ) (result : Result (Unit {0}) ReplayError) → e ≡ event.Post func ws → vs ≡ ws → WritesFormat (also (any_number 4) word_list) (func, vs) old new result → WritesFormat (tagged imports (tag_of e)) e old new result
+  pub post_written : (func : ℕ) (ws vs old new : List ℕ) (result : Result (Unit {0}) ReplayError) → e ≡ event.Post func ws → vs ≡ ws
+      → WritesFormat (also (any_number 4) word_list) (func, vs) old new result → WritesFormat (tagged imports (tag_of e)) e old new result
   post_written func ws vs old new result is ve h = is_event (event.Post func ws) old new result is
       (named_written post_event (also (any_number 4) word_list) post_one (func, ws) old new result (subst (λ x. WritesFormat (also (any_number 4) word_list) (func, x) old new result) ve h))

@@ -182,14 +182,16 @@ take_drop_at (x ∷ xs) (suc n) a h = ap (λ l. x ∷ l) (take_drop_at xs n a (o
 -- ---- so many in a row: the first n of these
 
 module _ {A : Type 0} (F : Format A) (sound : IsFormat F) (things : List A) (old : List ℕ) where
-  pub row_added : (now new : List ℕ) (n : ℕ) (a : A) → n < length things → slice_index_or things n a ≡ a → IsAdded (in_a_row F n) (take n things) old now → WritesFormat F a now new (Ok tt) → IsAdded (in_a_row F (n + 1)) (take (n + 1) things) old new
+  pub row_added : (now new : List ℕ) (n : ℕ) (a : A) → n < length things → slice_index_or things n a ≡ a → IsAdded (in_a_row F n) (take n things) old now → WritesFormat F a now new (Ok tt)
+      → IsAdded (in_a_row F (n + 1)) (take (n + 1) things) old new
   row_added now new n a more is r h =
       let next : suc n ≡ n + 1 = omega arith in
       let items : take n things ++ a ∷ [] ≡ take (n + 1) things = ap (λ i. take n things ++ i ∷ []) (sym is) ∙ sym (take_more things n a more) in
       subst₂ (λ is xs. IsAdded (for_each (λ (u : Unit {0}). F) is) xs old new) (times_more n ∙ ap (λ i. so_many i) next) items
       (each_added (λ (u : Unit {0}). F) (λ u. sound) old now new (so_many n) tt (take n things) a r h)
 
-  pub row_long : (now new end : List ℕ) (n : ℕ) (a : A) (e : ReplayError) → n < length things → slice_index_or things n a ≡ a → IsAdded (in_a_row F n) (take n things) old now → WritesFormat F a now new (Err e) → WritesFormat (in_a_row F (length things)) things old end (Err e)
+  pub row_long : (now new end : List ℕ) (n : ℕ) (a : A) (e : ReplayError) → n < length things → slice_index_or things n a ≡ a → IsAdded (in_a_row F n) (take n things) old now
+      → WritesFormat F a now new (Err e) → WritesFormat (in_a_row F (length things)) things old end (Err e)
   row_long now new end n a e more is r h =
       let split : so_many n ++ tt ∷ so_many (length things - suc n) ≡ so_many (length things) = times_split n (length things - suc n) (length things) (omega (arith, more)) in
       let items : take n things ++ a ∷ drop (suc n) things ≡ things = ap (λ i. take n things ++ i ∷ drop (suc n) things) (sym is) ∙ take_drop_at things n a more in

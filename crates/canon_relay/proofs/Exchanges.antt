@@ -99,12 +99,14 @@ pub stops_unasked : (a : Option (List Message)) (asked before : List ℕ) (R : L
 stops_unasked a asked before R e = stops_cut a a asked before R e (untold a a asked before (adds_none a))
 
 -- memory wasn't lent again, where the reply says by how much it is to be longer
-pub stops_unlent : (a b c : Option (List Message)) (n : ℕ) (asked before ran reply : List ℕ) (R : List ℕ → Type 0) (e : GuestFault) → length reply ≡ 168 → AddsMessages a b (told asked ∷ lent before ran ∷ heard reply ∷ []) → n ≡ reply_grown reply
+pub stops_unlent : (a b c : Option (List Message)) (n : ℕ) (asked before ran reply : List ℕ) (R : List ℕ → Type 0) (e : GuestFault) → length reply ≡ 168
+    → AddsMessages a b (told asked ∷ lent before ran ∷ heard reply ∷ []) → n ≡ reply_grown reply
     → AddsMessages b c [] → 0 < n → StopsDemand a c asked before R e
 stops_unlent a b c n asked before ran reply R e sized first is none some = stops_cut a c asked before R e (unlent_again a b c asked before ran reply sized first none (subst (λ k. 0 < k) is some))
 
 -- the reply was refused, after memory was lent again where it had to be
-pub stops_refused : (a b c : Option (List Message)) (n : ℕ) (asked before ran reply after : List ℕ) (R : List ℕ → Type 0) (e : GuestFault) → length reply ≡ 168 → AddsMessages a b (told asked ∷ lent before ran ∷ heard reply ∷ []) → n ≡ reply_grown reply
+pub stops_refused : (a b c : Option (List Message)) (n : ℕ) (asked before ran reply after : List ℕ) (R : List ℕ → Type 0) (e : GuestFault) → length reply ≡ 168
+    → AddsMessages a b (told asked ∷ lent before ran ∷ heard reply ∷ []) → n ≡ reply_grown reply
     → AddsMessages b c (lent_again n ran after) → (e ≡ fault.Trap → R reply) → StopsDemand a c asked before R e
 stops_refused a b c n asked before ran reply after R e sized first is second h =
     let grown = subst (λ k. AddsMessages b c (lent_again k ran after)) is second in

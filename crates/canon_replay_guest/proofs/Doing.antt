@@ -86,8 +86,10 @@ gives c g mid h m m1 m2 (Ok answer) b (is, lawful, copied, e) =
     let from : m2 ≡ moved (grown_to m wanted) c.old answer (min c.old_size c.new_size) = copied ∙ ap (λ (xs : List ℕ). moved xs c.old answer (min c.old_size c.new_size)) b.2 in
     let law : IsLawfulAnswer mid.live wanted c answer = subst (λ (k : ℕ). IsLawfulAnswer mid.live k c answer) len1 lawful in
     let len2 : length m2 ≡ wanted = after_length mid.live m wanted m2 c answer can law from in
-    let begins = (answer_begun g mid m m1 c b).begins in
-    ((b.0, (mid, subst (λ (k : ℕ). BeginsRequest (reallocates c) g (length m) mid k) (len1 ∙ sym len2) begins, is, subst (λ (k : ℕ). IsLawfulAnswer mid.live k c answer) (len1 ∙ sym len2) lawful, e)), from ∙ ap (λ (k : ℕ). moved (grown_to m k) c.old answer (min c.old_size c.new_size)) (sym len2))
+    let begins = (answer_begun g mid m m1 c b).begins in (
+      (b.0, (mid, subst (λ (k : ℕ). BeginsRequest (reallocates c) g (length m) mid k) (len1 ∙ sym len2) begins, is, subst (λ (k : ℕ). IsLawfulAnswer mid.live k c answer) (len1 ∙ sym len2) lawful, e)),
+      from ∙ ap (λ (k : ℕ). moved (grown_to m k) c.old answer (min c.old_size c.new_size)) (sym len2),
+    )
 gives c g mid h m m1 m2 (Err fault.Trap) b (same, inl (never, e)) =
     let f = answer_begun g mid m m1 c b in
     let can = f.begins.2 in
@@ -110,7 +112,8 @@ begin_gives_trap c g h m m1 b le = (begin_trapped (reallocates c) g h m m1 tt b,
 pub ends : (q : GuestRequest) (g mid h : Replaying) (m : List ℕ) → g.stop ≡ None → IsOpened g mid → EndsItself q → IsNext (next_event mid) q → h ≡ record mid { at = mid.at + 1; live = [] } → DoesEnd q g m h (Ok tt)
 ends q g mid h m none o l n e = (none, l, (mid, o, n, e))
 
-pub end_differs : (q : GuestRequest) (g mid h : Replaying) (m : List ℕ) (f : GuestFault) → f ≡ fault.Trap → BeginsRequest q g (length m) mid (length m) → g.stop ≡ None → ¬ (IsNext (next_event mid) q) → h ≡ stopped_for mid stop.Differs → DoesEnd q g m h (Err f)
+pub end_differs : (q : GuestRequest) (g mid h : Replaying) (m : List ℕ) (f : GuestFault) → f ≡ fault.Trap → BeginsRequest q g (length m) mid (length m) → g.stop ≡ None → ¬ (IsNext (next_event mid) q)
+    → h ≡ stopped_for mid stop.Differs → DoesEnd q g m h (Err f)
 end_differs q g mid h m f ef b none n e = subst (λ (x : GuestFault). DoesEnd q g m h (Err x)) (sym ef) (inl (none, (mid, inr (stop.Differs, b, n, e))))
 
 pub end_again : (q : GuestRequest) (g h : Replaying) (m : List ℕ) (f : GuestFault) → f ≡ fault.Trap → g.stop ≢ None → h ≡ trapped_again g → DoesEnd q g m h (Err f)

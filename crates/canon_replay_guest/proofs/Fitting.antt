@@ -129,7 +129,8 @@ step_there len e more (reallocates c) l t s = absurd l
 step_there len e more (posts f ws) l t s = absurd l
 step_there len e more (destroys f r) l t s = absurd l
 
-step_made : (len : ℕ) (st : Step) (after : List ℕ) (more : List Event) → StepsFollow true len (step_event st after ∷ more) → StepsFollow false (length after) more × (stepped_length len (step_event st after ∷ more) ≡ stepped_length (length after) more)
+step_made : (len : ℕ) (st : Step) (after : List ℕ) (more : List Event) → StepsFollow true len (step_event st after ∷ more) → StepsFollow false (length after) more
+    × (stepped_length len (step_event st after ∷ more) ≡ stepped_length (length after) more)
 step_made len (step.Return ws) after more s = (s.1, refl)
 step_made len (step.Import i ws) after more s = (s.1, refl)
 
@@ -145,7 +146,8 @@ a_step len (event.Dtor f r ∷ more) s = absurd s
 a_step len (event.Trap at n ∷ more) s = absurd s
 
 -- a post-return is no step, and begins no call
-end_there : (len : ℕ) (e : Event) (more : List Event) (q : GuestRequest) → EndsItself q → TellsRequest e q → (StepsFollow false len (e ∷ more) → StepsFollow false len more) × (stepped_length len (e ∷ more) ≡ stepped_length len more) × ¬ BeginsCall (e ∷ more)
+end_there : (len : ℕ) (e : Event) (more : List Event) (q : GuestRequest) → EndsItself q → TellsRequest e q → (StepsFollow false len (e ∷ more) → StepsFollow false len more)
+    × (stepped_length len (e ∷ more) ≡ stepped_length len more) × ¬ BeginsCall (e ∷ more)
 end_there len (event.Post f ws) more (posts g vs) l t = (λ s. s, refl, λ b. b)
 end_there len (event.Start f ws m) more (posts g vs) l t = absurd t
 end_there len (event.Ask i ws m) more (posts g vs) l t = absurd t
@@ -280,7 +282,8 @@ one_on g h (trapped q before after) going few can (inl (n, (mid, inr (why, b, re
     for_reason why g mid h (length before) after after q few (opened g mid (length before) (opens q g (length before) mid after b) can) b reason e
 one_on g h (trapped q before after) going few can (inr (some, len, e)) = absurd (some going)
 
-fit_chain : (g h : Replaying) (len last : ℕ) (calls : List RequestOutcome) → g.stop ≡ None → len ≤ 2 ^ 32 → CanReplayFrom g len → Chain g len calls h last → (h.stop ≢ Some stop.Unfit) × (h.stop ≡ None → CanReplayFrom h last × (last ≤ 2 ^ 32))
+fit_chain : (g h : Replaying) (len last : ℕ) (calls : List RequestOutcome) → g.stop ≡ None → len ≤ 2 ^ 32 → CanReplayFrom g len → Chain g len calls h last → (h.stop ≢ Some stop.Unfit)
+    × (h.stop ≡ None → CanReplayFrom h last × (last ≤ 2 ^ 32))
 fit_chain g h len last [] going few can (e, f) =
     (λ unfit. no_stop (sym going ∙ (sym (ap (λ (r : Replaying). r.stop) e) ∙ unfit)), λ none. (subst₂ CanReplayFrom (sym e) (sym f) can, omega (arith, f, few)))
   where

@@ -206,7 +206,8 @@ module _ (k : ℕ) (s : Replaying) (few : k < length s.recorded) where
         live = along_both s.live g.live mid.live es (outcome_events x) go.live live;
       }
 
-  first_stop : (g m mid h : Replaying) (len last : ℕ) (es : List Event) (calls : List RequestOutcome) (q : GuestRequest) (before : List ℕ) (after : ℕ) (why : Stop) → Going g es → IsOpened g m → Replays g (trapped q before after) mid → mid ≡ stopped_for m why
+  first_stop : (g m mid h : Replaying) (len last : ℕ) (es : List Event) (calls : List RequestOutcome) (q : GuestRequest) (before : List ℕ) (after : ℕ) (why : Stop) → Going g es → IsOpened g m
+      → Replays g (trapped q before after) mid → mid ≡ stopped_for m why
       → IsLeftBy why (next_event m) m.live after q → Chain mid after calls h last → Done h last (es ++ outcome_events (trapped q before after) ++ flat_map outcome_events calls)
   first_stop g m mid h len last es calls q before after why go o d e left rest =
       let stays = stays_stopped mid h after last calls (λ none. absurd (let some : mid.stop ≡ Some why = ap (λ (r : Replaying). r.stop) e in cc)) rest in
@@ -274,7 +275,8 @@ module _ (k : ℕ) (s : Replaying) (few : k < length s.recorded) where
   module _ (before : IsBefore k s) where
     nothing_passed : passed_events s ≡ events_of_calls k s.recorded
     nothing_passed = ⊎_elim
-        (λ b. ap₂ (λ (n i : ℕ). events_of_calls n s.recorded ++ take i (events_now s)) b.0 b.1 ∙ ap (λ (n : ℕ). events_of_calls n s.recorded ++ []) (sym b.0) ∙ append-nil (events_of_calls s.call s.recorded) ∙ ap (λ (n : ℕ). events_of_calls n s.recorded) b.0)
+        (λ b. ap₂ (λ (n i : ℕ). events_of_calls n s.recorded ++ take i (events_now s)) b.0 b.1 ∙ ap (λ (n : ℕ). events_of_calls n s.recorded ++ []) (sym b.0)
+        ∙ append-nil (events_of_calls s.call s.recorded) ∙ ap (λ (n : ℕ). events_of_calls n s.recorded) b.0)
         (λ b. ap (λ (l : List Event). events_of_calls s.call s.recorded ++ l) (take_whole s.at (events_now s) b.1) ∙ sym (events_taken s.call s.recorded) ∙ ap (λ (n : ℕ). events_of_calls n s.recorded) b.0)
         before
 

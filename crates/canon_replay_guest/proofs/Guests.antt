@@ -53,7 +53,8 @@ goes_so g h m m2 ms es le later e = record { no_shorter = le; traps_later = late
 
 -- ---- one call is a move
 
-one_move : (g h : Replaying) (m m2 : Memory) (x : RequestOutcome) (es : List Event) → es ≡ outcome_events x ++ [] → from_length x ≡ length m.bytes → to_length x ≡ length m2.bytes → Replays g x h → ReplayMoves (guest_in g m) es (guest_in h m2)
+one_move : (g h : Replaying) (m m2 : Memory) (x : RequestOutcome) (es : List Event) → es ≡ outcome_events x ++ [] → from_length x ≡ length m.bytes → to_length x ≡ length m2.bytes → Replays g x h
+    → ReplayMoves (guest_in g m) es (guest_in h m2)
 one_move g h m m2 x es t b a d = record { calls = x ∷ []; told_by = t; chain = (h, b, d, (refl, sym a)) }
 
 -- ---- steps
@@ -63,7 +64,8 @@ step_marks q g h m m2 (Ok s) d = answered_marks g h (stepped q m m2 s) tt d
 step_marks q g h m m2 (Err fault.Trap) d = trap_marks g h q m (length m2) d
 step_marks q g h m m2 (Err fault.OutOfMemory) d = short_marks g h d
 
-pub step_goes : (q : GuestRequest) (g h : Replaying) (m m2 : List ℕ) (r : Result Step GuestFault) (es : List Event) → DoesStep q g m h m2 r → length m ≤ length m2 → IsLater g h → Goes (moment (replay_seen g) m) (moment (replay_seen h) m2) [] es
+pub step_goes : (q : GuestRequest) (g h : Replaying) (m m2 : List ℕ) (r : Result Step GuestFault) (es : List Event) → DoesStep q g m h m2 r → length m ≤ length m2 → IsLater g h
+    → Goes (moment (replay_seen g) m) (moment (replay_seen h) m2) [] es
 step_goes q g h m m2 r es d le later = goes_so g h m m2 [] es le later (step_marks q g h m m2 r d)
 
 pub step_cause : (q : GuestRequest) (g h : Replaying) (m m2 : List ℕ) (r : Result Step GuestFault) → DoesStep q g m h m2 r → HasCause (replay_seen g) (replay_seen h) r

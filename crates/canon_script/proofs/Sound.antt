@@ -145,6 +145,7 @@ module _ (s : Settings) (inside : s.heap ≤ s.memory) (items : Items) where
   played_sound resources types funcs imports p e =
       option_and_then_some (played_over s items) (declared_of resources types funcs imports) p e (λ d s1 e1. over_sound d p (declared_sound resources types funcs imports d s1) e1)
 
-pub reads_sound : (d : Data) (s : Settings) (resources types funcs imports items : Items) (r : Result Script ScriptError) → Some s ≡ settings_of d → ReadsAs play_of r (played s resources types funcs imports items) → IfOk r (λ x. IsWellFormed (play_of x))
+pub reads_sound : (d : Data) (s : Settings) (resources types funcs imports items : Items) (r : Result Script ScriptError) → Some s ≡ settings_of d
+    → ReadsAs play_of r (played s resources types funcs imports items) → IfOk r (λ x. IsWellFormed (play_of x))
 reads_sound d s resources types funcs imports items (Ok x) e h = played_sound s (settings_sound d s (sym e)) items resources types funcs imports (play_of x) h
 reads_sound d s resources types funcs imports items (Err f) e h = tt

@@ -256,7 +256,8 @@ module _ (g k h : Doing) (m bytes : List ℕ) (c : Call) (same : (k.traps ≡ g.
         rose = rises g.shortages k.shortages h.shortages same.1 (ap (λ (x : Doing). x.shortages) s);
       }
 
-  pub fault_moves : (w w2 : Bool) (f r : GuestFault) → r ≡ f → DoesRealloc g m c k bytes (Err f) → h ≡ with_fault_counted f k → OnAnswer {T = ℕ} (Err r) (ScriptMoves (guest_in g (memory_of m w)) (realloc_events c m (Err r)) (guest_in h (memory_of bytes w2)))
+  pub fault_moves : (w w2 : Bool) (f r : GuestFault) → r ≡ f → DoesRealloc g m c k bytes (Err f) → h ≡ with_fault_counted f k
+      → OnAnswer {T = ℕ} (Err r) (ScriptMoves (guest_in g (memory_of m w)) (realloc_events c m (Err r)) (guest_in h (memory_of bytes w2)))
   fault_moves w w2 f r e d s = subst (λ (x : GuestFault). OnAnswer {T = ℕ} (Err x) (ScriptMoves (guest_in g (memory_of m w)) (realloc_events c m (Err x)) (guest_in h (memory_of bytes w2)))) (sym e) (by f d s)
     where
       by : (x : GuestFault) → DoesRealloc g m c k bytes (Err x) → h ≡ with_fault_counted x k → OnAnswer {T = ℕ} (Err x) (ScriptMoves (guest_in g (memory_of m w)) (realloc_events c m (Err x)) (guest_in h (memory_of bytes w2)))

@@ -194,7 +194,8 @@ moves_nothing g = record {
 
 events_then : (plan : Plan) (xs ys : List Asked) → all_events plan (xs ++ ys) ≡ all_events plan xs ++ all_events (after_all plan xs) ys
 events_then plan [] ys = refl
-events_then plan (x ∷ xs) ys = ap (λ (es : List Event). events_telling plan x ++ es) (events_then (after plan x) xs ys) ∙ sym (append_assoc (events_telling plan x) (all_events (after plan x) xs) (all_events (after_all (after plan x) xs) ys))
+events_then plan (x ∷ xs) ys = ap (λ (es : List Event). events_telling plan x ++ es) (events_then (after plan x) xs ys)
+    ∙ sym (append_assoc (events_telling plan x) (all_events (after plan x) xs) (all_events (after_all (after plan x) xs) ys))
 
 marks_then : (plan : Plan) (xs ys : List Asked) → all_marks plan (xs ++ ys) ≡ all_marks plan xs ++ all_marks (after_all plan xs) ys
 marks_then plan [] ys = refl

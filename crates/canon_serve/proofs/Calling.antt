@@ -57,7 +57,8 @@ module _ {E H : Type 0} (log : E → Option (List Message)) (f : Named) (s s2 : 
   numbered_call given params known None is all looked called = called
   numbered_call given params known (Some t) is all looked called = subst (λ b. ByNumbers log f t given s s2 a b) (sym all ∙ is) (params, looked, called)
 
-  pub called_by : (bytes : List ℕ) (given : Vec Val Global) (n : ℕ) (o : Option TypeFunc) → IfSome o (λ t. IsReadParams log s.store t bytes (Ok (given, n))) → IfSome o (λ t. ByNumbers log f t given.items s s2 a (are_listed s.list given.items))
+  pub called_by : (bytes : List ℕ) (given : Vec Val Global) (n : ℕ) (o : Option TypeFunc) → IfSome o (λ t. IsReadParams log s.store t bytes (Ok (given, n)))
+      → IfSome o (λ t. ByNumbers log f t given.items s s2 a (are_listed s.list given.items))
       → IfSome o (λ t. CalledBy log f t bytes s s2 a)
   called_by bytes given n None read called = called
   called_by bytes given n (Some t) read called = (Ok (val.Tuple given), read.0, (given, refl, called))

@@ -20,7 +20,8 @@ told_some [] h = absurd (cc)
 told_some (b ∷ bytes) h = refl
 
 -- only the first bytes of a command were heard
-pub hears_nothing : (a b c : Option (List Message)) (head : List ℕ) (why : Unheard) (n : ℕ) → length head ≡ 32 → AddsMessages a b (heard head ∷ []) → AddsMessages b c [] → n ≡ number_at head 24 → 0 < n → (why ≡ unheard.OutOfMemory → n ≤ 16777216)
+pub hears_nothing : (a b c : Option (List Message)) (head : List ℕ) (why : Unheard) (n : ℕ) → length head ≡ 32 → AddsMessages a b (heard head ∷ []) → AddsMessages b c [] → n ≡ number_at head 24
+    → 0 < n → (why ≡ unheard.OutOfMemory → n ≤ 16777216)
     → PassesMessages a c (HearsNothing why)
 hears_nothing a b c head unheard.Broken n sized first none is some few = (heard head ∷ [], adds_both a b c (heard head ∷ []) [] first none, inr (head, sized, subst (λ k. 0 < k) is some, refl))
 hears_nothing a b c head unheard.OutOfMemory n sized first none is some few =

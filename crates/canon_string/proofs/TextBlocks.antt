@@ -99,7 +99,8 @@ module _ {T G : Type 0} (L : GuestLaws G) (options : ℕ) where
   }
 
   -- what isn't needed is given back
-  pub begun_fitted : (a b c : Parts T G) (al : ℕ) (rs : List Request) (p k n q : ℕ) (bytes : List ℕ) → Begun a b al rs p k bytes → n ≡ length bytes → FitsTo L.seen L.moves b c al p k n (Ok q) → Begun a c al (rs ++ shrunk_at al k n) q n bytes
+  pub begun_fitted : (a b c : Parts T G) (al : ℕ) (rs : List Request) (p k n q : ℕ) (bytes : List ℕ) → Begun a b al rs p k bytes → n ≡ length bytes → FitsTo L.seen L.moves b c al p k n (Ok q)
+      → Begun a c al (rs ++ shrunk_at al k n) q n bytes
   begun_fitted a b c al rs p k n q bytes h is (inl (less, g)) =
       subst (λ (qs : List Request). Begun a c al (rs ++ qs) q n bytes) (sym (shrunk_some al k n less)) (begun_again a b c al rs p k n q bytes h g (omega (arith, is)))
   begun_fitted a b c al rs p k n q bytes h is (inr (all, same, at)) =

@@ -187,7 +187,8 @@ module _ {T G : Type 0} (L : GuestLaws G) (options : ℕ) (a : Parts T G) (sourc
             let first : take written (bytes_at (narrow zs) q (2 * n)) ≡ string_front =
             ap (λ (x : ℕ). take x (bytes_at (narrow zs) q (2 * n))) parts.2.count
             ∙ (first_bytes zs q (length string_front) (2 * n) (omega (arith, front_fits)) ∙ (ap (λ (xs : List ℕ). bytes_at (narrow xs) q (length string_front)) same2 ∙ known)) in
-            let written_so : take (length (spelling in_utf16 (string_front ++ more))) (bytes_at (narrow m2) q (2 * n)) ≡ spelling in_utf16 (string_front ++ more) = wide_there string_front more string_left _ _ written k left_is widened first in
+            let written_so : take (length (spelling in_utf16 (string_front ++ more))) (bytes_at (narrow m2) q (2 * n)) ≡ spelling in_utf16 (string_front ++ more) =
+            wide_there string_front more string_left _ _ written k left_is widened first in
             sym (first_bytes m2 q (length wide) (2 * n) wide_fits) ∙ subst (λ (l : List ℕ). take (length (spelling in_utf16 l)) (bytes_at (narrow m2) q (2 * n)) ≡ spelling in_utf16 l) (sym parts.2.is) written_so
 
         wide_begun : Begun L options a (after c m2) 2 string_asked q (2 * n) wide

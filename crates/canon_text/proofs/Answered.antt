@@ -14,7 +14,8 @@ use Rattle.canon_text.proofs.Bytes.{latin1_each}
 use Rattle.canon_text.proofs.Lawful.{no_further}
 use Rattle.canon_text.proofs.Splits.{first_can, first_units, fronts, ill_same}
 
-pass_on : (form : Form) (first : Bool) (source cs ds rest rest2 : List ℕ) (room : ℕ) → IsPass form first source room cs rest → IsPass form first source room ds rest2 → (more : List ℕ) → ds ≡ cs ++ more → can_spell form more ≡ true → rest ≡ units form more ++ rest2 → cs ≡ ds
+pass_on : (form : Form) (first : Bool) (source cs ds rest rest2 : List ℕ) (room : ℕ) → IsPass form first source room cs rest → IsPass form first source room ds rest2 → (more : List ℕ)
+    → ds ≡ cs ++ more → can_spell form more ≡ true → rest ≡ units form more ++ rest2 → cs ≡ ds
 pass_on form first source cs ds rest rest2 room h g [] is can e = sym (is ∙ append-nil cs)
 pass_on form first source cs ds rest rest2 room h g (c ∷ more) is can e = absurd (no_further form first source rest rest2 cs c more room h
     (subst (λ l. length (encode_utf8_all l) ≤ room) is g.fits)
@@ -43,7 +44,8 @@ converts from to source old a b m n h g =
     let same = units_determine from h.scalars g.scalars h.can g.can (sym h.reads ∙ g.reads) in
     (h.count ∙ ap (λ cs. length (units to cs)) same ∙ sym g.count, h.writes ∙ ap (λ cs. over old (units to cs)) same ∙ sym g.writes)
 
-passed : (form : Form) (first : Bool) (source old a b : List ℕ) (read written read2 written2 : ℕ) → Passed form first source old a read written → Passed form first source old b read2 written2 → (read ≡ read2) × (written ≡ written2) × (a ≡ b)
+passed : (form : Form) (first : Bool) (source old a b : List ℕ) (read written read2 written2 : ℕ) → Passed form first source old a read written → Passed form first source old b read2 written2
+    → (read ≡ read2) × (written ≡ written2) × (a ≡ b)
 passed form first source old a b read written read2 written2 h g =
     let same = one_pass form first source h.scalars g.scalars h.rest g.rest (length old) h.pass g.pass in
     (h.reads ∙ ap (λ cs. length (units form cs)) same ∙ sym g.reads, h.count ∙ ap (λ cs. length (encode_utf8_all cs)) same ∙ sym g.count, h.writes ∙ ap (λ cs. over old (encode_utf8_all cs)) same ∙ sym g.writes)

@@ -29,7 +29,8 @@ ascii_units in_utf16 xs h = latin1_units xs (narrower xs h)
 ascii_units in_latin1 xs h = refl
 
 -- a run that is its own spelling is read
-pub front-run : (form : Form) (source : List ℕ) (at n : ℕ) (cs : List ℕ) → IsFront form source at cs → at + n ≤ length source → can_spell form (run source at n) ≡ true → units form (run source at n) ≡ run source at n → IsFront form source (at + n) (cs ++ run source at n)
+pub front-run : (form : Form) (source : List ℕ) (at n : ℕ) (cs : List ℕ) → IsFront form source at cs → at + n ≤ length source → can_spell form (run source at n) ≡ true
+    → units form (run source at n) ≡ run source at n → IsFront form source (at + n) (cs ++ run source at n)
 front-run form source at n cs h room can same =
     let xs = run source at n in
     let long : length xs ≡ n = length-run source at n room in
@@ -41,7 +42,8 @@ front-run form source at n cs h room can same =
       place = let before : at ≡ length (units form cs) = h.place in omega (arith, ap length all, length-append (units form cs) xs);
     }
 
-pub midway-run : (form : Form) (first : Bool) (source old now new : List ℕ) (read written n : ℕ) → Midway form first source old now read written → Copies 128 source now new read written n → Midway form first source old new (read + n) (written + n)
+pub midway-run : (form : Form) (first : Bool) (source old now new : List ℕ) (read written n : ℕ) → Midway form first source old now read written → Copies 128 source now new read written n
+    → Midway form first source old new (read + n) (written + n)
 midway-run form first source old now new read written n h g =
     let cs = h.scalars in
     let xs = run source read n in

@@ -76,7 +76,8 @@ unit_bytes-push : (us : List ℕ) (u : ℕ) → flat_map unit_bytes us ++ unit_b
 unit_bytes-push us u = sym (flat_map-append unit_bytes us (u ∷ []))
 
 -- one unit more, as bytes
-pub placed-unit : (old now units : List ℕ) (at i u : ℕ) → at ≤ length old → now ≡ placed old at (flat_map unit_bytes (take i units)) → i < length units → u ≡ get_or units i 0 → placed now (at + 2 * i) (unit_bytes u) ≡ placed old at (flat_map unit_bytes (take (i + 1) units))
+pub placed-unit : (old now units : List ℕ) (at i u : ℕ) → at ≤ length old → now ≡ placed old at (flat_map unit_bytes (take i units)) → i < length units → u ≡ get_or units i 0
+    → placed now (at + 2 * i) (unit_bytes u) ≡ placed old at (flat_map unit_bytes (take (i + 1) units))
 placed-unit old now units at i u h e small is =
     let long : at + 2 * i ≡ at + length (flat_map unit_bytes (take i units)) = omega (arith, length-unit_bytes (take i units), length-take-le i units (omega arith)) in
     placed-more old now (flat_map unit_bytes (take i units)) (unit_bytes u) at (at + 2 * i) h e long
@@ -134,7 +135,8 @@ pub latin1-units : (cs : List ℕ) → all_latin1 (flat_map encode_utf16 cs) ≡
 latin1-units [] = refl
 latin1-units (c ∷ cs) = ⊎_elim
     (λ h. ap (λ us. all_latin1 (us ++ flat_map encode_utf16 cs)) (cond-true (nat_lt c 0x1_0000) _ _ (lt-ltb c 0x1_0000 h)) ∙ ap (λ b. cond (nat_lt c 256) b false) (latin1-units cs))
-    (λ h. ap (λ us. all_latin1 (us ++ flat_map encode_utf16 cs)) (cond-false (nat_lt c 0x1_0000) _ _ (le-ltb c 0x1_0000 h)) ∙ cond-false (nat_lt (0xD800 + (c - 0x1_0000) / 0x400) 256) _ _ (le-ltb _ 256 (omega arith)) ∙ sym (cond-false (nat_lt c 256) _ _ (le-ltb c 256 (omega arith))))
+    (λ h. ap (λ us. all_latin1 (us ++ flat_map encode_utf16 cs)) (cond-false (nat_lt c 0x1_0000) _ _ (le-ltb c 0x1_0000 h))
+    ∙ cond-false (nat_lt (0xD800 + (c - 0x1_0000) / 0x400) 256) _ _ (le-ltb _ 256 (omega arith)) ∙ sym (cond-false (nat_lt c 256) _ _ (le-ltb c 256 (omega arith))))
     (cases_lt c 0x1_0000)
 
 pub one_latin1 : (c : ℕ) → c < 256 → all_latin1 (c ∷ []) ≡ true

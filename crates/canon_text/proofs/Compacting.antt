@@ -14,7 +14,8 @@ use Rattle.canon_text.proofs.Written.{over-more, over_all}
 pub behind : (old mid new items : List ℕ) (so_far : ℕ) → mid ≡ over old (inflated old so_far) → length (inflated old so_far) ≡ 2 * so_far → new ≡ placed mid (2 * so_far) items → new ≡ over old (inflated old so_far ++ items)
 behind old mid new items so_far e long w = over-more old mid new (inflated old so_far) items (2 * so_far) e (sym long) w
 
-pub widens8 : (text rest scalars old mid new : List ℕ) (so_far end answer : ℕ) → mid ≡ over old (inflated old so_far) → length (inflated old so_far) ≡ 2 * so_far → WritesBytes text rest scalars mid new (2 * so_far) end → length rest ≡ 0 → answer ≡ end / 2 → Widens in_utf8 text old new so_far answer
+pub widens8 : (text rest scalars old mid new : List ℕ) (so_far end answer : ℕ) → mid ≡ over old (inflated old so_far) → length (inflated old so_far) ≡ 2 * so_far
+    → WritesBytes text rest scalars mid new (2 * so_far) end → length rest ≡ 0 → answer ≡ end / 2 → Widens in_utf8 text old new so_far answer
 widens8 text rest cs old mid new so_far end answer e long h done is = record {
   scalars = cs;
   can = h.read.can;
@@ -53,7 +54,8 @@ compacts_wide source old new h room wide w =
       writes = whole source old new room w ∙ ap (λ us. flat_map unit_bytes us) h.is ∙ sym (over_all (spelling in_utf16 cs) (spelling in_utf16 cs) (omega arith)) ∙ ap (λ f. over (spelling in_utf16 cs) (spelling f cs)) (sym p.1);
     }
 
-pub compacts_narrow : (source old mid new : List ℕ) → WellFormed in_utf16 source → length old ≡ 2 * length source → all_latin1 source ≡ true → mid ≡ placed old 0 (flat_map unit_bytes source) → new ≡ over mid source → Compacts source new (length source)
+pub compacts_narrow : (source old mid new : List ℕ) → WellFormed in_utf16 source → length old ≡ 2 * length source → all_latin1 source ≡ true → mid ≡ placed old 0 (flat_map unit_bytes source)
+    → new ≡ over mid source → Compacts source new (length source)
 compacts_narrow source old mid new h room narrow w d =
     let cs = h.scalars in
     let small = sym (latin1-units cs) ∙ ap all_latin1 (sym h.is) ∙ narrow in

@@ -81,7 +81,8 @@ copies-one limit source now new from at h g small w =
       writes = w ∙ set-placed now at (get_or source from 0) g ∙ ap (λ l. placed now at l) (sym one);
     }
 
-pub copies-block : (limit : ℕ) (source now new lanes : List ℕ) (from at n : ℕ) → from + n ≤ length source → at + n ≤ length now → AllBelow limit (run source from n) → lanes ≡ run source from n → new ≡ put_chunk at now lanes → Copies limit source now new from at n
+pub copies-block : (limit : ℕ) (source now new lanes : List ℕ) (from at n : ℕ) → from + n ≤ length source → at + n ≤ length now → AllBelow limit (run source from n) → lanes ≡ run source from n
+    → new ≡ put_chunk at now lanes → Copies limit source now new from at n
 copies-block limit source now new lanes from at n h g small same w =
     let items = run source from n in
     let long : length items ≡ n = length-run source from n h in

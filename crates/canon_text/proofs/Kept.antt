@@ -115,7 +115,8 @@ wide_can in_latin1 cs h = latin1_scalars cs h
 length-front : (so_far : ℕ) (old : List ℕ) → so_far ≤ length old → all_latin1 (take so_far old) ≡ true → length (spelling in_utf16 (take so_far old)) ≡ 2 * so_far
 length-front so_far old le latin1 = omega (arith, length-unit_bytes (units in_utf16 (take so_far old)), ap length (latin1_units (take so_far old) latin1), length-take-le so_far old le)
 
-widens : (form : Form) (source old new cs ds : List ℕ) (so_far n : ℕ) → Widens form source old new so_far n → so_far ≤ length old → all_latin1 (take so_far old) ≡ true → Reads form source cs → Spells in_utf16 (take (2 * (n - so_far)) (drop (2 * so_far) new)) ds → cs ≡ ds
+widens : (form : Form) (source old new cs ds : List ℕ) (so_far n : ℕ) → Widens form source old new so_far n → so_far ≤ length old → all_latin1 (take so_far old) ≡ true → Reads form source cs
+    → Spells in_utf16 (take (2 * (n - so_far)) (drop (2 * so_far) new)) ds → cs ≡ ds
 widens form source old new cs ds so_far n h le latin1 r s =
     let first : List ℕ = spelling in_utf16 (take so_far old) in
     let text : List ℕ = spelling in_utf16 h.scalars in
@@ -126,7 +127,8 @@ widens form source old new cs ds so_far n h le latin1 r s =
     let front : take (2 * (n - so_far)) (drop (2 * so_far) new) ≡ text = ap (λ l. take (2 * (n - so_far)) l) behind ∙ take_at text rest (2 * (n - so_far)) long in
     units_determine form cs h.scalars r.can h.can (sym r.is ∙ h.reads) ∙ wide_same form h.scalars ds h.can (subst (λ l. Spells in_utf16 l ds) front s)
 
-widens_whole : (form : Form) (source old new cs ds : List ℕ) (so_far n : ℕ) → Widens form source old new so_far n → so_far ≤ length old → all_latin1 (take so_far old) ≡ true → Reads form source cs → Spells in_utf16 (take (2 * n) new) ds → take so_far old ++ cs ≡ ds
+widens_whole : (form : Form) (source old new cs ds : List ℕ) (so_far n : ℕ) → Widens form source old new so_far n → so_far ≤ length old → all_latin1 (take so_far old) ≡ true → Reads form source cs
+    → Spells in_utf16 (take (2 * n) new) ds → take so_far old ++ cs ≡ ds
 widens_whole form source old new cs ds so_far n h le latin1 r s =
     let es : List ℕ = take so_far old ++ h.scalars in
     let text : List ℕ = spelling in_utf16 (take so_far old) ++ spelling in_utf16 h.scalars in

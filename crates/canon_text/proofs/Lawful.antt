@@ -27,7 +27,8 @@ one_fault = record {
 }
 
 -- a pass that stopped, and a text that could be read further
-goes_past : (form : Form) (first : Bool) (room c : ℕ) (more rest fault : List ℕ) → can_spell form (c ∷ more) ≡ true → rest ≡ units form (c ∷ more) ++ fault → EndsPass form first room rest → (room < length (encode_utf8 c)) ⊎ (IsTrue first × (127 < c))
+goes_past : (form : Form) (first : Bool) (room c : ℕ) (more rest fault : List ℕ) → can_spell form (c ∷ more) ≡ true → rest ≡ units form (c ∷ more) ++ fault → EndsPass form first room rest
+    → (room < length (encode_utf8 c)) ⊎ (IsTrue first × (127 < c))
 goes_past form first room c more rest fault can e h =
     let same = first_same form c h.next (units form more ++ fault) h.more (first_can form c more can).0 h.can (sym (first_units form c more fault) ∙ sym e ∙ h.is) in
     subst (λ k. (room < length (encode_utf8 k)) ⊎ (IsTrue first × (127 < k))) (sym same.0) h.cause
@@ -48,7 +49,8 @@ no_further form first source rest tail cs c more room h fits plain can e =
     (goes_past form first (room - length (encode_utf8_all cs)) c more rest tail can e s))
     h.stops
 
-never : (form : Form) (first : Bool) (source rest fault cs more : List ℕ) (room : ℕ) → IsPass form first source room cs rest → IsPass form first (units form (cs ++ more)) room (cs ++ more) [] → IllFormed form fault → can_spell form more ≡ true → rest ≡ units form more ++ fault → ⊥
+never : (form : Form) (first : Bool) (source rest fault cs more : List ℕ) (room : ℕ) → IsPass form first source room cs rest → IsPass form first (units form (cs ++ more)) room (cs ++ more) []
+    → IllFormed form fault → can_spell form more ≡ true → rest ≡ units form more ++ fault → ⊥
 never form first source rest fault cs [] room h g ill can e =
     let same : rest ≡ fault = e ∙ ap (λ l. l ++ fault) (units-nil form) in
     let some : 0 < length fault = ill.some in
@@ -71,7 +73,8 @@ pub passed_front : (form : Form) (first : Bool) (source old new : List ℕ) (rea
 passed_front form first source old new read written h =
     (ap (λ l. drop read l) h.pass.reads ∙ drop_at (units form h.scalars) h.rest read (sym h.reads), ap (λ l. take written l) h.writes ∙ take_at (encode_utf8_all h.scalars) _ written (sym h.count))
 
-one_more : (form : Form) (first : Bool) (source old new rest bytes : List ℕ) (read written : ℕ) → Passed form first source old new read written → WroteFront form (drop read source) rest bytes → WroteFront form source rest (take written new ++ bytes)
+one_more : (form : Form) (first : Bool) (source old new rest bytes : List ℕ) (read written : ℕ) → Passed form first source old new read written → WroteFront form (drop read source) rest bytes
+    → WroteFront form source rest (take written new ++ bytes)
 one_more form first source old new rest bytes read written h g =
     let p = passed_front form first source old new read written h in
     record {

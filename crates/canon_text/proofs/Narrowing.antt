@@ -114,7 +114,8 @@ begins_ascii xs n h small = begins8 (get_or xs n 0) (drop n xs) (drop (n + 1) xs
 two_more : (xs : List ℕ) (n : ℕ) → n + 1 < length xs → drop n xs ≡ get_or xs n 0 ∷ get_or xs (n + 1) 0 ∷ drop (n + 2) xs
 two_more xs n h = drop_more xs n 0 (omega arith) ∙ ap (λ l. get_or xs n 0 ∷ l) (drop_more xs (n + 1) 0 h ∙ ap (λ k. get_or xs (n + 1) 0 ∷ drop k xs) (omega arith))
 
-pub begins_two : (xs : List ℕ) (n c : ℕ) → n + 1 < length xs → 194 ≤ get_or xs n 0 → get_or xs n 0 ≤ 195 → 128 ≤ get_or xs (n + 1) 0 → get_or xs (n + 1) 0 < 192 → c ≡ (get_or xs n 0 - 192) * 64 + (get_or xs (n + 1) 0 - 128) → Begins in_utf8 c (drop n xs)
+pub begins_two : (xs : List ℕ) (n c : ℕ) → n + 1 < length xs → 194 ≤ get_or xs n 0 → get_or xs n 0 ≤ 195 → 128 ≤ get_or xs (n + 1) 0 → get_or xs (n + 1) 0 < 192
+    → c ≡ (get_or xs n 0 - 192) * 64 + (get_or xs (n + 1) 0 - 128) → Begins in_utf8 c (drop n xs)
 begins_two xs n c h a b d e is =
     let first : 192 + c / 64 ≡ get_or xs n 0 = omega arith in
     let second : 128 + c % 64 ≡ get_or xs (n + 1) 0 = omega arith in

@@ -29,7 +29,8 @@ pub record Midway (form : Form) (first : Bool) (source old now : List ℕ) (read
 pub midway-nil : (form : Form) (first : Bool) (source old : List ℕ) → Midway form first source old old 0 0
 midway-nil form first source old = record { scalars = []; so_far = record { front = front-nil form source; count = refl; fits = omega arith; plain = λ _. All-nil (λ c. c < 128); writes = refl } }
 
-pub midway-more : (form : Form) (first : Bool) (source old now new : List ℕ) (read read2 written written2 c : ℕ) → Midway form first source old now read written → Begins form c (drop read source) → ¬ ((length old - written < length (encode_utf8 c)) ⊎ (IsTrue first × (127 < c)))
+pub midway-more : (form : Form) (first : Bool) (source old now new : List ℕ) (read read2 written written2 c : ℕ) → Midway form first source old now read written → Begins form c (drop read source)
+    → ¬ ((length old - written < length (encode_utf8 c)) ⊎ (IsTrue first × (127 < c)))
     → read2 ≡ read + length (units form (c ∷ [])) → written2 ≡ written + length (encode_utf8 c) → new ≡ placed now written (encode_utf8 c) → Midway form first source old new read2 written2
 midway-more form first source old now new read read2 written written2 c h b goes e k w =
     let cs = h.scalars in
@@ -45,7 +46,8 @@ midway-more form first source old now new read read2 written written2 c h b goes
       };
     }
 
-passed : (form : Form) (first : Bool) (source old now : List ℕ) (read written : ℕ) (h : Midway form first source old now read written) → (drop read source ≡ []) ⊎ EndsPass form first (length old - written) (drop read source) → Passed form first source old now read written
+passed : (form : Form) (first : Bool) (source old now : List ℕ) (read written : ℕ) (h : Midway form first source old now read written)
+    → (drop read source ≡ []) ⊎ EndsPass form first (length old - written) (drop read source) → Passed form first source old now read written
 passed form first source old now read written h stops = record {
   scalars = h.scalars;
   rest = drop read source;
@@ -69,7 +71,8 @@ pub midway-stop : (form : Form) (first : Bool) (source old now : List ℕ) (read
     Passed form first source old now read written
 midway-stop form first source old now read written c h b cause = passed form first source old now read written h (inr (record { next = c; more = b.more; can = b.can; is = b.is; cause = cause }))
 
-pub midway-fault : (form : Form) (first : Bool) (source old now : List ℕ) (read written : ℕ) (e : TextError) → Midway form first source old now read written → IllFormed form (drop read source) → error_form e ≡ form → error_place e ≡ read → PassFails form first source old now e
+pub midway-fault : (form : Form) (first : Bool) (source old now : List ℕ) (read written : ℕ) (e : TextError) → Midway form first source old now read written → IllFormed form (drop read source)
+    → error_form e ≡ form → error_place e ≡ read → PassFails form first source old now e
 midway-fault form first source old now read written e h ill form_is place = record {
   scalars = h.scalars;
   rest = drop read source;

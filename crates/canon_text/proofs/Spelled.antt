@@ -33,7 +33,8 @@ pub has_read-more : (text rest rest2 scalars : List ℕ) (c : ℕ) → HasRead t
 has_read-more text rest rest2 cs c h e = record {
   utf8 = IsUtf8-past_char rest rest2 c h.utf8 e;
   can = can_spell-append in_utf8 cs (c ∷ []) h.can (and_from _ _ (first_scalar rest rest2 c h.utf8 e) refl);
-  is = h.is ∙ ap (λ l. encode_utf8_all cs ++ l) (e ∙ ap (λ l. l ++ rest2) (sym (append-nil (encode_utf8 c)))) ∙ sym (append_assoc (encode_utf8_all cs) (encode_utf8_all (c ∷ [])) rest2) ∙ ap (λ l. l ++ rest2) (sym (encode_utf8_all-append cs (c ∷ [])));
+  is = h.is ∙ ap (λ l. encode_utf8_all cs ++ l) (e ∙ ap (λ l. l ++ rest2) (sym (append-nil (encode_utf8 c)))) ∙ sym (append_assoc (encode_utf8_all cs) (encode_utf8_all (c ∷ [])) rest2)
+      ∙ ap (λ l. l ++ rest2) (sym (encode_utf8_all-append cs (c ∷ [])));
 }
 
 pub has_read-all : (text rest scalars : List ℕ) → HasRead text rest scalars → length rest ≡ 0 → text ≡ encode_utf8_all scalars

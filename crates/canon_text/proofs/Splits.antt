@@ -70,7 +70,13 @@ pub ill_front : (form : Form) (cs ds xs ys : List ℕ) → can_spell form cs ≡
 ill_front form cs ds xs ys h g e ill = ⊎_elim
     (λ l.
     let none = ill_begins form xs l.more ys ill l.can l.rest in
-    record { more = []; is = sym (l.is ∙ ap (λ m. cs ++ m) none ∙ append-nil cs) ∙ sym (append-nil ds); rest = sym (l.rest ∙ ap (λ m. units form m ++ ys) none ∙ ap (λ m. m ++ ys) (units-nil form)) ∙ ap (λ m. m ++ xs) (sym (units-nil form)); can = nil_can form })
+    record {
+      more = [];
+      is = sym (l.is ∙ ap (λ m. cs ++ m) none ∙ append-nil cs) ∙ sym (append-nil ds);
+      rest = sym (l.rest ∙ ap (λ m. units form m ++ ys) none ∙ ap (λ m. m ++ ys) (units-nil form))
+          ∙ ap (λ m. m ++ xs) (sym (units-nil form));
+      can = nil_can form;
+    })
     (λ r. r)
     (fronts form cs ds xs ys h g e)
 

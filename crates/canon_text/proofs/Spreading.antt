@@ -36,7 +36,8 @@ spreads-more source old now new from at n k h g =
       writes = g.writes ∙ placed-more old now (flat_map unit_bytes xs) (flat_map unit_bytes ys) at (at + 2 * n) (omega (arith, h.room)) h.writes (omega arith) ∙ ap (λ l. placed old at l) both;
     }
 
-pub spreads-block : (source now new : List ℕ) (from at n : ℕ) → from + n ≤ length source → at + 2 * n ≤ length now → AllBelow 128 (run source from n) → new ≡ placed now at (flat_map unit_bytes (run source from n)) → Spreads source now new from at n
+pub spreads-block : (source now new : List ℕ) (from at n : ℕ) → from + n ≤ length source → at + 2 * n ≤ length now → AllBelow 128 (run source from n)
+    → new ≡ placed now at (flat_map unit_bytes (run source from n)) → Spreads source now new from at n
 spreads-block source now new from at n h g small w = record { inside = h; room = g; below = small; writes = w }
 
 pub spreads-one : (source now new : List ℕ) (from at u : ℕ) → from < length source → at + 2 ≤ length now → get_or source from 0 < 128 → u ≡ get_or source from 0 → new ≡ placed now at (unit_bytes u) → Spreads source now new from at 1

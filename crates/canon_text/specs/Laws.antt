@@ -48,7 +48,8 @@ pub record WroteWide (form : Form) (source old new : List ℕ) (answer : ℕ) : 
 
 -- Latin-1 as far as it goes, inflation in place, and UTF-16 over the rest write the whole text.
 abbrev pub NarrowThenWide : Type 0
-NarrowThenWide = (form : Form) (source old new grown after : List ℕ) (read written answer : ℕ) → Narrows form source old new read written → take written grown ≡ take written new → Widens form (drop read source) grown after written answer → WroteWide form source grown after answer
+NarrowThenWide = (form : Form) (source old new grown after : List ℕ) (read written answer : ℕ) → Narrows form source old new read written → take written grown ≡ take written new
+    → Widens form (drop read source) grown after written answer → WroteWide form source grown after answer
 
 -- A compact text's length names its form and its bytes, and is tagged only where it must be.
 pub record CompactLengths : Type 0 where
@@ -72,15 +73,18 @@ pub record ScalarsKept : Type 0 where
   pub passed : (form : Form) (first : Bool) (source old new cs ds : List ℕ) (read written : ℕ) → Passed form first source old new read written → length source ≤ read → Reads form source cs → Reads in_utf8 (take written new) ds → cs ≡ ds
   pub narrows : (form : Form) (source old new cs ds : List ℕ) (read written : ℕ) → Narrows form source old new read written → length source ≤ read → Reads form source cs → Reads in_latin1 (take written new) ds → cs ≡ ds
   pub wrote_wide : (form : Form) (source old new cs ds : List ℕ) (n : ℕ) → WroteWide form source old new n → Reads form source cs → Spells in_utf16 (take (2 * n) new) ds → cs ≡ ds
-  pub widens : (form : Form) (source old new cs ds : List ℕ) (so_far n : ℕ) → Widens form source old new so_far n → so_far ≤ length old → IsTrue (all_latin1 (take so_far old)) → Reads form source cs → Spells in_utf16 (take (2 * (n - so_far)) (drop (2 * so_far) new)) ds → cs ≡ ds
-  pub widens_whole : (form : Form) (source old new cs ds : List ℕ) (so_far n : ℕ) → Widens form source old new so_far n → so_far ≤ length old → IsTrue (all_latin1 (take so_far old)) → Reads form source cs → Spells in_utf16 (take (2 * n) new) ds → take so_far old ++ cs ≡ ds
+  pub widens : (form : Form) (source old new cs ds : List ℕ) (so_far n : ℕ) → Widens form source old new so_far n → so_far ≤ length old → IsTrue (all_latin1 (take so_far old)) → Reads form source cs
+      → Spells in_utf16 (take (2 * (n - so_far)) (drop (2 * so_far) new)) ds → cs ≡ ds
+  pub widens_whole : (form : Form) (source old new cs ds : List ℕ) (so_far n : ℕ) → Widens form source old new so_far n → so_far ≤ length old → IsTrue (all_latin1 (take so_far old))
+      → Reads form source cs → Spells in_utf16 (take (2 * n) new) ds → take so_far old ++ cs ≡ ds
   pub compacts : (source new cs ds : List ℕ) (n : ℕ) → Compacts source new n → length source < 2 ^ 31 → Reads in_utf16 source cs → Spells (text_form compact n) (take (text_bytes compact n) new) ds → cs ≡ ds
   pub decodes : (form : Form) (bytes text cs ds : List ℕ) → Decodes form bytes text → Spells form bytes cs → Spells in_utf8 text ds → cs ≡ ds
 
 -- The definitions fix the answers and what is written.
 pub record OneAnswer : Type 0 where
   pub converts : (from to : Form) (source old a b : List ℕ) (m n : ℕ) → Converts from to source old a m → Converts from to source old b n → (m ≡ n) × (a ≡ b)
-  pub passed : (form : Form) (first : Bool) (source old a b : List ℕ) (read written read2 written2 : ℕ) → Passed form first source old a read written → Passed form first source old b read2 written2 → (read ≡ read2) × (written ≡ written2) × (a ≡ b)
+  pub passed : (form : Form) (first : Bool) (source old a b : List ℕ) (read written read2 written2 : ℕ) → Passed form first source old a read written → Passed form first source old b read2 written2
+      → (read ≡ read2) × (written ≡ written2) × (a ≡ b)
   pub refused : (form : Form) (first : Bool) (source old a b : List ℕ) (e f : TextError) → PassFails form first source old a e → PassFails form first source old b f → (error_place e ≡ error_place f) × (a ≡ b)
   pub narrows : (form : Form) (source old a b : List ℕ) (read written read2 written2 : ℕ) → Narrows form source old a read written → Narrows form source old b read2 written2 → (read ≡ read2) × (written ≡ written2) × (a ≡ b)
   pub widens : (form : Form) (source old a b : List ℕ) (so_far m n : ℕ) → Widens form source old a so_far m → Widens form source old b so_far n → (m ≡ n) × (a ≡ b)

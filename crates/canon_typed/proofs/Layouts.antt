@@ -64,7 +64,8 @@ pub option_abi : (Fit : Instance → InterfaceType → Type 0) (some abi : Canon
     → ((k : VariantKind) (cs : Cases) → AreOfCases (None ∷ Some some ∷ []) cs → HasLayout abi (variant k cs) × HasInfo info cs)
     → (i : Instance) (type : InterfaceType) → IsOptionOf Fit i type → LiesAsCases abi info (shape_of i.types type)
 option_abi Fit some abi info part lay i (ty.Option x) (type, d, f) =
-    subst (λ (s : Shape). LiesAsCases abi info s) (sym d.shape) (cases_lie abi info of_option (bare [] (payload [] (shape_of i.types type) no_cases)) (lay of_option (bare [] (payload [] (shape_of i.types type) no_cases)) (part i type f, tt)))
+    subst (λ (s : Shape). LiesAsCases abi info s) (sym d.shape)
+    (cases_lie abi info of_option (bare [] (payload [] (shape_of i.types type) no_cases)) (lay of_option (bare [] (payload [] (shape_of i.types type) no_cases)) (part i type f, tt)))
 option_abi Fit some abi info part lay i _ f = absurd f
 
 -- a payload's numbers are those of the case that it makes

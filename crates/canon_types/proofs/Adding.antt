@@ -29,20 +29,23 @@ all_from_list_all test (t ∷ ts) h =
     All-cons (λ type. IsTrue (test type)) t ts both.0 (all_from_list_all test ts both.1)
 
 -- a refusal goes by its three parts
-pub refusal_parts : (t : TypeTable) (d : Definition) → refusal t d ≡ or_else (parts_refusal t (parts d) (is_empty d)) (or_else (names_refusal (names d) (most_names d)) (shape_refusal t (depth (defined_shape (all_shapes t) d)) (wider_size (laid_shape (all_shapes t) d))))
+pub refusal_parts : (t : TypeTable) (d : Definition) → refusal t d ≡ or_else (parts_refusal t (parts d) (is_empty d))
+    (or_else (names_refusal (names d) (most_names d)) (shape_refusal t (depth (defined_shape (all_shapes t) d)) (wider_size (laid_shape (all_shapes t) d))))
 refusal_parts t d = refl
 
 pub refused_at_parts : (t : TypeTable) (d : Definition) (e : TypeError) → parts_refusal t (parts d) (is_empty d) ≡ Some e → refusal t d ≡ Some e
 refused_at_parts t d e h = refusal_parts t d ∙ ap (λ (o : Option TypeError). or_else o (or_else (names_refusal (names d) (most_names d)) (shape_refusal t (depth (defined_shape (all_shapes t) d)) (wider_size (laid_shape (all_shapes t) d))))) h
 
-pub refused_at_names : (t : TypeTable) (d : Definition) (o : Option TypeError) → parts_refusal t (parts d) (is_empty d) ≡ None → names_refusal (names d) (most_names d) ≡ o → refusal t d ≡ or_else o (shape_refusal t (depth (defined_shape (all_shapes t) d)) (wider_size (laid_shape (all_shapes t) d)))
+pub refused_at_names : (t : TypeTable) (d : Definition) (o : Option TypeError) → parts_refusal t (parts d) (is_empty d) ≡ None → names_refusal (names d) (most_names d) ≡ o
+    → refusal t d ≡ or_else o (shape_refusal t (depth (defined_shape (all_shapes t) d)) (wider_size (laid_shape (all_shapes t) d)))
 refused_at_names t d o parts_pass h =
     refusal_parts t d
     ∙ ap (λ (x : Option TypeError). or_else x (or_else (names_refusal (names d) (most_names d)) (shape_refusal t (depth (defined_shape (all_shapes t) d)) (wider_size (laid_shape (all_shapes t) d))))) parts_pass
     ∙ ap (λ (x : Option TypeError). or_else x (shape_refusal t (depth (defined_shape (all_shapes t) d)) (wider_size (laid_shape (all_shapes t) d)))) h
 
 -- past the parts and the names, the shape decides
-pub refused_at_shape : (t : TypeTable) (d : Definition) → parts_refusal t (parts d) (is_empty d) ≡ None → names_refusal (names d) (most_names d) ≡ None → refusal t d ≡ shape_refusal t (depth (defined_shape (all_shapes t) d)) (wider_size (laid_shape (all_shapes t) d))
+pub refused_at_shape : (t : TypeTable) (d : Definition) → parts_refusal t (parts d) (is_empty d) ≡ None → names_refusal (names d) (most_names d) ≡ None
+    → refusal t d ≡ shape_refusal t (depth (defined_shape (all_shapes t) d)) (wider_size (laid_shape (all_shapes t) d))
 refused_at_shape t d parts_pass names_pass = refused_at_names t d None parts_pass names_pass
 
 accepted_passes : (t : TypeTable) (d : Definition) → refusal t d ≡ None → parts_refusal t (parts d) (is_empty d) ≡ None
@@ -97,14 +100,16 @@ pub record Before (t : TypeTable) (d : Definition) : Type 0 where
   pub passes : Passes t d
   pub shallow : depth (defined_shape (all_shapes t) d) ≤ 100
 
-pub before : (t : TypeTable) (d : Definition) (types measured : List InterfaceType) (empty : Bool) (m : ℕ) → types ≡ parts d → measured ≡ parts d → empty ≡ is_empty d → None ≡ parts_refusal t types empty → names_refusal (names d) (most_names d) ≡ None
+pub before : (t : TypeTable) (d : Definition) (types measured : List InterfaceType) (empty : Bool) (m : ℕ) → types ≡ parts d → measured ≡ parts d → empty ≡ is_empty d
+    → None ≡ parts_refusal t types empty → names_refusal (names d) (most_names d) ≡ None
     → m ≡ 1 + deepest (members_of t measured) → m ≤ 100 → Before t d
 before t d types measured empty m same_types same_measured same_empty h names_pass deep few = record {
   passes = passes_by t d types empty same_types same_empty h names_pass;
   shallow = omega (arith, depth_defined (all_shapes t) d, deep, ap (λ (ts : List InterfaceType). deepest (members_of t ts)) same_measured);
 }
 
-pub deep_refused : (t : TypeTable) (d : Definition) (types measured : List InterfaceType) (empty : Bool) → types ≡ parts d → measured ≡ parts d → empty ≡ is_empty d → None ≡ parts_refusal t types empty → names_refusal (names d) (most_names d) ≡ None
+pub deep_refused : (t : TypeTable) (d : Definition) (types measured : List InterfaceType) (empty : Bool) → types ≡ parts d → measured ≡ parts d → empty ≡ is_empty d
+    → None ≡ parts_refusal t types empty → names_refusal (names d) (most_names d) ≡ None
     → 100 < 1 + deepest (members_of t measured) → refusal t d ≡ Some error.TooDeep
 deep_refused t d types measured empty same_types same_measured same_empty h names_pass deep =
     refused_deep t d (passes_by t d types empty same_types same_empty h names_pass)

@@ -36,12 +36,14 @@ pub func_table_along : (c : Inside) (t : TypeTable) (items : List Entry) (p r : 
     f.results ≡ length t.definitions + 1 → record { definitions = definitions_of items; funcs = funcs; resources = c.resources.items } ≡ with_func_of
     t (definition_of p.item) (definition_of r.item) f.async_
 func_table_along c t items p r funcs f view same added =
-    let P : TypeTable → Type 0 = λ x. f.params ≡ length x.definitions → f.results ≡ length x.definitions + 1 → record { definitions = definitions_of items; funcs = funcs; resources = c.resources.items } ≡ with_func_of x (definition_of p.item) (definition_of r.item) f.async_ in
+    let P : TypeTable → Type 0 = λ x. f.params ≡ length x.definitions → f.results ≡ length x.definitions + 1
+    → record { definitions = definitions_of items; funcs = funcs; resources = c.resources.items } ≡ with_func_of x (definition_of p.item) (definition_of r.item) f.async_ in
     subst P view (func_table c items p r funcs f same added)
 
 -- ---- the functions
 
-over_new : (t new : TypeTable) (p r : Definition) (f : TypeFunc) → new.definitions ≡ t.definitions ++ p ∷ [] ++ r ∷ [] → f.params ≡ length t.definitions → f.results ≡ length t.definitions + 1 → is_tuple p ≡ true → is_tuple r ≡ true → IsOver new f
+over_new : (t new : TypeTable) (p r : Definition) (f : TypeFunc) → new.definitions ≡ t.definitions ++ p ∷ [] ++ r ∷ [] → f.params ≡ length t.definitions → f.results ≡ length t.definitions + 1
+    → is_tuple p ≡ true → is_tuple r ≡ true → IsOver new f
 over_new t new p r f grown at after hp hr =
     let one = with_definition t p in
     let two = with_definition one r in
@@ -52,7 +54,8 @@ over_new t new p r f grown at after hp hr =
     }
 
 -- no borrowed handle occurs in the second tuple, so none in the function's results
-plain_new : (t new : TypeTable) (p r : Definition) (f : TypeFunc) → new.definitions ≡ t.definitions ++ p ∷ [] ++ r ∷ [] → f.results ≡ length t.definitions + 1 → is_tuple r ≡ true → All (Knows t) (parts r) → has_borrow (defined_shape (all_shapes t) r) ≡ false
+plain_new : (t new : TypeTable) (p r : Definition) (f : TypeFunc) → new.definitions ≡ t.definitions ++ p ∷ [] ++ r ∷ [] → f.results ≡ length t.definitions + 1 → is_tuple r ≡ true
+    → All (Knows t) (parts r) → has_borrow (defined_shape (all_shapes t) r) ≡ false
     → has_borrow (shape_of new (ty.Tuple f.results)) ≡ false
 plain_new t new p r f grown after hr known plain =
     let one = with_definition t p in
@@ -62,7 +65,8 @@ plain_new t new p r f grown after hr known plain =
     shape_more (with_definition one r) new [] type (grown ∙ sym (append-nil (t.definitions ++ p ∷ [] ++ r ∷ []))) (has_new is_tuple one r f.results second hr) in
     ap has_borrow (same ∙ new_shape one r type (ap Some second) ∙ defined_shape-with t p r known) ∙ plain
 
-pub funcs-func : (c : Inside) (t : TypeTable) (items : List Entry) (p r : Entry) (funcs : List TypeFunc) (f : TypeFunc) → table c ≡ t → items ≡ c.entries.items ++ p ∷ [] ++ r ∷ [] → funcs ≡ c.funcs.items ++ f ∷ [] → f.params ≡ length t.definitions → f.results ≡ length t.definitions + 1
+pub funcs-func : (c : Inside) (t : TypeTable) (items : List Entry) (p r : Entry) (funcs : List TypeFunc) (f : TypeFunc) → table c ≡ t → items ≡ c.entries.items ++ p ∷ [] ++ r ∷ []
+    → funcs ≡ c.funcs.items ++ f ∷ [] → f.params ≡ length t.definitions → f.results ≡ length t.definitions + 1
     → is_tuple (definition_of p.item) ≡ true → is_tuple (definition_of r.item) ≡ true → IsEntry t (defined_shape (all_shapes t) (definition_of r.item)) r → r.has_borrow ≡ false
     → All (IsFunc (table c)) c.funcs.items → All (IsFunc (record { definitions = definitions_of items; funcs = funcs; resources = c.resources.items })) funcs
 funcs-func c t items p r funcs f view same added at after hp hr entry plain h =
@@ -79,7 +83,8 @@ funcs-func c t items p r funcs f view same added at after hp hr entry plain h =
     subst (λ (fs : List TypeFunc). All (IsFunc new) fs) (sym added) (All-push (IsFunc new) c.funcs.items f (all_funcs_more (table c) new (definition_of p.item ∷ definition_of r.item ∷ []) c.funcs.items grown2 h) last)
 
 -- the functions don't depend on what functions and resources there are
-pub funcs-same : (c : Inside) (items : List Entry) (gs : List TypeFunc) (rs : List TypeResourceTable) → items ≡ c.entries.items → All (IsFunc (table c)) c.funcs.items → All (IsFunc (record { definitions = definitions_of items; funcs = gs; resources = rs })) c.funcs.items
+pub funcs-same : (c : Inside) (items : List Entry) (gs : List TypeFunc) (rs : List TypeResourceTable) → items ≡ c.entries.items → All (IsFunc (table c)) c.funcs.items
+    → All (IsFunc (record { definitions = definitions_of items; funcs = gs; resources = rs })) c.funcs.items
 funcs-same c items gs rs same h =
     all_funcs_more (table c) (record { definitions = definitions_of items; funcs = gs; resources = rs }) [] c.funcs.items (ap definitions_of same ∙ sym (append-nil (definitions_of c.entries.items))) h
 
@@ -103,7 +108,8 @@ knows-resources t rs (ty.Flags i) more h = h
 knows-resources t rs (ty.FixedLengthList i) more h = h
 knows-resources t rs _ more h = refl
 
-pub entries_fit-resources : (c : Inside) (rs : List TypeResourceTable) → length c.resources.items ≤ length rs → EntriesFit (table c) c.entries.items → EntriesFit (record { definitions = definitions_of c.entries.items; funcs = c.funcs.items; resources = rs }) c.entries.items
+pub entries_fit-resources : (c : Inside) (rs : List TypeResourceTable) → length c.resources.items ≤ length rs → EntriesFit (table c) c.entries.items
+    → EntriesFit (record { definitions = definitions_of c.entries.items; funcs = c.funcs.items; resources = rs }) c.entries.items
 unfolding all_shapes
 entries_fit-resources c rs more fit = λ i e lt. record {
   known = λ k x below. knows-resources (table c) rs _ more ((fit i e lt).known k x below);

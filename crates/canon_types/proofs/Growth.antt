@@ -171,7 +171,8 @@ entry_along t s s' e e' same_shape same_entry h =
     subst (λ (x : Entry). IsEntry t s' x) (sym same_entry) (subst (λ (x : Shape). IsEntry t x e) (sym same_shape) h)
 
 -- one entry more, of known parts
-pub entries_fit-push : (t : TypeTable) (entries : List Entry) (e : Entry) → t.definitions ≡ map (λ x. definition_of x.item) entries → EntriesFit t entries → IsEntry t (defined_shape (all_shapes t) (definition_of e.item)) e → EntriesFit (with_definition t (definition_of e.item)) (entries ++ e ∷ [])
+pub entries_fit-push : (t : TypeTable) (entries : List Entry) (e : Entry) → t.definitions ≡ map (λ x. definition_of x.item) entries → EntriesFit t entries
+    → IsEntry t (defined_shape (all_shapes t) (definition_of e.item)) e → EntriesFit (with_definition t (definition_of e.item)) (entries ++ e ∷ [])
 entries_fit-push t entries e defs fit new i x lt = go (cases_lt i (length entries))
   where
     d : Definition
@@ -210,7 +211,8 @@ kept-push c t items e view same fit new =
     subst (λ (xs : List Entry). EntriesFit (record { definitions = definitions_of xs; funcs = c.funcs.items; resources = c.resources.items }) xs) (sym same) (subst Fit grown pushed)
 
 -- entries do not depend on the functions
-entries_fit-funcs : (ds : List Definition) (fs gs : List TypeFunc) (n : List TypeResourceTable) (entries : List Entry) → EntriesFit (record { definitions = ds; funcs = fs; resources = n }) entries → EntriesFit (record { definitions = ds; funcs = gs; resources = n }) entries
+entries_fit-funcs : (ds : List Definition) (fs gs : List TypeFunc) (n : List TypeResourceTable) (entries : List Entry) → EntriesFit (record { definitions = ds; funcs = fs; resources = n }) entries
+    → EntriesFit (record { definitions = ds; funcs = gs; resources = n }) entries
 unfolding all_shapes
 entries_fit-funcs ds fs gs n entries fit = λ i e lt. record {
   known = (fit i e lt).known;
@@ -249,7 +251,8 @@ kept-push_two c t items p r funcs view same fit first second =
     (entries_fit-funcs (definitions_of all) c.funcs.items funcs c.resources.items all (subst Fit ds pushed))
 
 -- the same entries, whatever becomes of the functions
-pub kept-same : (c : Inside) (items : List Entry) (funcs : List TypeFunc) → items ≡ c.entries.items → EntriesFit (table c) c.entries.items → EntriesFit (record { definitions = definitions_of items; funcs = funcs; resources = c.resources.items }) items
+pub kept-same : (c : Inside) (items : List Entry) (funcs : List TypeFunc) → items ≡ c.entries.items → EntriesFit (table c) c.entries.items
+    → EntriesFit (record { definitions = definitions_of items; funcs = funcs; resources = c.resources.items }) items
 kept-same c items funcs same fit =
     subst (λ (xs : List Entry). EntriesFit (record { definitions = definitions_of xs; funcs = funcs; resources = c.resources.items }) xs) (sym same)
     (entries_fit-funcs (definitions_of c.entries.items) c.funcs.items funcs c.resources.items c.entries.items fit)
@@ -308,7 +311,8 @@ pub all_funcs_more : (t new : TypeTable) (more : List Definition) (fs : List Typ
 all_funcs_more t new more fs grown h = λ k f lt. func_more t new more _ grown (h k f lt)
 
 -- the functions stay over tuples of the table where an entry is added
-pub funcs-push : (c : Inside) (items : List Entry) (e : Entry) → items ≡ c.entries.items ++ e ∷ [] → All (IsFunc (table c)) c.funcs.items → All (IsFunc (record { definitions = definitions_of items; funcs = c.funcs.items; resources = c.resources.items })) c.funcs.items
+pub funcs-push : (c : Inside) (items : List Entry) (e : Entry) → items ≡ c.entries.items ++ e ∷ [] → All (IsFunc (table c)) c.funcs.items
+    → All (IsFunc (record { definitions = definitions_of items; funcs = c.funcs.items; resources = c.resources.items })) c.funcs.items
 funcs-push c items e same h =
     let grown : definitions_of items ≡ (table c).definitions ++ definition_of e.item ∷ [] = ap definitions_of same ∙ map-append (λ (x : Entry). definition_of x.item) c.entries.items (e ∷ []) in
     all_funcs_more (table c) (record { definitions = definitions_of items; funcs = c.funcs.items; resources = c.resources.items }) (definition_of e.item ∷ []) c.funcs.items grown h

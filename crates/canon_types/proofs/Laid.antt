@@ -166,7 +166,8 @@ named_same known cs = record {
 pub variant_bytes : (known : List Shape) (k j : VariantKind) (cs : List (Name × Option InterfaceType)) → wider_size (variant k (cases_in known cs)) ≡ wider_size (variant j (unnamed_cases known (map (λ c. c.1) cs)))
 variant_bytes known k j cs = wider_same _ _ (λ wide. same_size wide k j _ _ (named_same known cs))
 
-pub variant_laid : (known : List Shape) (abi : CanonicalAbiInfo) (k j : VariantKind) (cs : List (Name × Option InterfaceType)) → HasLayout abi (variant j (unnamed_cases known (map (λ c. c.1) cs))) → HasLayout abi (variant k (cases_in known cs))
+pub variant_laid : (known : List Shape) (abi : CanonicalAbiInfo) (k j : VariantKind) (cs : List (Name × Option InterfaceType)) → HasLayout abi (variant j (unnamed_cases known (map (λ c. c.1) cs)))
+    → HasLayout abi (variant k (cases_in known cs))
 variant_laid known abi k j cs = same_laid abi k j _ _ (named_same known cs)
 
 pub variant_told : (known : List Shape) (info : VariantInfo) (cs : List (Name × Option InterfaceType)) → HasInfo info (unnamed_cases known (map (λ c. c.1) cs)) → HasInfo info (cases_in known cs)
@@ -187,7 +188,8 @@ pub result_bytes : (known : List Shape) (ok error : Option InterfaceType) → wi
 unfolding size
 result_bytes known ok error = ap (λ (cs : Cases). wider_size (variant of_result cs)) (result_cases known ok error)
 
-pub result_laid : (known : List Shape) (abi : CanonicalAbiInfo) (ok error : Option InterfaceType) → HasLayout abi (variant of_option (unnamed_cases known (ok ∷ error ∷ []))) → HasLayout abi (result_of (payload_in known ok) (payload_in known error))
+pub result_laid : (known : List Shape) (abi : CanonicalAbiInfo) (ok error : Option InterfaceType) → HasLayout abi (variant of_option (unnamed_cases known (ok ∷ error ∷ [])))
+    → HasLayout abi (result_of (payload_in known ok) (payload_in known error))
 result_laid known abi ok error h =
     subst (λ (cs : Cases). HasLayout abi (variant of_result cs)) (result_cases known ok error) (kind_laid abi of_result of_option (unnamed_cases known (ok ∷ error ∷ [])) h)
 

@@ -45,7 +45,8 @@ pub names_apart : (ns : List Name) (most : ℕ) → names_refusal ns most ≡ No
 names_apart ns most h = grind (arith, nat_tests)
 
 -- a definition whose names are refused
-pub names_refused : (t : TypeTable) (d : Definition) (types : List InterfaceType) (empty : Bool) (e : TypeError) → types ≡ parts d → empty ≡ is_empty d → None ≡ parts_refusal t types empty → names_refusal (names d) (most_names d) ≡ Some e → refusal t d ≡ Some e
+pub names_refused : (t : TypeTable) (d : Definition) (types : List InterfaceType) (empty : Bool) (e : TypeError) → types ≡ parts d → empty ≡ is_empty d → None ≡ parts_refusal t types empty
+    → names_refusal (names d) (most_names d) ≡ Some e → refusal t d ≡ Some e
 names_refused t d types empty e same_types same_empty h refused =
     refused_at_names t d (Some e) (sym (h ∙ ap (λ (ts : List InterfaceType). parts_refusal t ts empty) same_types ∙ ap (parts_refusal t (parts d)) same_empty)) refused
 

@@ -104,7 +104,8 @@ measured t d types empty m b same_types same_empty unnamed h deep borrows small 
     measured_by t d types m b (before_measured t d types empty same_types same_empty pass m h deep) same_types (measured_parts t types empty h) deep borrows (ap has_repeats unnamed) small
 
 -- an entry of what was measured
-pub entry_measured : (t : TypeTable) (e : Entry) → IsMeasured t (definition_of e.item) e.depth e.has_borrow → KeepsLayout e.item (defined_shape (all_shapes t) (definition_of e.item)) → IsEntry t (defined_shape (all_shapes t) (definition_of e.item)) e
+pub entry_measured : (t : TypeTable) (e : Entry) → IsMeasured t (definition_of e.item) e.depth e.has_borrow → KeepsLayout e.item (defined_shape (all_shapes t) (definition_of e.item))
+    → IsEntry t (defined_shape (all_shapes t) (definition_of e.item)) e
 entry_measured t e m laid = is_entry t (definition_of e.item) e refl m.known m.depth m.borrows m.names laid
 
 pub full_refused : (t : TypeTable) (d : Definition) → FitsWithRoom t d → is_full_for 1 t ≡ true → refusal t d ≡ Some error.TooManyTypes

@@ -59,8 +59,10 @@ no_trap : (a b : Moment) (answers : List Answer) (trap : Option Trap) (r : Resul
 no_trap a b answers trap (Ok n) h cause = cause
 no_trap a b answers trap (Err e) h cause = subst (λ end. CauseOf a b answers trap end) h cause
 
-module _ {T G : Type 0} (L : GuestLaws G) (options options2 : ℕ) (a b c : Parts T G) (j : ℕ) (vs : List Val) (p : ℕ) (far : max_params < members_flat (tuple_members (component_types a) j)) (count : length vs ≡ member_count (tuple_members (component_types a) j))
-    (g : AsksFor L.seen L.moves a b (args_call false (tuple_members (component_types a) j)) (Ok p)) (eo : options2 ≡ options) (r : Result ℕ Fault) (h : PartsStoreTo L.seen L.moves options2 b c 0 (tuple_members (component_types b) j) 0 p (no_names vs) vs 0 r) where
+module _ {T G : Type 0} (L : GuestLaws G) (options options2 : ℕ) (a b c : Parts T G) (j : ℕ) (vs : List Val) (p : ℕ) (far : max_params < members_flat (tuple_members (component_types a) j))
+    (count : length vs ≡ member_count (tuple_members (component_types a) j))
+    (g : AsksFor L.seen L.moves a b (args_call false (tuple_members (component_types a) j)) (Ok p)) (eo : options2 ≡ options) (r : Result ℕ Fault)
+    (h : PartsStoreTo L.seen L.moves options2 b c 0 (tuple_members (component_types b) j) 0 p (no_names vs) vs 0 r) where
   abbrev ms : Members
   ms = tuple_members (component_types a) j
 
@@ -70,7 +72,8 @@ module _ {T G : Type 0} (L : GuestLaws G) (options options2 : ℕ) (a b c : Part
       (subst (λ (n : ℕ). PartsStoreTo L.seen L.moves n b c 0 (tuple_members (component_types b) j) 0 p (no_names vs) vs 0 r) eo h)
 
   storing : StoresMembers false (stage_of L.seen L.moves b) (stage_of L.seen L.moves c) (host_texts (encoding_by a options)) ms 0 p (MemberNamed ms (no_names vs) vs) stood.handles (ending_of r)
-  storing = subst (λ (x : Encoding). StoresMembers false (stage_of L.seen L.moves b) (stage_of L.seen L.moves c) (host_texts x) ms 0 p (MemberNamed ms (no_names vs) vs) stood.handles (ending_of r)) (same_encoding a b options g.same) stood.storing
+  storing = subst (λ (x : Encoding). StoresMembers false (stage_of L.seen L.moves b) (stage_of L.seen L.moves c) (host_texts x) ms 0 p (MemberNamed ms (no_names vs) vs) stood.handles (ending_of r))
+      (same_encoding a b options g.same) stood.storing
 
   from : (ts : Trees) → HaveTrees ms vs ts → MemberNamed ms (no_names vs) vs ts
   from ts have = (tuple_names (component_types a) j vs count, have)
@@ -78,10 +81,13 @@ module _ {T G : Type 0} (L : GuestLaws G) (options options2 : ℕ) (a b c : Part
   -- the block is given, and the members are stored there
   lowered : LowersParams (stage_of L.seen L.moves a) (stage_of L.seen L.moves c) (encoding_by a options) ms (HaveTrees ms vs) (p ∷ []) stood.handles (ending_of r)
   lowered = record {
-    lowered = args_far false (host_texts (encoding_by a options)) ms (MemberNamed ms (no_names vs) vs) (HaveTrees ms vs) (λ ts have. have.1) from (stage_of L.seen L.moves a) (stage_of L.seen L.moves b) (stage_of L.seen L.moves c) p (ending_of r) far g.small g.does storing;
+    lowered = args_far false (host_texts (encoding_by a options)) ms (MemberNamed ms (no_names vs) vs) (HaveTrees ms vs) (λ ts have. have.1) from (stage_of L.seen L.moves a)
+        (stage_of L.seen L.moves b) (stage_of L.seen L.moves c) p (ending_of r) far g.small g.does storing;
     asks = λ many. (
-      far_first false (host_texts (encoding_by a options)) ms (MemberNamed ms (no_names vs) vs) (HaveTrees ms vs) (λ ts have. have.1) from (stage_of L.seen L.moves a) (stage_of L.seen L.moves b) (stage_of L.seen L.moves c) p (ending_of r) far g.small g.does storing,
-      λ quiet. far_only false (host_texts (encoding_by a options)) ms (MemberNamed ms (no_names vs) vs) (HaveTrees ms vs) (λ ts have. have.1) from (stage_of L.seen L.moves a) (stage_of L.seen L.moves b) (stage_of L.seen L.moves c) p (ending_of r) far g.small g.does storing
+      far_first false (host_texts (encoding_by a options)) ms (MemberNamed ms (no_names vs) vs) (HaveTrees ms vs) (λ ts have. have.1) from (stage_of L.seen L.moves a) (stage_of L.seen L.moves b)
+          (stage_of L.seen L.moves c) p (ending_of r) far g.small g.does storing,
+      λ quiet. far_only false (host_texts (encoding_by a options)) ms (MemberNamed ms (no_names vs) vs) (HaveTrees ms vs) (λ ts have. have.1) from (stage_of L.seen L.moves a)
+          (stage_of L.seen L.moves b) (stage_of L.seen L.moves c) p (ending_of r) far g.small g.does storing
           (none_answered (L.seen b.guest).marks storing.answers (ap (λ (x : G). (L.seen x).marks) (sym (stood.quiet quiet).0) ∙ storing.lowering.goes.marks))
           (no_trap (moment_of L.seen b) (moment_of L.seen c) storing.answers storing.trap r (stood.quiet quiet).1 storing.lowering.cause),
     );

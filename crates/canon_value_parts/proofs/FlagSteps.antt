@@ -111,7 +111,8 @@ module _ {T G : Type 0} (L : GuestLaws G) (options : ℕ) (a : Parts T G) (names
     unfolding flat
     flags_lower to (below, (least, marked, known)) ew ep = subst (λ (x : Shape). LowersTo L.seen L.moves options a a dst dst2 from (Ok to) x (val.Flags set)) (sym is) (record {
       handles = [];
-      lowered = flags_words false (stage_of L.seen L.moves a) (host_texts (encoding_by a options)) dst2 from.word (HasTree (flags names) (val.Flags set)) small names below least (names_of set.items, _, (set, refl, refl), known, refl, marked, λ h. any_order h);
+      lowered = flags_words false (stage_of L.seen L.moves a) (host_texts (encoding_by a options)) dst2 from.word (HasTree (flags names) (val.Flags set)) small names below least
+          (names_of set.items, _, (set, refl, refl), known, refl, marked, λ h. any_order h);
       handed = passes_none a.component.types a.ledger a.ledger (passes (val.Flags set) (flags names)) refl (flags_none names set);
       stays = stays;
       passed = ew;

@@ -80,7 +80,8 @@ stopped : (types : Instance) (before after : LedgerState) (l : Leaf) (e : Resour
 stopped types before after l resource.OutOfMemory h = record { lifts = leaves_stop_one (refusal_of resource.OutOfMemory) before after (lift_parts types l) h; is = tt; refusal = inl refl }
 stopped types before after l (resource.UnknownHandle n) h = record { lifts = leaves_stop_one (refusal_of (resource.UnknownHandle n)) before after (lift_parts types l) h; is = tt; refusal = inr ((resource.UnknownHandle n), refl, refl) }
 stopped types before after l (resource.NotAResource n) h = record { lifts = leaves_stop_one (refusal_of (resource.NotAResource n)) before after (lift_parts types l) h; is = tt; refusal = inr ((resource.NotAResource n), refl, refl) }
-stopped types before after l resource.ResourceTypeMismatch h = record { lifts = leaves_stop_one (refusal_of resource.ResourceTypeMismatch) before after (lift_parts types l) h; is = tt; refusal = inr (resource.ResourceTypeMismatch, refl, refl) }
+stopped types before after l resource.ResourceTypeMismatch h =
+    record { lifts = leaves_stop_one (refusal_of resource.ResourceTypeMismatch) before after (lift_parts types l) h; is = tt; refusal = inr (resource.ResourceTypeMismatch, refl, refl) }
 stopped types before after l (resource.StillLent n) h = record { lifts = leaves_stop_one (refusal_of (resource.StillLent n)) before after (lift_parts types l) h; is = tt; refusal = inr ((resource.StillLent n), refl, refl) }
 stopped types before after l (resource.TooManyLends n) h = record { lifts = leaves_stop_one (refusal_of (resource.TooManyLends n)) before after (lift_parts types l) h; is = tt; refusal = inr ((resource.TooManyLends n), refl, refl) }
 stopped types before after l resource.HandleLimit h = record { lifts = leaves_stop_one (refusal_of resource.HandleLimit) before after (lift_parts types l) h; is = tt; refusal = inr (resource.HandleLimit, refl, refl) }
@@ -88,7 +89,8 @@ stopped types before after l resource.IndexOverflow h = record { lifts = leaves_
 stopped types before after l resource.BorrowAsOwn h = record { lifts = leaves_stop_one (refusal_of resource.BorrowAsOwn) before after (lift_parts types l) h; is = tt; refusal = inr (resource.BorrowAsOwn, refl, refl) }
 stopped types before after l resource.HostConsumed h = record { lifts = leaves_stop_one (refusal_of resource.HostConsumed) before after (lift_parts types l) h; is = tt; refusal = inr (resource.HostConsumed, refl, refl) }
 stopped types before after l resource.HostDeallocated h = record { lifts = leaves_stop_one (refusal_of resource.HostDeallocated) before after (lift_parts types l) h; is = tt; refusal = inr (resource.HostDeallocated, refl, refl) }
-stopped types before after l resource.GenerationExhausted h = record { lifts = leaves_stop_one (refusal_of resource.GenerationExhausted) before after (lift_parts types l) h; is = tt; refusal = inr (resource.GenerationExhausted, refl, refl) }
+stopped types before after l resource.GenerationExhausted h =
+    record { lifts = leaves_stop_one (refusal_of resource.GenerationExhausted) before after (lift_parts types l) h; is = tt; refusal = inr (resource.GenerationExhausted, refl, refl) }
 stopped types before after l resource.BorrowsRemain h = record { lifts = leaves_stop_one (refusal_of resource.BorrowsRemain) before after (lift_parts types l) h; is = tt; refusal = inr (resource.BorrowsRemain, refl, refl) }
 stopped types before after l resource.NoScope h = record { lifts = leaves_stop_one (refusal_of resource.NoScope) before after (lift_parts types l) h; is = tt; refusal = inr (resource.NoScope, refl, refl) }
 

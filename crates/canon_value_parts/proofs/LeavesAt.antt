@@ -64,7 +64,8 @@ module _ (bytes : List ℕ) where
       let second = ap (λ c. reach_leaves (narrow bytes) u c) (second_at false s u o base h a b is) in
       let rest = pairs_leaves s u n (ends false (ends false o s) u) (base + pair_size false s u) a (b + pair_size false s u) (next_pair false s u o base h) (omega (arith, is)) in
       ap₂ (λ (xs ys : List Leaf). xs ++ ys) first (ap₂ (λ (xs ys : List Leaf). xs ++ ys) second rest)
-      ∙ two_first (reach_leaves (narrow bytes) s (b + begins false 0 s)) (reach_leaves (narrow bytes) u (b + begins false (ends false 0 s) u)) (list_at (λ c. reach_leaves (narrow bytes) (pair_shape s u) c) (pair_size false s u) (b + pair_size false s u) n)
+      ∙ two_first (reach_leaves (narrow bytes) s (b + begins false 0 s)) (reach_leaves (narrow bytes) u (b + begins false (ends false 0 s) u))
+      (list_at (λ c. reach_leaves (narrow bytes) (pair_shape s u) c) (pair_size false s u) (b + pair_size false s u) n)
 
   pub fixed_leaves : (n a : ℕ) (s : Shape) → list_at (λ c. reach_leaves (narrow bytes) s c) (size false s) a n ≡ members_reach_leaves (narrow bytes) (copies n s) 0 a
   fixed_leaves n a s = sym (copies_leaves n 0 a a s (at_zero s) (omega arith))

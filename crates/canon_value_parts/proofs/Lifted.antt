@@ -117,7 +117,8 @@ module _ (types : Instance) where
       pub taking_stops_first : {T : Type 0} (its : T → List Any) (r : Result T Fault) (e : Fault) → IsErr r × IsErrAnd r (λ x. x ≡ e) → LeavesStop (stop_of e) now (parts_of_leaves first) after → LiftsHandles its types before after all r
       taking_stops_first its r e told one =
           let whole : LeavesStop (stop_of e) now (parts_of_leaves rest) after =
-          subst (λ (ps : List (List Part)). LeavesStop (stop_of e) now ps after) (sym (ap (λ ls. parts_of_leaves ls) is ∙ map-append (lift_parts types) first more)) (leaves_stop_first (stop_of e) now after (parts_of_leaves first) (parts_of_leaves more) one) in
+          subst (λ (ps : List (List Part)). LeavesStop (stop_of e) now ps after) (sym (ap (λ ls. parts_of_leaves ls) is ∙ map-append (lift_parts types) first more))
+          (leaves_stop_first (stop_of e) now after (parts_of_leaves first) (parts_of_leaves more) one) in
           handed_to (λ x. LiftsHandles its types before after all x) r e told (taking_stops (stop_of e) after whole)
 
       pub taking_goes_on : (ys : List Any) → LeavesLift types now first ys after → IsTaking before after all more (xs ++ ys)

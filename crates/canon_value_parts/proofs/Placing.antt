@@ -45,7 +45,8 @@ module _ {T G : Type 0} (L : GuestLaws G) (options : ℕ) where
       → PlacesTo L.seen L.moves options a a s v place (Err e)
   unplaced a s v place e small is b = record {
     handles = [];
-    lowered = subst (λ (end : Ending). LowersValue false (stage_of L.seen L.moves a) (stage_of L.seen L.moves a) (host_texts (encoding_by a options)) s [] 0 (HasTree s v) [] end) (sym (own_ends e is)) (attempt_refused false (stage_of L.seen L.moves a) [] _ small);
+    lowered = subst (λ (end : Ending). LowersValue false (stage_of L.seen L.moves a) (stage_of L.seen L.moves a) (host_texts (encoding_by a options)) s [] 0 (HasTree s v) [] end)
+        (sym (own_ends e is)) (attempt_refused false (stage_of L.seen L.moves a) [] _ small);
     handed = passes_stopped a.component.types a.ledger a.ledger (passes v s) e refl (own_elsewhere e is);
     narrow = tt;
     counted = b;
@@ -130,7 +131,8 @@ module _ (whole : Shape) (v : Val) (n : ℕ) (ms : Members) (vs : List Val) (l :
       pub list_broken : (e : Fault) → PartsStoreTo L.seen L.moves options b c place ms 0 p (no_names vs) vs (cap (place + 1)) (Err e) → PlacesTo L.seen L.moves options a c whole v place (Err e)
       list_broken e h = by_parts (λ s. PlacesTo L.seen L.moves options a c s v place (Err e)) (record {
         handles = h.handles;
-        lowered = attempt_other false (stage_of L.seen L.moves a) (stage_of L.seen L.moves c) [] _ (value_words false (host_texts (encoding_by a options)) shape [] 0 (HasTree shape v)) (fault_ending e) (not_done e) (λ t has. (has, refl)) (row_words (Err e) h);
+        lowered = attempt_other false (stage_of L.seen L.moves a) (stage_of L.seen L.moves c) [] _ (value_words false (host_texts (encoding_by a options)) shape [] 0 (HasTree shape v))
+            (fault_ending e) (not_done e) (λ t has. (has, refl)) (row_words (Err e) h);
         handed = row_handed (Err e) h;
         narrow = tt;
         counted = row_counted (Err e) h;

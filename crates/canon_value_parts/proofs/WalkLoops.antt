@@ -95,7 +95,8 @@ module _ {T G : Type 0} (L : GuestLaws G) (options place : ℕ) (ms : Members) (
           rest = λ z r more. h.rest z r (told z r (parts_cons L options now now2 z place is.name is.named s (members_from (i + 1) ms) o at (drop (i + 1) names) m.value.now (drop (i + 1) vs) next next2 r (is.same.0 named) one more));
         })
 
-    pub stop : (now2 : Parts T G) (options2 p : ℕ) (e : Fault) → IsTrue m.is_named → options2 ≡ options → p ≡ begins false o s → StoresTo L.seen L.moves options2 now now2 (shape_of (component_types now) m.ty) (at + p) m.value.now next (Err e)
+    pub stop : (now2 : Parts T G) (options2 p : ℕ) (e : Fault) → IsTrue m.is_named → options2 ≡ options → p ≡ begins false o s
+        → StoresTo L.seen L.moves options2 now now2 (shape_of (component_types now) m.ty) (at + p) m.value.now next (Err e)
         → PartsStoreTo L.seen L.moves options start now2 place ms 0 at names vs from (Err e)
     stop now2 options2 p e named eo ep g = h.rest now2 (Err e) (told now2 (Err e)
         (parts_stop L options now now2 place is.name is.named s (members_from (i + 1) ms) o at (drop (i + 1) names) m.value.now (drop (i + 1) vs) next e (is.same.0 named) (stood now2 options2 p (Err e) eo ep g)))

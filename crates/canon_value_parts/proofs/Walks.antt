@@ -130,7 +130,8 @@ pub row_back : (n : ℕ) (s : Shape) (xs : Vec Val Global) → length xs.items �
 row_back n s xs is t has = (copies_names n s xs.items is, have_copies n s xs.items (trees_of t) is (list_trees s xs t has))
 
 -- a value that was lowered to words and not to its end
-stop_at : {K : Type 0} {hs : List ℕ} (wide : Bool) (a b : Stage K) (enc : Encoding) (s : Shape) (at : ℕ) (Has : Tree → Type 0) (ws : List ℕ) (e : Ending) → NotDone e → LowersValue wide a b (host_texts enc) s ws 0 Has hs e → StoresValue wide a b (host_texts enc) s at Has hs e
+stop_at : {K : Type 0} {hs : List ℕ} (wide : Bool) (a b : Stage K) (enc : Encoding) (s : Shape) (at : ℕ) (Has : Tree → Type 0) (ws : List ℕ) (e : Ending) → NotDone e
+    → LowersValue wide a b (host_texts enc) s ws 0 Has hs e → StoresValue wide a b (host_texts enc) s at Has hs e
 stop_at wide a b enc s at Has ws e not h = record {
   answers = h.answers;
   trap = h.trap;
@@ -147,7 +148,8 @@ module _ {T G : Type 0} (L : GuestLaws G) (options : ℕ) where
       → StoresTo L.seen L.moves options a a s at v from (Err e)
   value_refused a s at v from e small is b = record {
     handles = [];
-    storing = subst (λ (end : Ending). StoresValue false (stage_of L.seen L.moves a) (stage_of L.seen L.moves a) (host_texts (encoding_by a options)) s at (HasTree s v) [] end) (sym (own_ends e is)) (attempt_refused false (stage_of L.seen L.moves a) _ _ small);
+    storing = subst (λ (end : Ending). StoresValue false (stage_of L.seen L.moves a) (stage_of L.seen L.moves a) (host_texts (encoding_by a options)) s at (HasTree s v) [] end) (sym (own_ends e is))
+        (attempt_refused false (stage_of L.seen L.moves a) _ _ small);
     handed = passes_stopped a.component.types a.ledger a.ledger (passes v s) e refl (own_elsewhere e is);
     counted = b;
     same = refl;
@@ -166,7 +168,8 @@ module _ {T G : Type 0} (L : GuestLaws G) (options : ℕ) where
       subst (λ (bytes : List ℕ). StoresTo L.seen L.moves options a (record a { memory = bytes }) (shape_of (component_types a) type) at v place (Ok next)) (sym (written_whole a.memory m writes.same_length))
       (subst (λ (s : Shape). StoresTo L.seen L.moves options a (record a { memory = m }) s at v place (Ok next)) (sym shape) (record {
         handles = [];
-        storing = scalar_stored false (stage_of L.seen L.moves a) a.memory m (host_texts (encoding_by a options)) at (HasTree (scalar k) v) small k t (omega (arith, room, bytes)) (subst (λ (j : ℕ). Writes (block at j) a.memory m) bytes writes)
+        storing = scalar_stored false (stage_of L.seen L.moves a) a.memory m (host_texts (encoding_by a options)) at (HasTree (scalar k) v) small k t (omega (arith, room, bytes))
+            (subst (λ (j : ℕ). Writes (block at j) a.memory m) bytes writes)
             (subst (λ (j : ℕ). ScalarIs k j t) (sym there) is2) (subst (λ (j : ℕ). IsLeast k j) (sym there) least2) has;
         handed = passes_none a.component.types a.ledger a.ledger (passes v (scalar k)) refl (ap (passes v) (sym shape) ∙ none);
         counted = (omega (arith, counted, scalar_places k v t has), scalar_small (encoding_by a options) k v);
@@ -197,7 +200,8 @@ module _ {T G : Type 0} (L : GuestLaws G) (options : ℕ) where
     written : Attempt false (holding (stage_of L.seen L.moves b) b.memory) (holding (stage_of L.seen L.moves b) m) (pair_place false at ∷ []) (pair_aim false at x.pointer x.length) [] done
     written = pair_written false (stage_of L.seen L.moves b) b.memory m at x.pointer x.length small room w.writes w.pointer w.count
 
-    pub block_told : (s : Shape) → has_block s ≡ true → (h : PlacesTo L.seen L.moves options a b s v place (Ok x)) → StoresValue false (stage_of L.seen L.moves a) (holding (stage_of L.seen L.moves b) m) (host_texts (encoding_by a options)) s at (HasTree s v) h.handles done
+    pub block_told : (s : Shape) → has_block s ≡ true → (h : PlacesTo L.seen L.moves options a b s v place (Ok x))
+        → StoresValue false (stage_of L.seen L.moves a) (holding (stage_of L.seen L.moves b) m) (host_texts (encoding_by a options)) s at (HasTree s v) h.handles done
         → value_told (record b { memory = written_over b.memory m }) s
     block_told s block h storing = subst (λ (bytes : List ℕ). value_told (record b { memory = bytes }) s) (sym (written_whole b.memory m w.writes.same_length)) (record {
       handles = h.handles;
@@ -223,7 +227,8 @@ module _ {T G : Type 0} (L : GuestLaws G) (options : ℕ) where
   unfolding requests leaves
   parts_none a place at o from small few = record {
     handles = [];
-    storing = attempt_none false (stage_of L.seen L.moves a) _ (members_at false (host_texts (encoding_by a options)) no_members o at (MemberNamed no_members [] [])) no_trees small (refl, (refl, refl)) (λ ts h. refl) refl (λ pointer rest. refl);
+    storing = attempt_none false (stage_of L.seen L.moves a) _ (members_at false (host_texts (encoding_by a options)) no_members o at (MemberNamed no_members [] [])) no_trees small
+        (refl, (refl, refl)) (λ ts h. refl) refl (λ pointer rest. refl);
     handed = passes_none a.component.types a.ledger a.ledger [] refl refl;
     counted = (refl, omega (arith, few), none_small (encoding_by a options));
     same = refl;
@@ -234,9 +239,19 @@ module _ {T G : Type 0} (L : GuestLaws G) (options : ℕ) where
   first_and : {hs : List ℕ} (wide : Bool) (a b : Parts T G) (enc : Encoding) (name named : Name) (s : Shape) (ms : Members) (o at : ℕ) (names : List Name) (v : Val) (vs : List Val) (e : Ending) → named ≡ name
       → StoresMembers wide (stage_of L.seen L.moves a) (stage_of L.seen L.moves b) (host_texts enc) (member name s ms) o at (FirstAnd (HasTree s v) (MemberNamed ms names vs)) hs e
       → StoresMembers wide (stage_of L.seen L.moves a) (stage_of L.seen L.moves b) (host_texts enc) (member name s ms) o at (MemberNamed (member name s ms) (named ∷ names) (v ∷ vs)) hs e
-  first_and wide a b enc name named s ms o at names v vs e en h = attempt_as wide (stage_of L.seen L.moves a) (stage_of L.seen L.moves b) _ _ (members_at wide (host_texts enc) (member name s ms) o at (FirstAnd (HasTree s v) (MemberNamed ms names vs)))
+  first_and wide a b enc name named s ms o at names v vs e en h =
+      attempt_as wide (stage_of L.seen L.moves a) (stage_of L.seen L.moves b) _ _ (members_at wide (host_texts enc) (member name s ms) o at (FirstAnd (HasTree s v) (MemberNamed ms names vs)))
       (members_at wide (host_texts enc) (member name s ms) o at (MemberNamed (member name s ms) (named ∷ names) (v ∷ vs))) e (λ i q. q)
-      (record { turn = λ ts. ts; back = λ ts. ts; is = named_join name named s ms names v vs en; is_back = named_split name named s ms names v vs; asks = λ ts h. refl; rep = λ fresh ts is h. h; home = λ pointer ts xs ys is h. h; handles = λ ts h. refl }) h
+      (record {
+        turn = λ ts. ts;
+        back = λ ts. ts;
+        is = named_join name named s ms names v vs en;
+        is_back = named_split name named s ms names v vs;
+        asks = λ ts h. refl;
+        rep = λ fresh ts is h. h;
+        home = λ pointer ts xs ys is h. h;
+        handles = λ ts h. refl;
+      }) h
 
   pub parts_cons : (a b c : Parts T G) (place : ℕ) (name named : Name) (s : Shape) (ms : Members) (o at : ℕ) (names : List Name) (v : Val) (vs : List Val) (from mid : ℕ) (r : Result ℕ Fault) → named ≡ name
       → StoresTo L.seen L.moves options a b s (at + begins false o s) v from (Ok mid) → PartsStoreTo L.seen L.moves options b c place ms (ends false o s) at names vs mid r
@@ -244,7 +259,8 @@ module _ {T G : Type 0} (L : GuestLaws G) (options : ℕ) where
   parts_cons a b c place name named s ms o at names v vs from mid r en h k =
       let enc : Encoding = encoding_by a options in
       let rest : StoresMembers false (stage_of L.seen L.moves b) (stage_of L.seen L.moves c) (host_texts enc) ms (ends false o s) at (MemberNamed ms names vs) k.handles (ending_of r) =
-      subst (λ (x : Encoding). StoresMembers false (stage_of L.seen L.moves b) (stage_of L.seen L.moves c) (host_texts x) ms (ends false o s) at (MemberNamed ms names vs) k.handles (ending_of r)) (handles_encoding a b options h.same) k.storing in
+      subst (λ (x : Encoding). StoresMembers false (stage_of L.seen L.moves b) (stage_of L.seen L.moves c) (host_texts x) ms (ends false o s) at (MemberNamed ms names vs) k.handles (ending_of r))
+      (handles_encoding a b options h.same) k.storing in
       record {
         handles = h.handles ++ k.handles;
         storing = first_and false a c enc name named s ms o at names v vs (ending_of r) en
@@ -289,7 +305,8 @@ module _ {T G : Type 0} (L : GuestLaws G) (options : ℕ) where
       → StoresTo L.seen L.moves options a c s at v place r
   members_store a c place (product k ns) ms at names vs v r room few e p count given h = record {
     handles = h.handles;
-    storing = product_stored false (stage_of L.seen L.moves a) (stage_of L.seen L.moves c) (host_texts (encoding_by a options)) k ns at (MemberNamed ns names vs) (HasTree (product k ns) v) (ending_of r) (omega (arith, room, h.storing.lowering.goes.no_shorter))
+    storing = product_stored false (stage_of L.seen L.moves a) (stage_of L.seen L.moves c) (host_texts (encoding_by a options)) k ns at (MemberNamed ns names vs) (HasTree (product k ns) v)
+        (ending_of r) (omega (arith, room, h.storing.lowering.goes.no_shorter))
         (product_is k ns names vs v p) (product_back k ns names vs v p)
         (subst (λ (xs : Members). StoresMembers false (stage_of L.seen L.moves a) (stage_of L.seen L.moves c) (host_texts (encoding_by a options)) xs 0 at (MemberNamed xs names vs) h.handles (ending_of r)) e h.storing);
     handed = passes_as a.component.types a.ledger c.ledger (all_passes ms vs) (passes v (product k ns)) h.handles r given h.handed;
@@ -302,7 +319,8 @@ module _ {T G : Type 0} (L : GuestLaws G) (options : ℕ) where
       let named : names ≡ member_names (copies n s) = en ∙ copies_names n s vs enough in
       record {
         handles = h.handles;
-        storing = fixed_stored false (stage_of L.seen L.moves a) (stage_of L.seen L.moves c) (host_texts (encoding_by a options)) n s at (MemberNamed (copies n s) names vs) (HasTree (fixed n s) v) (omega (arith, room, h.storing.lowering.goes.no_shorter))
+        storing = fixed_stored false (stage_of L.seen L.moves a) (stage_of L.seen L.moves c) (host_texts (encoding_by a options)) n s at (MemberNamed (copies n s) names vs) (HasTree (fixed n s) v)
+            (omega (arith, room, h.storing.lowering.goes.no_shorter))
             (fixed_is n s names vs v enough (xs, ev, same)) (fixed_back n s names vs v en enough (xs, ev, same)) (ending_of r)
             (subst (λ (ys : Members). StoresMembers false (stage_of L.seen L.moves a) (stage_of L.seen L.moves c) (host_texts (encoding_by a options)) ys 0 at (MemberNamed ys names vs) h.handles (ending_of r)) e h.storing);
         handed = passes_as a.component.types a.ledger c.ledger (all_passes ms vs) (passes v (fixed n s)) h.handles r given h.handed;

@@ -42,7 +42,8 @@ use Rattle.canon_value_parts.proofs.WordSteps.{have_fit}
 use Rattle.canon_lowering.specs.Stages.{Stage}
 
 -- the words of a payload stay where those behind it are written
-members_moved : {K : Type 0} {hs : List ℕ} (wide : Bool) (a b : Stage K) (enc : Encoding) (ms : Members) (ws vs : List ℕ) (i j : ℕ) (Have : Trees → Type 0) (e : Ending) → ((ts : Trees) → Have ts → MembersFit ms ts) → SameWords ws i vs j (members_flat ms)
+members_moved : {K : Type 0} {hs : List ℕ} (wide : Bool) (a b : Stage K) (enc : Encoding) (ms : Members) (ws vs : List ℕ) (i j : ℕ) (Have : Trees → Type 0) (e : Ending)
+    → ((ts : Trees) → Have ts → MembersFit ms ts) → SameWords ws i vs j (members_flat ms)
     → LowersMembers wide a b (host_texts enc) ms ws i Have hs e → LowersMembers wide a b (host_texts enc) ms vs j Have hs e
 members_moved wide a b enc ms ws vs i j Have e fits same h = attempt_as wide a b [] [] _ (members_words wide (host_texts enc) ms vs j Have) e (λ k q. q) (record {
   turn = λ ts. ts;
@@ -76,7 +77,8 @@ case_words_counted enc place k cs d names vs v r of named h = case_counted enc k
 module _ {T G : Type 0} (L : GuestLaws G) (options : ℕ) where
   -- `dst1` has the case's number in its first word, `dst2` the payload behind it, and `dst3` zeros up to the end
   case_lowers : (a c : Parts T G) (dst dst1 dst2 dst3 : List ℕ) (from past : Spot) (k : VariantKind) (cs : Cases) (d : ℕ) (names : List Name) (vs : List Val) (v : Val) → d < case_count cs → d < 2 ^ 32 → IsCase k cs d vs v
-      → names ≡ member_names (case_members cs d) → dst1 ≡ set dst from.word d → from.word + flat (variant k cs) ≤ length dst → Clears past.word (from.word + flat (variant k cs)) dst2 dst3 → passes v (variant k cs) ≡ all_passes (case_members cs d) vs
+      → names ≡ member_names (case_members cs d) → dst1 ≡ set dst from.word d → from.word + flat (variant k cs) ≤ length dst → Clears past.word (from.word + flat (variant k cs)) dst2 dst3
+      → passes v (variant k cs) ≡ all_passes (case_members cs d) vs
       → PartsLowerTo L.seen L.moves options a c dst1 dst2 (behind_tag from) (Ok past) from.place (case_members cs d) names vs
       → LowersTo L.seen L.moves options a c dst dst3 from (Ok (record { word = from.word + flat (variant k cs); place = past.place })) (variant k cs) v
   case_lowers a c dst dst1 dst2 dst3 from past k cs d names vs v lt few of named e1 room clears given h =
@@ -109,7 +111,8 @@ module _ {T G : Type 0} (L : GuestLaws G) (options : ℕ) where
 
   -- its payload ended it: said of words of its own, since nothing is said of these
   case_stops : (a c : Parts T G) (dst dst1 dst2 : List ℕ) (from : Spot) (k : VariantKind) (cs : Cases) (d : ℕ) (names : List Name) (vs : List Val) (v : Val) (e : Fault) → d < case_count cs → d < 2 ^ 32 → IsCase k cs d vs v
-      → names ≡ member_names (case_members cs d) → dst1 ≡ set dst from.word d → passes v (variant k cs) ≡ all_passes (case_members cs d) vs → PartsLowerTo L.seen L.moves options a c dst1 dst2 (behind_tag from) (Err e) from.place (case_members cs d) names vs
+      → names ≡ member_names (case_members cs d) → dst1 ≡ set dst from.word d → passes v (variant k cs) ≡ all_passes (case_members cs d) vs
+      → PartsLowerTo L.seen L.moves options a c dst1 dst2 (behind_tag from) (Err e) from.place (case_members cs d) names vs
       → LowersTo L.seen L.moves options a c dst dst2 from (Err e) (variant k cs) v
   case_stops a c dst dst1 dst2 from k cs d names vs v e lt few of named e1 given h =
       let ms : Members = case_members cs d in
@@ -123,7 +126,8 @@ module _ {T G : Type 0} (L : GuestLaws G) (options : ℕ) where
       (value_case_told false enc k cs d names vs v lt of named) (case_untold false enc k cs d names vs v lt of named) inner in
       record {
         handles = h.handles;
-        lowered = attempt_other false (stage_of L.seen L.moves a) (stage_of L.seen L.moves c) [] _ (value_words false (host_texts enc) (variant k cs) dst2 from.word (HasTree (variant k cs) v)) (fault_ending e) (not_done e) (λ t has. (has, refl)) whole;
+        lowered = attempt_other false (stage_of L.seen L.moves a) (stage_of L.seen L.moves c) [] _ (value_words false (host_texts enc) (variant k cs) dst2 from.word (HasTree (variant k cs) v))
+            (fault_ending e) (not_done e) (λ t has. (has, refl)) whole;
         handed = passes_as a.component.types a.ledger c.ledger (all_passes ms vs) (passes v (variant k cs)) h.handles stopped given h.handed;
         stays = record {
           same_length = h.stays.same_length ∙ (ap length e1 ∙ length-set dst from.word d);

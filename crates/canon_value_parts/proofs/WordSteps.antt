@@ -107,7 +107,8 @@ module _ {T G : Type 0} (L : GuestLaws G) (options : ℕ) where
       → LowersTo L.seen L.moves options a a dst dst from (Err e) s v
   value_refused a dst from s v e small is b = record {
     handles = [];
-    lowered = subst (λ (end : Ending). LowersValue false (stage_of L.seen L.moves a) (stage_of L.seen L.moves a) (host_texts (encoding_by a options)) s dst from.word (HasTree s v) [] end) (sym (own_ends e is)) (attempt_refused false (stage_of L.seen L.moves a) [] _ small);
+    lowered = subst (λ (end : Ending). LowersValue false (stage_of L.seen L.moves a) (stage_of L.seen L.moves a) (host_texts (encoding_by a options)) s dst from.word (HasTree s v) [] end)
+        (sym (own_ends e is)) (attempt_refused false (stage_of L.seen L.moves a) [] _ small);
     handed = passes_stopped a.component.types a.ledger a.ledger (passes v s) e refl (own_elsewhere e is);
     stays = stays_none from.word dst;
     passed = tt;
@@ -155,7 +156,8 @@ module _ {T G : Type 0} (L : GuestLaws G) (options : ℕ) where
       → LowersTo L.seen L.moves options a c dst dst from (Err e) s v
   placed_refused a c dst from s v e block h = record {
     handles = h.handles;
-    lowered = attempt_other false (stage_of L.seen L.moves a) (stage_of L.seen L.moves c) [] _ (value_words false (host_texts (encoding_by a options)) s dst from.word (HasTree s v)) (fault_ending e) (not_done e) (λ t has. (has, refl)) h.lowered;
+    lowered = attempt_other false (stage_of L.seen L.moves a) (stage_of L.seen L.moves c) [] _ (value_words false (host_texts (encoding_by a options)) s dst from.word (HasTree s v)) (fault_ending e)
+        (not_done e) (λ t has. (has, refl)) h.lowered;
     handed = h.handed;
     stays = stays_none from.word dst;
     passed = tt;
@@ -170,7 +172,8 @@ module _ {T G : Type 0} (L : GuestLaws G) (options : ℕ) where
   unfolding flat requests leaves
   parts_none a dst from place small few = record {
     handles = [];
-    lowered = attempt_none false (stage_of L.seen L.moves a) [] (members_words false (host_texts (encoding_by a options)) no_members dst from.word (MemberNamed no_members [] [])) no_trees small (refl, (refl, refl)) (λ ts h. refl) refl (λ pointer rest. refl);
+    lowered = attempt_none false (stage_of L.seen L.moves a) [] (members_words false (host_texts (encoding_by a options)) no_members dst from.word (MemberNamed no_members [] [])) no_trees small
+        (refl, (refl, refl)) (λ ts h. refl) refl (λ pointer rest. refl);
     handed = passes_none a.component.types a.ledger a.ledger [] refl refl;
     stays = stays_none from.word dst;
     passed = omega arith;
@@ -183,9 +186,19 @@ module _ {T G : Type 0} (L : GuestLaws G) (options : ℕ) where
   first_and : {hs : List ℕ} (a b : Parts T G) (enc : Encoding) (name named : Name) (s : Shape) (ms : Members) (ws : List ℕ) (i : ℕ) (names : List Name) (v : Val) (vs : List Val) (e : Ending) → named ≡ name
       → LowersMembers false (stage_of L.seen L.moves a) (stage_of L.seen L.moves b) (host_texts enc) (member name s ms) ws i (FirstAnd (HasTree s v) (MemberNamed ms names vs)) hs e
       → LowersMembers false (stage_of L.seen L.moves a) (stage_of L.seen L.moves b) (host_texts enc) (member name s ms) ws i (MemberNamed (member name s ms) (named ∷ names) (v ∷ vs)) hs e
-  first_and a b enc name named s ms ws i names v vs e en h = attempt_as false (stage_of L.seen L.moves a) (stage_of L.seen L.moves b) [] [] (members_words false (host_texts enc) (member name s ms) ws i (FirstAnd (HasTree s v) (MemberNamed ms names vs)))
+  first_and a b enc name named s ms ws i names v vs e en h =
+      attempt_as false (stage_of L.seen L.moves a) (stage_of L.seen L.moves b) [] [] (members_words false (host_texts enc) (member name s ms) ws i (FirstAnd (HasTree s v) (MemberNamed ms names vs)))
       (members_words false (host_texts enc) (member name s ms) ws i (MemberNamed (member name s ms) (named ∷ names) (v ∷ vs))) e (λ j q. q)
-      (record { turn = λ ts. ts; back = λ ts. ts; is = named_join name named s ms names v vs en; is_back = named_split name named s ms names v vs; asks = λ ts h. refl; rep = λ fresh ts is h. h; home = λ pointer ts xs ys is h. h; handles = λ ts h. refl }) h
+      (record {
+        turn = λ ts. ts;
+        back = λ ts. ts;
+        is = named_join name named s ms names v vs en;
+        is_back = named_split name named s ms names v vs;
+        asks = λ ts h. refl;
+        rep = λ fresh ts is h. h;
+        home = λ pointer ts xs ys is h. h;
+        handles = λ ts h. refl;
+      }) h
 
   pub parts_cons : (a b c : Parts T G) (dst dst2 dst3 : List ℕ) (place : ℕ) (name named : Name) (s : Shape) (ms : Members) (names : List Name) (v : Val) (vs : List Val) (from mid : Spot) (r : Result Spot Fault) → named ≡ name
       → LowersTo L.seen L.moves options a b dst dst2 from (Ok mid) s v → PartsLowerTo L.seen L.moves options b c dst2 dst3 mid r place ms names vs
@@ -208,7 +221,8 @@ module _ {T G : Type 0} (L : GuestLaws G) (options : ℕ) where
         counted = fields_count enc place name named s ms names v vs from.place mid.place (place_after r) en h.counted.0 h.counted.1
             (subst (λ (x : Encoding). FieldsCount x place ms names vs mid.place (place_after r)) (handles_encoding a b options h.same) k.counted);
         same = handles_then a b c h.same k.same;
-        quiet = λ none. let one = h.quiet (no_first (has_block s) (have_block ms) none) in let others = k.quiet (no_later (has_block s) (have_block ms) none) in (others.0 ∙ ap (λ (x : Parts T G). record x { ledger = c.ledger }) one.0, others.1);
+        quiet = λ none. let one = h.quiet (no_first (has_block s) (have_block ms) none) in let others =
+            k.quiet (no_later (has_block s) (have_block ms) none) in (others.0 ∙ ap (λ (x : Parts T G). record x { ledger = c.ledger }) one.0, others.1);
       }
 
   -- a first one ends it
@@ -249,7 +263,8 @@ module _ {T G : Type 0} (L : GuestLaws G) (options : ℕ) where
   members_lower a c dst dst2 from (product k ns) ms names vs v r few e p count given h = record {
     handles = h.handles;
     lowered =
-        product_words false (stage_of L.seen L.moves a) (stage_of L.seen L.moves c) (host_texts (encoding_by a options)) k ns dst2 from.word (MemberNamed ns names vs) (HasTree (product k ns) v) (ending_of r) (product_is k ns names vs v p) (product_back k ns names vs v p)
+        product_words false (stage_of L.seen L.moves a) (stage_of L.seen L.moves c) (host_texts (encoding_by a options)) k ns dst2 from.word (MemberNamed ns names vs) (HasTree (product k ns) v)
+        (ending_of r) (product_is k ns names vs v p) (product_back k ns names vs v p)
         (subst (λ (xs : Members). LowersMembers false (stage_of L.seen L.moves a) (stage_of L.seen L.moves c) (host_texts (encoding_by a options)) xs dst2 from.word (MemberNamed xs names vs) h.handles (ending_of r)) e h.lowered);
     handed = passes_as a.component.types a.ledger c.ledger (all_passes ms vs) (passes v (product k ns)) h.handles r given h.handed;
     stays = h.stays;
@@ -288,7 +303,9 @@ module _ {T G : Type 0} (L : GuestLaws G) (options : ℕ) where
 
 module _ {T G : Type 0} (L : GuestLaws G) (options : ℕ) (a c : Parts T G) (dst dst2 : List ℕ) (ms : Members) (vs : List Val) (r : Result Spot Fault) (named : no_names vs ≡ member_names ms) (from : Spot) (first : from.word ≡ 0)
     (h : PartsLowerTo L.seen L.moves options a c dst dst2 from r 0 ms (no_names vs) vs) where
-  pub near_lowered : members_flat ms ≤ max_params → length dst ≡ members_flat ms → LowersArgs false (stage_of L.seen L.moves a) (stage_of L.seen L.moves c) (host_texts (encoding_by a options)) ms (HaveTrees ms vs) dst2 h.handles (ending_of r)
+  pub near_lowered : members_flat ms ≤ max_params → length dst ≡ members_flat ms
+      → LowersArgs false (stage_of L.seen L.moves a) (stage_of L.seen L.moves c) (host_texts (encoding_by a options)) ms (HaveTrees ms vs) dst2 h.handles (ending_of r)
   near_lowered near count =
-      args_near false (host_texts (encoding_by a options)) ms (MemberNamed ms (no_names vs) vs) (HaveTrees ms vs) (λ ts have. have.1) (λ ts have. (named, have)) (stage_of L.seen L.moves a) (stage_of L.seen L.moves c) dst2 (ending_of r) near (h.stays.same_length ∙ count)
+      args_near false (host_texts (encoding_by a options)) ms (MemberNamed ms (no_names vs) vs) (HaveTrees ms vs) (λ ts have. have.1) (λ ts have. (named, have)) (stage_of L.seen L.moves a)
+      (stage_of L.seen L.moves c) dst2 (ending_of r) near (h.stays.same_length ∙ count)
       (subst (λ (i : ℕ). LowersMembers false (stage_of L.seen L.moves a) (stage_of L.seen L.moves c) (host_texts (encoding_by a options)) ms dst2 i (MemberNamed ms (no_names vs) vs) h.handles (ending_of r)) first h.lowered)

@@ -16,4 +16,5 @@ returns-clause-ticked g c ok clocks notes =
     let store = c.args.store.now in
     let callee = callee_of store c.args.func.now in
     let called = c.call.ensures.call (example_no_refusal _ ok) in
-    clock_ticked _ clocks _ store.core.component (slice_get store.core.component.exports.items c.args.func.now.export) notes _ (dynamic callee c.args.params.now) (dynamic_results callee) _ _ _ _ _ _ _ _ _ _ called.events ok called.added called.so
+    clock_ticked _ clocks _ store.core.component (slice_get store.core.component.exports.items c.args.func.now.export) notes _ (dynamic callee c.args.params.now)
+    (dynamic_results callee) _ _ _ _ _ _ _ _ _ _ called.events ok called.added called.so

@@ -35,7 +35,8 @@ products : (g : Over) (c : After-is_some g) → AreProducts (g.R.ComponentType.w
 products g c =
     let a = c.args in
     let core = a.cx.now.core.now in
-    products_of g.R.ComponentType.fits g.R.ComponentType.means g.R.ComponentType.walks g.met.R.ComponentType.typed g.met.R.ComponentType.walked core.component.types (ty.Tuple a.ty) (tuple_members (component_types core) a.ty) a.results.now c.requires.fits
+    products_of g.R.ComponentType.fits g.R.ComponentType.means g.R.ComponentType.walks g.met.R.ComponentType.typed g.met.R.ComponentType.walked core.component.types (ty.Tuple a.ty)
+    (tuple_members (component_types core) a.ty) a.results.now c.requires.fits
     (now g c)
 
 pub linear_lower_to_flat-requires-clause-words : goal.linear_lower_to_flat-requires-clause-words
@@ -60,7 +61,8 @@ returns-then-is_some-clause-lowers g c =
     let low = c.linear_lower_to_flat in
     let v = a.results.now in
     let ms = tuple_members (component_types core) a.ty in
-    results_near g.G.Guest.seen g.G.Guest.moves a.cx.now.options core low.new.cx.core.now ms a.at (g.R.ComponentType.walks v) (g.R.Lower.gives core.component.types (product of_places ms) v) (products g at.After-is_some) low.new.dst low.result near
+    results_near g.G.Guest.seen g.G.Guest.moves a.cx.now.options core low.new.cx.core.now ms a.at (g.R.ComponentType.walks v) (g.R.Lower.gives core.component.types (product of_places ms) v)
+    (products g at.After-is_some) low.new.dst low.result near
     (subst (λ (s : Shape). TypedLowers g.G.Guest.seen g.G.Guest.moves a.cx.now.options core low.new.cx.core.now s low.new.dst 0 (g.R.ComponentType.walks v) (g.R.Lower.gives core.component.types s v) low.result) (now g at.After-is_some) low.ensures.lowers)
 
 pub returns-then-is_some-clause-kept : goal.returns-then-is_some-clause-kept
@@ -78,5 +80,6 @@ returns-else-is_some-clause-lowers g c =
     let low = c.linear_lower_to_memory in
     let v = a.results.now in
     let ms = tuple_members (component_types core) a.ty in
-    results_far g.G.Guest.seen g.G.Guest.moves a.cx.now.options core low.new.cx.core.now ms a.at (g.R.ComponentType.walks v) (g.R.Lower.gives core.component.types (product of_places ms) v) (products g at.After-is_some) a.dst.now low.result far
+    results_far g.G.Guest.seen g.G.Guest.moves a.cx.now.options core low.new.cx.core.now ms a.at (g.R.ComponentType.walks v) (g.R.Lower.gives core.component.types (product of_places ms) v)
+    (products g at.After-is_some) a.dst.now low.result far
     (subst (λ (s : Shape). TypedStores g.G.Guest.seen g.G.Guest.moves a.cx.now.options core low.new.cx.core.now s a.at (g.R.ComponentType.walks v) (g.R.Lower.gives core.component.types s v) low.result) (now g at.After-is_some) low.ensures.stores)

@@ -20,7 +20,8 @@ returns-in-Err-clause-lowers g c =
     let a = c.args in
     let core = a.cx.now.core.now in
     let ms = tuple_members (component_types core) a.ty in
-    heap_ungiven L a.cx.now.options core ms (g.P.ComponentType.walks a.params.now) (g.P.Lower.gives core.component.types (product of_places ms) a.params.now) c.requires.far c.ask_tuple.new.cx.core.now a.dst.now c.in-Err.fault c.in-Err.ensures.asked
+    heap_ungiven L a.cx.now.options core ms (g.P.ComponentType.walks a.params.now)
+    (g.P.Lower.gives core.component.types (product of_places ms) a.params.now) c.requires.far c.ask_tuple.new.cx.core.now a.dst.now c.in-Err.fault c.in-Err.ensures.asked
 
 -- the shape of the tuple, where the block was given
 shape : (g : Over) (c : After-tuple-tuple g) → shape_of (component_types c.ask_tuple.new.cx.core.now) (ty.Tuple c.args.ty) ≡ product of_places (tuple_members (component_types c.args.cx.now.core.now) c.args.ty)

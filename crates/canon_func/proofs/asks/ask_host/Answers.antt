@@ -10,8 +10,10 @@ returns-in-Ok-clause-did g c = λ export words pad front is.
     let imports = g.I.Imports in
     let i = c.args.imports.now in
     let j = c.serve.new.self in
-    imports_served L (imports.gives (imports.plan i)) (imports.log i) (imports.log j) (imports.refusals i) (imports.refusals j) c.args.index c.args.core.now c.serve.new.cx.0 export c.args.asked.now words pad c.args.storage.now c.serve.new.storage
-    is front (call_has_room _ _ c.args.storage.now c.serve.new.storage c.serve.auto.storage (found_asked _ c.args.asked.now.func _ c.requires.asked.found c.requires.room)) (found_asked _ c.args.asked.now.func _ c.requires.asked.found c.in-Ok.ensures.serves)
+    imports_served L (imports.gives (imports.plan i)) (imports.log i) (imports.log j) (imports.refusals i)
+    (imports.refusals j) c.args.index c.args.core.now c.serve.new.cx.0 export c.args.asked.now words pad c.args.storage.now c.serve.new.storage
+    is front (call_has_room _ _ c.args.storage.now c.serve.new.storage c.serve.auto.storage (found_asked _ c.args.asked.now.func _ c.requires.asked.found c.requires.room))
+    (found_asked _ c.args.asked.now.func _ c.requires.asked.found c.in-Ok.ensures.serves)
 
 pub returns-in-Err-clause-did : goal.returns-in-Err-clause-did
 returns-in-Err-clause-did g c = λ export words pad front is.

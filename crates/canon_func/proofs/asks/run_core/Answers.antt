@@ -123,7 +123,8 @@ loop-preserved g c =
       same = then_host before mid after c.loop.invariant.same c.in-Ok-serve.ensures.same;
       plan = c.in-Ok-serve.ensures.plan ∙ c.loop.invariant.plan;
       ready = c.in-Ok-serve.ensures.still_ready;
-      stepping = stepping_more gives callee limits (LivesUntil {U = Unit {0}} g.G.Guest.seen g.G.Guest.moves (guest_of before) (guest_of after) (Ok tt)) words (moment_of seen before) host (moment_of seen mid) (moment_of seen after) served left
+      stepping = stepping_more gives callee limits (LivesUntil {U = Unit {0}} g.G.Guest.seen g.G.Guest.moves (guest_of before) (guest_of after) (Ok tt)) words (moment_of seen before) host
+          (moment_of seen mid) (moment_of seen after) served left
           before_lives (λ es. moves (guest_of mid) es (guest_of after))
           (lives_then seen moves (Unit {0}) (Unit {0}) tt (Ok tt) (guest_of before) (guest_of mid) (guest_of after) g.met.G.Guest.goes_on [])
           (lives_ask seen moves (Unit {0}) (Unit {0}) tt (Ok tt) (guest_of before) (guest_of mid) (guest_of after)) c.loop.counter index asked next did.answers did.events so_far did.goes did.moves one;
@@ -179,4 +180,5 @@ returns-clause-did g c =
     let lives : List Leg → List Event → Type 0 = LivesUntil {U = Unit {0}} g.G.Guest.seen g.G.Guest.moves (guest_of before) (guest_of now) (Ok tt) in
     has_exhausted gives callee limits lives c.args.words.now (moment_of seen before) host (moment_of seen now) served c.loop.counter
     (λ legs xs p. lives_ask seen g.G.Guest.moves (Unit {0}) (Unit {0}) tt (Ok tt) (guest_of before) (guest_of now) (guest_of now) legs xs [] p (g.met.G.Guest.stays (guest_of now))) c.in-Import-step.index c.in-Import-step.words
-    (subst (λ st. Stepping gives callee limits lives c.args.words.now (moment_of seen before) (moment_of seen now) host served c.loop.counter st) c.in-Import-step.is c.loop.invariant.stepping) (omega (arith, c.loop-test.false, c.loop.auto.counter-end))
+    (subst (λ st. Stepping gives callee limits lives c.args.words.now (moment_of seen before) (moment_of seen now) host served c.loop.counter st) c.in-Import-step.is c.loop.invariant.stepping)
+    (omega (arith, c.loop-test.false, c.loop.auto.counter-end))

@@ -16,7 +16,8 @@ invariant-loop g l =
       same : SameButHost l.fn.core l.core;
       plan : imports.plan l.imports ≡ imports.plan l.fn.imports;
       ready : imports.ready l.imports;
-      stepping : Stepping (imports.gives (imports.plan l.fn.imports)) (export_callee l.fn.core.component l.export) (allowed l.fn.core.fuel l.turns) (LivesUntil {U = Unit {0}} seen g.G.Guest.moves (guest_of l.fn.core) (guest_of l.core) (Ok tt))
+      stepping : Stepping (imports.gives (imports.plan l.fn.imports)) (export_callee l.fn.core.component l.export) (allowed l.fn.core.fuel l.turns)
+          (LivesUntil {U = Unit {0}} seen g.G.Guest.moves (guest_of l.fn.core) (guest_of l.core) (Ok tt))
           l.words (moment_of seen l.fn.core) (moment_of seen l.core)
           (host_side l.fn.core (imports.log l.fn.imports) (imports.refusals l.fn.imports)) (host_side l.core (imports.log l.imports) (imports.refusals l.imports)) l.counter l.step;
     }

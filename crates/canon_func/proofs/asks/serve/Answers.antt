@@ -43,17 +43,20 @@ returns-then-words-words_of-clause-did g c =
 
 pub serve_builtin-requires-clause-asked : goal.serve_builtin-requires-clause-asked
 serve_builtin-requires-clause-asked g c =
-    builtin_asked c.args.core.now.component c.args.export.now c.args.index c.args.words.now c.in-Some.import (builtin.New c.in-ResourceNew.ty) c.import_at.result c.component.result.now c.component-2.result.now c.words_of.result c.component.ensures.component c.component-2.ensures.component
+    builtin_asked c.args.core.now.component c.args.export.now c.args.index c.args.words.now c.in-Some.import
+    (builtin.New c.in-ResourceNew.ty) c.import_at.result c.component.result.now c.component-2.result.now c.words_of.result c.component.ensures.component c.component-2.ensures.component
     c.import_at.ensures.found c.in-Some.is (ap builtin_of c.in-ResourceNew.is) c.words_of.ensures c.if-words-words_of.false (ap (λ k. import_words (export_callee c.args.core.now.component c.args.export.now) k) c.in-ResourceNew.is)
 
 pub serve_builtin-requires-in-ResourceRep-clause-asked : goal.serve_builtin-requires-in-ResourceRep-clause-asked
 serve_builtin-requires-in-ResourceRep-clause-asked g c =
-    builtin_asked c.args.core.now.component c.args.export.now c.args.index c.args.words.now c.in-Some.import (builtin.Rep c.in-ResourceRep.ty) c.import_at.result c.component.result.now c.component-2.result.now c.words_of.result c.component.ensures.component c.component-2.ensures.component
+    builtin_asked c.args.core.now.component c.args.export.now c.args.index c.args.words.now c.in-Some.import
+    (builtin.Rep c.in-ResourceRep.ty) c.import_at.result c.component.result.now c.component-2.result.now c.words_of.result c.component.ensures.component c.component-2.ensures.component
     c.import_at.ensures.found c.in-Some.is (ap builtin_of c.in-ResourceRep.is) c.words_of.ensures c.if-words-words_of.false (ap (λ k. import_words (export_callee c.args.core.now.component c.args.export.now) k) c.in-ResourceRep.is)
 
 pub serve_builtin-requires-in-ResourceDrop-clause-asked : goal.serve_builtin-requires-in-ResourceDrop-clause-asked
 serve_builtin-requires-in-ResourceDrop-clause-asked g c =
-    builtin_asked c.args.core.now.component c.args.export.now c.args.index c.args.words.now c.in-Some.import (builtin.Drop c.in-ResourceDrop.ty) c.import_at.result c.component.result.now c.component-2.result.now c.words_of.result c.component.ensures.component c.component-2.ensures.component
+    builtin_asked c.args.core.now.component c.args.export.now c.args.index c.args.words.now c.in-Some.import
+    (builtin.Drop c.in-ResourceDrop.ty) c.import_at.result c.component.result.now c.component-2.result.now c.words_of.result c.component.ensures.component c.component-2.ensures.component
     c.import_at.ensures.found c.in-Some.is (ap builtin_of c.in-ResourceDrop.is) c.words_of.ensures c.if-words-words_of.false (ap (λ k. import_words (export_callee c.args.core.now.component c.args.export.now) k) c.in-ResourceDrop.is)
 
 pub returns-in-Host-clause-did : goal.returns-in-Host-clause-did

@@ -23,9 +23,11 @@ returns-in-Ok-clause-call g c =
     let left = host_side after (imports.log j) (imports.refusals j) in
     let callee = export_callee before.component c.args.export.now in
     let limits = allowed before.fuel c.args.turns in
-    call_entered (g.P.Params.args params callee) (g.R.Results.returns callee c.args.export.now.options before.id) gives callee limits seen moves g.G.Guest.leaves (imports.log i) (imports.refusals i) result (map_ok g.R.Results.out result) before mid after left c.in-Ok.ensures.same c.in-Ok.ensures.ok.1
+    call_entered (g.P.Params.args params callee) (g.R.Results.returns callee c.args.export.now.options before.id) gives callee limits seen moves g.G.Guest.leaves (imports.log i)
+    (imports.refusals i) result (map_ok g.R.Results.out result) before mid after left c.in-Ok.ensures.same c.in-Ok.ensures.ok.1
     (subst (λ k. let d = export_callee k.component c.args.export.now in
-    Within (g.P.Params.args params d) (g.R.Results.returns d c.args.export.now.options k.id) gives d (allowed k.fuel c.args.turns) seen moves g.G.Guest.leaves (imports.log i) (imports.refusals i) result (map_ok g.R.Results.out result) mid after left)
+    Within (g.P.Params.args params d) (g.R.Results.returns d c.args.export.now.options k.id) gives d (allowed k.fuel c.args.turns) seen moves g.G.Guest.leaves (imports.log i)
+    (imports.refusals i) result (map_ok g.R.Results.out result) mid after left)
     c.in-Ok.ensures.same c.call_in_scope.ensures.call)
 
 pub returns-in-Ok-clause-counted : goal.returns-in-Ok-clause-counted
@@ -38,6 +40,7 @@ returns-in-Err-clause-call g c =
     let i = c.args.imports.now in
     let before = c.args.core.now in
     let callee = export_callee before.component c.args.export.now in
-    unentered (g.P.Params.args c.args.params.now callee) (g.R.Results.returns callee c.args.export.now.options before.id) (imports.gives (imports.plan i)) callee (allowed before.fuel c.args.turns) g.G.Guest.seen g.G.Guest.moves g.G.Guest.leaves (imports.log i)
+    unentered (g.P.Params.args c.args.params.now callee) (g.R.Results.returns callee c.args.export.now.options before.id) (imports.gives (imports.plan i)) callee
+    (allowed before.fuel c.args.turns) g.G.Guest.seen g.G.Guest.moves g.G.Guest.leaves (imports.log i)
     (imports.refusals i) g.row.R.Denot
     before c.enter.new.self c.in-Err.ensures.same c.in-Err.ensures.err

@@ -31,7 +31,8 @@ returns-in-Ok-clause-call g c =
     let RestOf : Component → ℕ → ℕ → List ℕ → Type 0 = λ comp fuel id ws. let d = export_callee comp c.args.export.now in
     Serving (moment_of seen mid) (moment_of seen after) (λ es. OnAnswered result (moves (guest_of mid) es (guest_of after)))
     (IsRest (g.R.Results.returns d c.args.export.now.options id) gives d (allowed fuel c.args.turns) (LivesUntil seen moves (guest_of mid) (guest_of after) result) g.G.Guest.leaves ws (moment_of seen mid) (moment_of seen after) from left (map_ok g.R.Results.out result)) in
-    lowered (g.P.Params.args c.args.params.now callee) (g.R.Results.returns callee c.args.export.now.options before.id) gives callee (allowed before.fuel c.args.turns) seen moves g.G.Guest.leaves (imports.log i) (imports.refusals i) result (map_ok g.R.Results.out result) before mid after left words
+    lowered (g.P.Params.args c.args.params.now callee) (g.R.Results.returns callee c.args.export.now.options before.id) gives callee (allowed before.fuel c.args.turns) seen moves g.G.Guest.leaves
+    (imports.log i) (imports.refusals i) result (map_ok g.R.Results.out result) before mid after left words
     c.lower.ensures.same g.met.G.Guest.goes_on c.in-Ok.ensures.lowered
     (subst (λ k. RestOf k.component k.fuel k.id words.items) c.lower.ensures.same (subst (λ ws. RestOf mid.component mid.fuel mid.id ws) c.deref.ensures.value c.call_lowered.ensures.did))
 
@@ -57,7 +58,8 @@ returns-in-Err-clause-call g c =
     let after = c.lower.new.core in
     let params = c.args.params.now in
     let callee = export_callee before.component c.args.export.now in
-    unlowered (g.P.Params.args params callee) (g.R.Results.returns callee c.args.export.now.options before.id) (imports.gives (imports.plan i)) callee (allowed before.fuel c.args.turns) g.G.Guest.seen g.G.Guest.moves g.G.Guest.leaves (imports.log i) (imports.refusals i)
+    unlowered (g.P.Params.args params callee) (g.R.Results.returns callee c.args.export.now.options before.id) (imports.gives (imports.plan i)) callee
+    (allowed before.fuel c.args.turns) g.G.Guest.seen g.G.Guest.moves g.G.Guest.leaves (imports.log i) (imports.refusals i)
     g.row.R.Denot c.in-Err.error before after (g.met.P.Params.blames params callee) c.lower.ensures.same c.in-Err.ensures.lowered
 
 pub returns-in-Err-clause-late : goal.returns-in-Err-clause-late

@@ -25,7 +25,8 @@ returns-in-Err-clause-did g c =
     let e = c.in-Err.error in
     run_refused (g.R.Results.returns callee c.args.export.now.options before.id) (imports.gives (imports.plan i)) callee
     (allowed before.fuel c.args.turns) (LivesUntil {U = g.row.R.Denot} seen moves (guest_of before) (guest_of after) (Err e)) g.G.Guest.leaves (g.met.R.Results.law callee c.args.export.now.options before.id) c.args.words.now
-    (g.met.I.Imports.lawful (imports.plan i)) (LivesUntil {U = List ℕ} seen moves (guest_of before) (guest_of after) (Err e)) (lives_retyped seen moves (List ℕ) g.row.R.Denot e (guest_of before) (guest_of after)) (moment_of seen before) (moment_of seen after)
+    (g.met.I.Imports.lawful (imports.plan i)) (LivesUntil {U = List ℕ} seen moves (guest_of before) (guest_of after) (Err e))
+    (lives_retyped seen moves (List ℕ) g.row.R.Denot e (guest_of before) (guest_of after)) (moment_of seen before) (moment_of seen after)
     (host_side before (imports.log i) (imports.refusals i)) (host_side after (imports.log j) (imports.refusals j)) e c.in-Err.ensures.did
 
 pub returns-in-Err-lift-clause-did : goal.returns-in-Err-lift-clause-did

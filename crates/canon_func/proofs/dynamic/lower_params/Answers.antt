@@ -20,7 +20,8 @@ returns-in-Ok-clause-lowered g c =
     let counted : words_within max_params (tuple_members c.types-types.result.now f.params) ≡ words_within max_params (tuple_members (component_types before) f.params) =
     ap (λ (t : TypeTable). words_within max_params (tuple_members t f.params)) same in
     let low = c.in-Ok.ensures.lowers in
-    lowered_done (stage_of L.seen L.moves before) (stage_of L.seen L.moves after) (encoding_by before c.args.export.now.options) before.component.types (tuple_members (component_types before) f.params) _ c.args.params.now before.ledger after.ledger
+    lowered_done (stage_of L.seen L.moves before) (stage_of L.seen L.moves after) (encoding_by before c.args.export.now.options) before.component.types
+    (tuple_members (component_types before) f.params) _ c.args.params.now before.ledger after.ledger
     (params_are (component_types before) c.types-types.result.now c.args.export.now.ty f same c.func.ensures.found)
     _ c.lower_into.new.words _ all (omega (arith, ap length all, c.lower_into.auto.words, c.deref_mut.ensures.len, c.in_ok-words.ensures.len, c.word_count.ensures, counted))
     (λ near none. ap (moment_of L.seen) (low.quiet near none).0) low.crosses low.small (moved_by L before after)
@@ -34,7 +35,9 @@ returns-in-Err-clause-lowered g c =
     let e = c.in-Err.fault in
     let same : c.types-types.result.now ≡ component_types before = c.types-types.ensures ∙ ap (λ k. k.types.types) c.component.ensures.component in
     let low = c.in-Err.ensures.lowers in
-    lowered_refused (stage_of L.seen L.moves before) (stage_of L.seen L.moves after) (encoding_by before c.args.export.now.options) before.component.types (tuple_members (component_types before) f.params) _ c.args.params.now before.ledger after.ledger
+    lowered_refused (stage_of L.seen L.moves before) (stage_of L.seen L.moves after) (encoding_by before c.args.export.now.options) before.component.types
+    (tuple_members (component_types before) f.params) _ c.args.params.now before.ledger after.ledger
     (params_are (component_types before) c.types-types.result.now c.args.export.now.ty f same c.func.ensures.found)
     e c.lower_into.new.words (λ es. OnAnswered {T = Vec ℕ Global} (Err (error.Fault e)) (L.moves (guest_of before) es (guest_of after)))
-    low.crosses low.cause (λ near none. let (kept, is) = low.quiet near none in (ap (moment_of L.seen) kept, is)) (λ end ends es goes. ended_moves (Vec ℕ Global) e end (L.moves (guest_of before) es (guest_of after)) ends (unless end _ _ (moved_by L before after es) goes))
+    low.crosses low.cause (λ near none. let (kept, is) = low.quiet near none in (ap (moment_of L.seen) kept, is))
+    (λ end ends es goes. ended_moves (Vec ℕ Global) e end (L.moves (guest_of before) es (guest_of after)) ends (unless end _ _ (moved_by L before after es) goes))

@@ -24,5 +24,6 @@ returns-in-Err-Trap-clause-did g c =
     let after = c.post_return.new.self in
     let callee = export_callee core.component c.args.export.now in
     let some : callee.post ≡ Some c.in-Some.func = ap (λ comp. (export_callee comp c.args.export.now).post) (sym c.component.ensures.component) ∙ (sym c.options_of.ensures.post ∙ c.in-Some.is) in
-    post_trapped g.G.Guest.leaves callee c.args.words.now (moment_of g.G.Guest.seen core) (moment_of g.G.Guest.seen after) c.in-Some.func c.in-Err-Trap.field-0 (λ es. g.G.Guest.moves (guest_of core) es (guest_of after)) c.in-Err-Trap.field-0-is some
+    post_trapped g.G.Guest.leaves callee c.args.words.now (moment_of g.G.Guest.seen core) (moment_of g.G.Guest.seen after) c.in-Some.func c.in-Err-Trap.field-0
+    (λ es. g.G.Guest.moves (guest_of core) es (guest_of after)) c.in-Err-Trap.field-0-is some
     c.in-Err-Trap.ensures.goes c.in-Err-Trap.ensures.cause c.in-Err-Trap.ensures.moves

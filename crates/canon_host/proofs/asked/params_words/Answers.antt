@@ -11,12 +11,23 @@ pub returns-clause-words : goal.returns-clause-words
 returns-clause-words c =
     let t = c.args.types.now in
     let ms = tuple_members t c.args.tuple in
-    let laid : HasLayout c.tuple.result.now.abi (product of_places ms) = subst (λ ts. HasLayout c.tuple.result.now.abi (product of_places (members_of t ts))) c.tuple.ensures.types (subst (HasLayout c.tuple.result.now.abi) c.tuple.ensures.entry.shape c.tuple.ensures.abi) in
-    c.unwrap_or.ensures ∙ words_counted c.flat_count.result ms (subst (λ n. SomeIff c.flat_count.result ((flat (product of_places ms) ≤ n) × (flat (product of_places ms) ≤ 16)) (flat (product of_places ms))) c.from.ensures (c.flat_count.ensures.words (product of_places ms) laid))
+    let laid : HasLayout c.tuple.result.now.abi (product of_places ms) =
+    subst (λ ts. HasLayout c.tuple.result.now.abi (product of_places (members_of t ts))) c.tuple.ensures.types
+    (subst (HasLayout c.tuple.result.now.abi) c.tuple.ensures.entry.shape c.tuple.ensures.abi) in
+    c.unwrap_or.ensures ∙ words_counted c.flat_count.result ms
+    (subst (λ n. SomeIff c.flat_count.result ((flat (product of_places ms) ≤ n)
+    × (flat (product of_places ms) ≤ 16)) (flat (product of_places ms))) c.from.ensures (c.flat_count.ensures.words (product of_places ms) laid))
 
 pub returns-clause-few : goal.returns-clause-few
 returns-clause-few c =
     let t = c.args.types.now in
     let ms = tuple_members t c.args.tuple in
-    let laid : HasLayout c.tuple.result.now.abi (product of_places ms) = subst (λ ts. HasLayout c.tuple.result.now.abi (product of_places (members_of t ts))) c.tuple.ensures.types (subst (HasLayout c.tuple.result.now.abi) c.tuple.ensures.entry.shape c.tuple.ensures.abi) in
-    omega (arith, c.unwrap_or.ensures, words_few c.flat_count.result ms (subst (λ n. SomeIff c.flat_count.result ((flat (product of_places ms) ≤ n) × (flat (product of_places ms) ≤ 16)) (flat (product of_places ms))) c.from.ensures (c.flat_count.ensures.words (product of_places ms) laid)))
+    let laid : HasLayout c.tuple.result.now.abi (product of_places ms) =
+    subst (λ ts. HasLayout c.tuple.result.now.abi (product of_places (members_of t ts))) c.tuple.ensures.types
+    (subst (HasLayout c.tuple.result.now.abi) c.tuple.ensures.entry.shape c.tuple.ensures.abi) in
+    omega (
+      arith,
+      c.unwrap_or.ensures,
+      words_few c.flat_count.result ms (subst (λ n. SomeIff c.flat_count.result ((flat (product of_places ms) ≤ n)
+          × (flat (product of_places ms) ≤ 16)) (flat (product of_places ms))) c.from.ensures (c.flat_count.ensures.words (product of_places ms) laid)),
+    )

@@ -4,9 +4,11 @@ use Rattle.canon_host.proofs.conclude.conclude.Goals as goal
 
 pub returns-in-Ok-clause-concludes : goal.returns-in-Ok-clause-concludes
 returns-in-Ok-clause-concludes g c =
-    concluded (EndsAsk g.G.Guest.seen g.G.Guest.moves c.args.asked.now) (LowersGiven g.G.Guest.seen g.G.Guest.moves c.args.asked.now) c.args.asked.now c.args.core.now c.end_ask.new.core c.lower.new.core c.in-Ok.at c.args.results.now c.args.storage.now c.lower.new.storage c.lower.result
+    concluded (EndsAsk g.G.Guest.seen g.G.Guest.moves c.args.asked.now)
+    (LowersGiven g.G.Guest.seen g.G.Guest.moves c.args.asked.now) c.args.asked.now c.args.core.now c.end_ask.new.core c.lower.new.core c.in-Ok.at c.args.results.now c.args.storage.now c.lower.new.storage c.lower.result
     c.in-Ok.ensures.ends c.lower.ensures.lowers c.lower.ensures.rest
 
 pub returns-in-Err-clause-concludes : goal.returns-in-Err-clause-concludes
 returns-in-Err-clause-concludes g c =
-    not_ended (EndsAsk g.G.Guest.seen g.G.Guest.moves c.args.asked.now) (LowersGiven g.G.Guest.seen g.G.Guest.moves c.args.asked.now) c.args.asked.now c.args.core.now c.end_ask.new.core c.args.results.now c.args.storage.now c.in-Err.fault c.in-Err.ensures.ends
+    not_ended (EndsAsk g.G.Guest.seen g.G.Guest.moves c.args.asked.now)
+    (LowersGiven g.G.Guest.seen g.G.Guest.moves c.args.asked.now) c.args.asked.now c.args.core.now c.end_ask.new.core c.args.results.now c.args.storage.now c.in-Err.fault c.in-Err.ensures.ends

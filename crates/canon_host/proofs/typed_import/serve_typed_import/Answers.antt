@@ -17,7 +17,8 @@ returns-in-Err-clause-serves g c =
     let types : RustTypes g.row.P.Denot g.row.R.Denot = rust_types g.P.ComponentType.fits g.R.ComponentType.fits g.P.Lift.reading g.P.ComponentType.is_told g.P.ComponentType.lifts g.P.ComponentType.cost
     g.R.ComponentType.means g.R.ComponentType.walks g.R.Lower.gives in
     let core = c.args.cx.core.now in
-    let other = subst (λ (x : Component). IfSome (slice_get x.types.types.funcs c.args.cx.ty) (λ t. t.async_ ≡ false → FitRustTypes g.P.ComponentType.fits g.R.ComponentType.fits x.types t → ⊥)) c.component.ensures.component c.in-Err.ensures.refused in
+    let other = subst (λ (x : Component). IfSome (slice_get x.types.types.funcs c.args.cx.ty) (λ t. t.async_ ≡ false → FitRustTypes g.P.ComponentType.fits g.R.ComponentType.fits x.types t
+    → ⊥)) c.component.ensures.component c.in-Err.ensures.refused in
     typed_declines g.F.Fn c.args.func.now types g.G.Guest.seen g.G.Guest.moves c.args.cx.ty c.args.cx.options core core c.args.storage.now c.args.storage.now c.args.refusals.now c.saturating_add.result _
     other refl refl (omega (arith, c.saturating_add.ensures))
 
@@ -26,5 +27,6 @@ returns-in-Err-clause-served g c =
     let types : RustTypes g.row.P.Denot g.row.R.Denot = rust_types g.P.ComponentType.fits g.R.ComponentType.fits g.P.Lift.reading g.P.ComponentType.is_told g.P.ComponentType.lifts g.P.ComponentType.cost
     g.R.ComponentType.means g.R.ComponentType.walks g.R.Lower.gives in
     let core = c.args.cx.core.now in
-    let other = subst (λ (x : Component). IfSome (slice_get x.types.types.funcs c.args.cx.ty) (λ t. t.async_ ≡ false → FitRustTypes g.P.ComponentType.fits g.R.ComponentType.fits x.types t → ⊥)) c.component.ensures.component c.in-Err.ensures.refused in
+    let other = subst (λ (x : Component). IfSome (slice_get x.types.types.funcs c.args.cx.ty) (λ t. t.async_ ≡ false → FitRustTypes g.P.ComponentType.fits g.R.ComponentType.fits x.types t
+    → ⊥)) c.component.ensures.component c.in-Err.ensures.refused in
     declined_typed g.F.Fn c.args.func.now types g.G.Guest.seen g.G.Guest.moves c.args.cx.ty c.args.cx.options core core c.args.storage.now c.args.storage.now _ other refl refl

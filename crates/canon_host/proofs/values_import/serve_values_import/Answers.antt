@@ -13,7 +13,9 @@ returns-in-Ok-clause-serves g c =
     let refusals = c.args.refusals.now in
     let core = c.args.cx.core.now in
     let o = slice_get (component_types core).funcs c.args.cx.ty in
-    let done = found_import g.F.Fn func (gives_unlogged (MayGiveValues g.F.Fn func)) (MayGiveValues g.F.Fn func) None c.args.n g.G.Guest.seen g.G.Guest.moves tt (λ type reached params answer state ledger so. so) c.args.cx.ty c.args.cx.options core c.entrypoint.new.cx.0 c.args.storage.now c.entrypoint.new.storage (Ok c.in-Ok._values) o c.in-Ok.ensures.serves in
+    let done = found_import g.F.Fn func (gives_unlogged (MayGiveValues g.F.Fn func)) (MayGiveValues g.F.Fn func) None c.args.n g.G.Guest.seen g.G.Guest.moves tt
+    (λ type reached params answer state ledger so. so) c.args.cx.ty c.args.cx.options core c.entrypoint.new.cx.0 c.args.storage.now c.entrypoint.new.storage
+    (Ok c.in-Ok._values) o c.in-Ok.ensures.serves in
     unlogged (gives_unlogged (MayGiveValues g.F.Fn func)) (MayGiveValues g.F.Fn func) c.args.n g.G.Guest.seen g.G.Guest.moves c.args.cx.ty c.args.cx.options refusals core c.entrypoint.new.cx.0 c.args.storage.now c.entrypoint.new.storage o c.in-Ok._values done
 
 pub returns-in-Err-Refused-clause-serves : goal.returns-in-Err-Refused-clause-serves
@@ -22,7 +24,9 @@ returns-in-Err-Refused-clause-serves g c =
     let refusals = c.args.refusals.now in
     let core = c.args.cx.core.now in
     let o = slice_get (component_types core).funcs c.args.cx.ty in
-    let done = found_import g.F.Fn func (gives_unlogged (MayGiveValues g.F.Fn func)) (MayGiveValues g.F.Fn func) None c.args.n g.G.Guest.seen g.G.Guest.moves tt (λ type reached params answer state ledger so. so) c.args.cx.ty c.args.cx.options core c.entrypoint.new.cx.0 c.args.storage.now c.entrypoint.new.storage (Err c.in-Err-Refused.field-0) o c.in-Err-Refused.ensures.serves in
+    let done = found_import g.F.Fn func (gives_unlogged (MayGiveValues g.F.Fn func)) (MayGiveValues g.F.Fn func) None c.args.n g.G.Guest.seen g.G.Guest.moves tt
+    (λ type reached params answer state ledger so. so) c.args.cx.ty c.args.cx.options core c.entrypoint.new.cx.0 c.args.storage.now c.entrypoint.new.storage
+    (Err c.in-Err-Refused.field-0) o c.in-Err-Refused.ensures.serves in
     refuses (gives_unlogged (MayGiveValues g.F.Fn func)) (MayGiveValues g.F.Fn func) None None c.args.n g.G.Guest.seen g.G.Guest.moves c.args.cx.ty c.args.cx.options refusals c.saturating_add.result core c.entrypoint.new.cx.0 c.args.storage.now c.entrypoint.new.storage o
     (rw c.in-Err-Refused.field-0-is at done) refl (omega (arith, c.saturating_add.ensures))
 
@@ -32,7 +36,9 @@ returns-in-Err-Fault-clause-serves g c =
     let refusals = c.args.refusals.now in
     let core = c.args.cx.core.now in
     let o = slice_get (component_types core).funcs c.args.cx.ty in
-    let done = found_import g.F.Fn func (gives_unlogged (MayGiveValues g.F.Fn func)) (MayGiveValues g.F.Fn func) None c.args.n g.G.Guest.seen g.G.Guest.moves tt (λ type reached params answer state ledger so. so) c.args.cx.ty c.args.cx.options core c.entrypoint.new.cx.0 c.args.storage.now c.entrypoint.new.storage (Err c.in-Err-Fault.field-0) o c.in-Err-Fault.ensures.serves in
+    let done = found_import g.F.Fn func (gives_unlogged (MayGiveValues g.F.Fn func)) (MayGiveValues g.F.Fn func) None c.args.n g.G.Guest.seen g.G.Guest.moves tt
+    (λ type reached params answer state ledger so. so) c.args.cx.ty c.args.cx.options core c.entrypoint.new.cx.0 c.args.storage.now c.entrypoint.new.storage
+    (Err c.in-Err-Fault.field-0) o c.in-Err-Fault.ensures.serves in
     faults (gives_unlogged (MayGiveValues g.F.Fn func)) (MayGiveValues g.F.Fn func) None None c.args.n g.G.Guest.seen g.G.Guest.moves c.args.cx.ty c.args.cx.options refusals refusals core c.entrypoint.new.cx.0 c.args.storage.now c.entrypoint.new.storage o
     c.in-Err-Fault.fault (rw c.in-Err-Fault.field-0-is at done) refl refl
 

@@ -52,6 +52,11 @@ returns-in-Ok c =
     (subst (λ (n : ℕ). num (narrow bs) at n < 2 ^ c.len.result) (sym c.from-size.ensures ∙ m) (c.if-has_spare.ensures.none refl)) in
     record {
       reads = subst (λ (n : ℕ). ReadsTo bs at (at + n) s (Ok c.in-Ok.value)) (sym m)
-          (flags_good s names (flags_are c.args.types.now c.args.i c.flags-flags.result.now c.flags-flags.ensures.entry) bs at c.in-Ok.value (omega (arith, c.if-bytes-at.false, c.requires.inside, m)) (λ i. omega (arith, c.type_inv.bytes i)) low
+          (flags_good s names (flags_are c.args.types.now c.args.i c.flags-flags.result.now c.flags-flags.ensures.entry) bs at c.in-Ok.value (omega (
+            arith,
+            c.if-bytes-at.false,
+            c.requires.inside,
+            m,
+          )) (λ i. omega (arith, c.type_inv.bytes i)) low
           c.in-Ok.ensures.ok.0);
     }

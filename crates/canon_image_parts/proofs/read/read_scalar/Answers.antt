@@ -24,7 +24,12 @@ returns-then-not-is_spelled c =
     let k = c.requires.scalar.0 in
     let room : c.args.at.now + scalar_size k ≤ length c.args.bytes.now = omega (arith, c.if-bytes-at.false, c.requires.inside, width (goal.at.returns-then-not-is_spelled c).After-from-size) in
     let (e, high) = c.if-not-is_spelled.ensures.no refl in
-    record { reads = scalar_bad c.args.types.now c.args.ty.now k c.requires.scalar.1 c.args.bytes.now c.args.at.now c.args.at.now room (λ i. omega (arith, c.type_inv.bytes i)) (bool_high c.args.ty.now k c.requires.scalar.1 e c.args.bytes.now c.args.at.now room high) }
+    record {
+      reads = scalar_bad c.args.types.now c.args.ty.now k c.requires.scalar.1 c.args.bytes.now c.args.at.now c.args.at.now room (λ i. omega (
+        arith,
+        c.type_inv.bytes i,
+      )) (bool_high c.args.ty.now k c.requires.scalar.1 e c.args.bytes.now c.args.at.now room high);
+    }
 
 pub load_scalar-requires-clause-inside : goal.load_scalar-requires-clause-inside
 load_scalar-requires-clause-inside c = λ k e.
@@ -42,7 +47,10 @@ returns-in-Ok c =
     let (u, stored, has, paid) = c.in-Ok.ensures.ok k utf8 0 c.requires.scalar.1 in
     record {
       reads = subst (λ (n : ℕ). ReadsTo bs at (at + n) (shape_of c.args.types.now c.args.ty.now) (Ok c.in-Ok.value)) (sym w)
-          (scalar_good c.args.types.now c.args.ty.now k c.requires.scalar.1 bs at c.in-Ok.value u room (λ i. omega (arith, c.type_inv.bytes i)) stored.1 has (bool_low c.args.ty.now k c.requires.scalar.1 bs at room (c.if-not-is_spelled.ensures.least refl)));
+          (scalar_good c.args.types.now c.args.ty.now k c.requires.scalar.1 bs at c.in-Ok.value u room (λ i. omega (
+            arith,
+            c.type_inv.bytes i,
+          )) stored.1 has (bool_low c.args.ty.now k c.requires.scalar.1 bs at room (c.if-not-is_spelled.ensures.least refl)));
     }
 
 pub returns-in-Err : goal.returns-in-Err
@@ -52,4 +60,9 @@ returns-in-Err c =
     let k = c.requires.scalar.0 in
     let w = width (goal.at.returns-in-Err c).After-from-size in
     let room : at + scalar_size k ≤ length bs = omega (arith, c.if-bytes-at.false, c.requires.inside, w) in
-    record { reads = scalar_bad c.args.types.now c.args.ty.now k c.requires.scalar.1 bs at at room (λ i. omega (arith, c.type_inv.bytes i)) (scalar_no_char k bs at c.in-Err.field-0 c.in-Err.ensures.only_char (c.in-Err.ensures.err k utf8 c.requires.scalar.1)) }
+    record {
+      reads = scalar_bad c.args.types.now c.args.ty.now k c.requires.scalar.1 bs at at room (λ i. omega (
+        arith,
+        c.type_inv.bytes i,
+      )) (scalar_no_char k bs at c.in-Err.field-0 c.in-Err.ensures.only_char (c.in-Err.ensures.err k utf8 c.requires.scalar.1));
+    }

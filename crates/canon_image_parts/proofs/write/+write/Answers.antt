@@ -32,7 +32,9 @@ pub write_case-returns-in-Ok : goal.write_case-returns-in-Ok
 write_case-returns-in-Ok t c =
     let a = c.args in
     record {
-      writes = image_case_told a.types.now (sink a.bytes.now.items a.resources.now.items) (sink c.put_number.new.bytes.items a.resources.now.items) (sink c.write_parts.new.bytes.items c.write_parts.new.resources.items) a.place c.byte_size-size.result c.from.result c.saturating_add.result (shape_of a.types.now a.ty.now) a.case.now a.value.now
+      writes = image_case_told a.types.now (sink a.bytes.now.items a.resources.now.items) (sink c.put_number.new.bytes.items a.resources.now.items)
+          (sink c.write_parts.new.bytes.items c.write_parts.new.resources.items) a.place c.byte_size-size.result c.from.result c.saturating_add.result
+          (shape_of a.types.now a.ty.now) a.case.now a.value.now
           c.write_parts.result c.requires.seen c.byte_size-size.ensures c.from.ensures (c.in-Ok.ensures.ok, refl) c.saturating_add.ensures c.write_parts.ensures.writes;
     }
 
@@ -50,7 +52,9 @@ write_items-returns-in-Ok t c =
     let many : c.len.result ≡ length a.items.now.items = search rules in
     let few : c.len.result < 2 ^ 64 = search rules in
     record {
-      writes = items_told (sink a.bytes.now.items a.resources.now.items) (sink c.put_number.new.bytes.items a.resources.now.items) (sink c.write_parts.new.bytes.items c.write_parts.new.resources.items) a.place c.len.result c.saturating_add.result (shape_of a.types.now a.ty.now) a.items.now c.deref.result.now c.write_parts.result
+      writes = items_told (sink a.bytes.now.items a.resources.now.items) (sink c.put_number.new.bytes.items a.resources.now.items)
+          (sink c.write_parts.new.bytes.items c.write_parts.new.resources.items) a.place c.len.result c.saturating_add.result
+          (shape_of a.types.now a.ty.now) a.items.now c.deref.result.now c.write_parts.result
           c.deref.ensures.value many few (c.in-Ok.ensures.ok, refl) c.saturating_add.ensures c.write_parts.ensures.writes;
     }
 
@@ -62,7 +66,9 @@ write_map-returns-in-Ok t c =
     let many : c.len.result ≡ length a.pairs.now.items = search rules in
     let few : c.len.result < 2 ^ 64 = search rules in
     record {
-      writes = map_told (sink a.bytes.now.items a.resources.now.items) (sink c.put_number.new.bytes.items a.resources.now.items) (sink c.write_pairs.new.bytes.items c.write_pairs.new.resources.items) a.place c.len.result c.saturating_add.result (shape_of a.types.now (ty.Map a.i)) a.pairs.now c.write_pairs.result c.requires.map many few (c.in-Ok.ensures.ok, refl)
+      writes = map_told (sink a.bytes.now.items a.resources.now.items) (sink c.put_number.new.bytes.items a.resources.now.items)
+          (sink c.write_pairs.new.bytes.items c.write_pairs.new.resources.items) a.place c.len.result c.saturating_add.result
+          (shape_of a.types.now (ty.Map a.i)) a.pairs.now c.write_pairs.result c.requires.map many few (c.in-Ok.ensures.ok, refl)
           c.saturating_add.ensures c.write_pairs.ensures.writes;
     }
 
@@ -86,7 +92,8 @@ write_pairs-returns-in-Err t c =
     let m = c.map-map.result.now in
     let here = pair_here a.pairs.now.items c.deref-key-items.result.now c.loop-key.key-index c.loop-key-item.result c.deref-key-items.ensures.value (omega arith) c.loop-key-item.is in
     record {
-      writes = key_stops (sink a.bytes.now.items a.resources.now.items) _ (shape_of a.types.now m.key) (shape_of a.types.now m.value) (ap element_shape (map_shape a.types.now a.i m c.map-map.ensures.entry)) a.pairs.now.items a.first (sink c.loop-key.bytes.items c.loop-key.resources.items) c.loop-key.next
+      writes = key_stops (sink a.bytes.now.items a.resources.now.items) _ (shape_of a.types.now m.key) (shape_of a.types.now m.value)
+          (ap element_shape (map_shape a.types.now a.i m c.map-map.ensures.entry)) a.pairs.now.items a.first (sink c.loop-key.bytes.items c.loop-key.resources.items) c.loop-key.next
           c.loop-key.key-index c.loop-key.invariant.written c.loop-key-item.result here (sink c.write_value.new.bytes.items c.write_value.new.resources.items) c.in-Err.fault c.in-Err.ensures.writes;
     }
 
@@ -96,8 +103,10 @@ write_pairs-returns-in-Err-write_value t c =
     let m = c.map-map.result.now in
     let here = pair_here a.pairs.now.items c.deref-key-items.result.now c.loop-key.key-index c.loop-key-item.result c.deref-key-items.ensures.value (omega arith) c.loop-key-item.is in
     record {
-      writes = value_stops (sink a.bytes.now.items a.resources.now.items) _ (shape_of a.types.now m.key) (shape_of a.types.now m.value) (ap element_shape (map_shape a.types.now a.i m c.map-map.ensures.entry)) a.pairs.now.items a.first (sink c.loop-key.bytes.items c.loop-key.resources.items) c.loop-key.next
-          c.loop-key.key-index c.loop-key.invariant.written c.loop-key-item.result here (sink c.write_value.new.bytes.items c.write_value.new.resources.items) (sink c.write_value-in-loop-key.new.bytes.items c.write_value-in-loop-key.new.resources.items) c.in-Ok.after c.in-Err-write_value.fault c.in-Ok.ensures.writes c.in-Err-write_value.ensures.writes;
+      writes = value_stops (sink a.bytes.now.items a.resources.now.items) _ (shape_of a.types.now m.key) (shape_of a.types.now m.value)
+          (ap element_shape (map_shape a.types.now a.i m c.map-map.ensures.entry)) a.pairs.now.items a.first (sink c.loop-key.bytes.items c.loop-key.resources.items) c.loop-key.next
+          c.loop-key.key-index c.loop-key.invariant.written c.loop-key-item.result here (sink c.write_value.new.bytes.items c.write_value.new.resources.items)
+          (sink c.write_value-in-loop-key.new.bytes.items c.write_value-in-loop-key.new.resources.items) c.in-Ok.after c.in-Err-write_value.fault c.in-Ok.ensures.writes c.in-Err-write_value.ensures.writes;
     }
 
 pub write_pairs-loop-key-preserved : goal.write_pairs-loop-key-preserved
@@ -106,8 +115,11 @@ write_pairs-loop-key-preserved t c =
     let m = c.map-map.result.now in
     let here = pair_here a.pairs.now.items c.deref-key-items.result.now c.loop-key.key-index c.loop-key-item.result c.deref-key-items.ensures.value (omega arith) c.loop-key-item.is in
     record {
-      written = pair_goes_on (sink a.bytes.now.items a.resources.now.items) _ (shape_of a.types.now m.key) (shape_of a.types.now m.value) (ap element_shape (map_shape a.types.now a.i m c.map-map.ensures.entry)) a.pairs.now.items a.first (sink c.loop-key.bytes.items c.loop-key.resources.items) c.loop-key.next
-          c.loop-key.key-index c.loop-key.invariant.written c.loop-key-item.result here (sink c.write_value.new.bytes.items c.write_value.new.resources.items) (sink c.write_value-in-loop-key.new.bytes.items c.write_value-in-loop-key.new.resources.items) c.in-Ok.after c.in-Ok-write_value.after (omega (arith, c.in-Ok-write_value.ensures.writes.counted))
+      written = pair_goes_on (sink a.bytes.now.items a.resources.now.items) _ (shape_of a.types.now m.key) (shape_of a.types.now m.value)
+          (ap element_shape (map_shape a.types.now a.i m c.map-map.ensures.entry)) a.pairs.now.items a.first (sink c.loop-key.bytes.items c.loop-key.resources.items) c.loop-key.next
+          c.loop-key.key-index c.loop-key.invariant.written c.loop-key-item.result here (sink c.write_value.new.bytes.items c.write_value.new.resources.items)
+          (sink c.write_value-in-loop-key.new.bytes.items c.write_value-in-loop-key.new.resources.items) c.in-Ok.after c.in-Ok-write_value.after
+          (omega (arith, c.in-Ok-write_value.ensures.writes.counted))
           c.in-Ok.ensures.writes c.in-Ok-write_value.ensures.writes;
     }
 
@@ -117,7 +129,8 @@ write_pairs-returns t c =
     let m = c.map-map.result.now in
     let all : c.loop-key.key-index ≡ length a.pairs.now.items = omega (arith, c.loop-key-test.false, c.loop-key.auto.key-index-end, ap length c.deref-key-items.ensures.value) in
     record {
-      writes = image_pairs_end (sink a.bytes.now.items a.resources.now.items) _ (shape_of a.types.now m.key) (shape_of a.types.now m.value) (ap element_shape (map_shape a.types.now a.i m c.map-map.ensures.entry)) a.pairs.now.items a.first (sink c.loop-key.bytes.items c.loop-key.resources.items) c.loop-key.next
+      writes = image_pairs_end (sink a.bytes.now.items a.resources.now.items) _ (shape_of a.types.now m.key) (shape_of a.types.now m.value)
+          (ap element_shape (map_shape a.types.now a.i m c.map-map.ensures.entry)) a.pairs.now.items a.first (sink c.loop-key.bytes.items c.loop-key.resources.items) c.loop-key.next
           c.loop-key.key-index c.loop-key.invariant.written all;
     }
 
@@ -128,7 +141,8 @@ write_parts-returns-then-not-member t c =
     let a = c.args in
     let ms = a.members.now in
     record {
-      writes = image_misnamed (sink a.bytes.now.items a.resources.now.items) a.place (viewed_shapes a.types.now ms) (viewed_names ms) (viewed_values ms) a.first (sink c.loop-k.bytes.items c.loop-k.resources.items) c.loop-k.next c.loop-k.k c.loop-k.invariant.written a.types.now c.member_of-member.result c.member_of-member.ensures
+      writes = image_misnamed (sink a.bytes.now.items a.resources.now.items) a.place (viewed_shapes a.types.now ms) (viewed_names ms) (viewed_values ms) a.first
+          (sink c.loop-k.bytes.items c.loop-k.resources.items) c.loop-k.next c.loop-k.k c.loop-k.invariant.written a.types.now c.member_of-member.result c.member_of-member.ensures
           (λ h. blocks_none _ h c.if-not-member.true);
     }
 
@@ -145,7 +159,8 @@ write_parts-returns-in-Err t c =
     let a = c.args in
     let ms = a.members.now in
     record {
-      writes = image_stop (sink a.bytes.now.items a.resources.now.items) a.place (viewed_shapes a.types.now ms) (viewed_names ms) (viewed_values ms) a.first (sink c.loop-k.bytes.items c.loop-k.resources.items) c.loop-k.next c.loop-k.k c.loop-k.invariant.written a.types.now c.member_of-member.result c.member_of-member.ensures
+      writes = image_stop (sink a.bytes.now.items a.resources.now.items) a.place (viewed_shapes a.types.now ms) (viewed_names ms) (viewed_values ms) a.first
+          (sink c.loop-k.bytes.items c.loop-k.resources.items) c.loop-k.next c.loop-k.k c.loop-k.invariant.written a.types.now c.member_of-member.result c.member_of-member.ensures
           (sink c.write_value.new.bytes.items c.write_value.new.resources.items) c.in-Err.fault c.in-Err.ensures.writes;
     }
 
@@ -154,7 +169,8 @@ write_parts-loop-k-preserved t c =
     let a = c.args in
     let ms = a.members.now in
     record {
-      written = image_go_on (sink a.bytes.now.items a.resources.now.items) a.place (viewed_shapes a.types.now ms) (viewed_names ms) (viewed_values ms) a.first (sink c.loop-k.bytes.items c.loop-k.resources.items) c.loop-k.next c.loop-k.k c.loop-k.invariant.written a.types.now c.member_of-member.result c.member_of-member.ensures
+      written = image_go_on (sink a.bytes.now.items a.resources.now.items) a.place (viewed_shapes a.types.now ms) (viewed_names ms) (viewed_values ms) a.first
+          (sink c.loop-k.bytes.items c.loop-k.resources.items) c.loop-k.next c.loop-k.k c.loop-k.invariant.written a.types.now c.member_of-member.result c.member_of-member.ensures
           (sink c.write_value.new.bytes.items c.write_value.new.resources.items) c.in-Ok.after c.if-not-member.false (omega (arith, c.in-Ok.ensures.writes.counted)) c.in-Ok.ensures.writes;
     }
 
@@ -164,7 +180,8 @@ write_parts-returns t c =
     let ms = a.members.now in
     let all : c.loop-k.k ≡ length (viewed_values ms) = omega (arith, c.loop-k-test.false, c.loop-k.auto.k-end, c.count_of-k-end.ensures) in
     record {
-      writes = image_end (sink a.bytes.now.items a.resources.now.items) a.place (viewed_shapes a.types.now ms) (viewed_names ms) (viewed_values ms) a.first (sink c.loop-k.bytes.items c.loop-k.resources.items) c.loop-k.next c.loop-k.k c.loop-k.invariant.written (all ∙ c.requires.count)
+      writes = image_end (sink a.bytes.now.items a.resources.now.items) a.place (viewed_shapes a.types.now ms) (viewed_names ms) (viewed_values ms) a.first
+          (sink c.loop-k.bytes.items c.loop-k.resources.items) c.loop-k.next c.loop-k.k c.loop-k.invariant.written (all ∙ c.requires.count)
           (all ∙ sym (names_count ms)) all;
     }
 
@@ -184,7 +201,8 @@ write_value-returns-in-Ok-Members t c =
     let (known, lies, has, count) = rw c.in-Ok-Members.field-0-is at c.in-Ok-Members.ensures in
     let ms = c.in-Ok-Members.members in
     record {
-      writes = members_written (sink a.bytes.now.items a.resources.now.items) (sink c.write_parts.new.bytes.items c.write_parts.new.resources.items) a.place s (viewed_shapes a.types.now ms) (viewed_names ms) (viewed_values ms) a.value.now c.write_parts.result (omega arith) lies has count
+      writes = members_written (sink a.bytes.now.items a.resources.now.items) (sink c.write_parts.new.bytes.items c.write_parts.new.resources.items) a.place s (viewed_shapes a.types.now ms)
+          (viewed_names ms) (viewed_values ms) a.value.now c.write_parts.result (omega arith) lies has count
           (image_parts_told (sink a.bytes.now.items a.resources.now.items) (sink c.write_parts.new.bytes.items c.write_parts.new.resources.items) a.place c.saturating_add.result (viewed_shapes a.types.now ms) (viewed_names ms) (viewed_values ms) c.write_parts.result c.saturating_add.ensures
           c.write_parts.ensures.writes);
     }

@@ -11,7 +11,8 @@ use Rattle.canon_image_parts.proofs.write.mark_names.Goals as goal
 
 pub loop-name-init : goal.loop-name-init
 loop-name-init c = record {
-  stored = stored_begin c.args.memory.now c.args.memory.now c.args.at (flags_size (length (flag_names c.args.types.now c.args.i))) (flag_names c.args.types.now c.args.i) c.requires.room (record { same_length = refl; kept = λ i out. refl }) c.requires.zeros;
+  stored = stored_begin c.args.memory.now c.args.memory.now c.args.at (flags_size (length (flag_names c.args.types.now c.args.i))) (flag_names c.args.types.now c.args.i) c.requires.room
+      (record { same_length = refl; kept = λ i out. refl }) c.requires.zeros;
 }
 
 pub returns-in_default : goal.returns-in_default

@@ -13,6 +13,8 @@ pub returns-in-Ok : goal.returns-in-Ok
 returns-in-Ok c =
     let a = c.args in
     record {
-      writes = λ xs. scalar_written a.types.now (sink a.bytes.now.items xs) (sink c.put_number.new.bytes.items xs) a.ty.now a.value.now a.word c.canonical_abi.result.now.size32 a.place c.saturating_add.result (c.canonical_abi.ensures.size false) c.requires.word (c.in-Ok.ensures.ok, refl)
+      writes = λ xs. scalar_written a.types.now (sink a.bytes.now.items xs)
+          (sink c.put_number.new.bytes.items xs) a.ty.now a.value.now a.word c.canonical_abi.result.now.size32 a.place c.saturating_add.result (c.canonical_abi.ensures.size false) c.requires.word
+          (c.in-Ok.ensures.ok, refl)
           c.saturating_add.ensures;
     }

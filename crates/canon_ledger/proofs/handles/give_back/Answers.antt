@@ -44,7 +44,8 @@ loop-place-preserved c = record {
       (first_left c.args.context.now.scope.lenders c.loop-place.place
       (record { table = c.lender-table.result.0; index = c.lender-table.result.1 })
       c.lender-table.ensures) c.loop-place.invariant.owed) c.index_mut-entries.result.now c.index_mut-entries.ensures.value c.resource_undo_lend-answer.new.self c.resource_undo_lend-answer.new.counter c.resource_undo_lend-answer.result c.resource_undo_lend-answer.ensures.step scopes
-      ∙ ap (λ l. give_back l (handles_of c.loop-place.tables.items c.loop-place.counter scopes)) (sym (first_left c.args.context.now.scope.lenders c.loop-place.place (record { table = c.lender-table.result.0; index = c.lender-table.result.1 }) c.lender-table.ensures))
+      ∙ ap (λ l. give_back l (handles_of c.loop-place.tables.items c.loop-place.counter scopes))
+      (sym (first_left c.args.context.now.scope.lenders c.loop-place.place (record { table = c.lender-table.result.0; index = c.lender-table.result.1 }) c.lender-table.ensures))
       ∙ c.loop-place.invariant.rest scopes;
 }
 

@@ -82,4 +82,5 @@ returns-clause-lowers g c =
     let core = a.cx.now.core.now in
     let f = g.T.LowerShared.gives in
     let W = g.T.ComponentType.walks in
-    row_end L a.cx.now.options core a.ty.now W f a.items.now c.loop-k.cx.core.now c.loop-k.cx.options c.loop-k.dst c.loop-k.at c.loop-k.k c.loop-k.invariant.small (omega (arith, c.loop-k-test.false, c.loop-k.auto.k-end)) c.loop-k.invariant.row
+    row_end L a.cx.now.options core a.ty.now W f a.items.now c.loop-k.cx.core.now c.loop-k.cx.options c.loop-k.dst c.loop-k.at c.loop-k.k c.loop-k.invariant.small
+    (omega (arith, c.loop-k-test.false, c.loop-k.auto.k-end)) c.loop-k.invariant.row

@@ -33,7 +33,8 @@ returns-in-Err-clause-stores g c =
     let i = core.component.types in
     let s = shape_of i.types a.pair.now.key in
     let u = shape_of i.types a.pair.now.value in
-    pair_stops s u L a.cx.now.options core c.linear_lower_to_memory.new.cx.core.now a.at (g.K.ComponentType.walks a.key.now) (g.V.ComponentType.walks a.value.now) (g.K.LowerShared.gives i s a.key.now) (g.V.LowerShared.gives i u a.value.now) c.requires.room
+    pair_stops s u L a.cx.now.options core c.linear_lower_to_memory.new.cx.core.now a.at (g.K.ComponentType.walks a.key.now) (g.V.ComponentType.walks a.value.now)
+    (g.K.LowerShared.gives i s a.key.now) (g.V.LowerShared.gives i u a.value.now) c.requires.room
     c.in-Err.fault c.in-Err.ensures.stores
 
 pub returns-clause-stores : goal.returns-clause-stores
@@ -50,7 +51,8 @@ returns-clause-stores g c =
     let V = g.V.ComponentType.walks in
     let f = g.V.LowerShared.gives in
     let place : a.at + c.from.result ≡ a.at + begins false (ends false 0 s) u = ap (λ (n : ℕ). a.at + n) (c.from.ensures ∙ c.requires.pair.second) in
-    let second = value_stood L.seen L.moves a.cx.now.options V f i b d c.linear_lower_to_memory.new.cx.options a.pair.now.value (a.at + c.from.result) a.value.now r c.in-Ok.ensures.same_options (handles_instance core b c.in-Ok.ensures.stores.same)
+    let second = value_stood L.seen L.moves a.cx.now.options V f i b d c.linear_lower_to_memory.new.cx.options a.pair.now.value (a.at + c.from.result) a.value.now r c.in-Ok.ensures.same_options
+    (handles_instance core b c.in-Ok.ensures.stores.same)
     c.linear_lower_to_memory-2.ensures.stores in
     pair_stores s u L a.cx.now.options core b a.at (g.K.ComponentType.walks a.key.now) (V a.value.now) (g.K.LowerShared.gives i s a.key.now) (f i u a.value.now) c.requires.room d r c.in-Ok.ensures.stores
     (subst (λ (n : ℕ). TypedStores L.seen L.moves a.cx.now.options b d u n (V a.value.now) (f i u a.value.now) r) place second)

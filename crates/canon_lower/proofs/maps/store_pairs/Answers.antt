@@ -62,12 +62,14 @@ loop-key-preserved g c =
     let x : g.row.K.Denot × g.row.V.Denot = (c.in-Some.key.now, c.in-Some.value.now) in
     let e : drop k xs ≡ x ∷ c.next.new.self = sym inv.left ∙ c.in-Some.ensures.steps in
     let here : drop k xs ≡ x ∷ drop (k + 1) xs = e ∙ ap (λ zs. x ∷ zs) (sym (left_next xs c.next.new.self k x e)) in
-    let one = pair_stood L.seen L.moves a.cx.now.options W gives core.component.types now c.store_pair.new.cx.core.now c.loop-key.cx.options a.pair.now c.loop-key.at (a.offset + k * size false s) x (Ok tt) inv.options (handles_instance core now inv.stored.same) inv.place
+    let one = pair_stood L.seen L.moves a.cx.now.options W gives core.component.types now c.store_pair.new.cx.core.now c.loop-key.cx.options a.pair.now c.loop-key.at (a.offset + k * size false s) x
+    (Ok tt) inv.options (handles_instance core now inv.stored.same) inv.place
     c.in-Ok.ensures.stores in
     let count : k + 1 ≡ length (c.loop-key.yielded ++ (c.in-Some.key, c.in-Some.value) ∷ []) = sym (length-append c.loop-key.yielded ((c.in-Some.key, c.in-Some.value) ∷ [])) in
     let bytes : c.from-size.result ≡ size false s = c.from-size.ensures ∙ (c.requires.pair.layout.size false) in
     record {
-      stored = subst (λ (n : ℕ). RowIsStored L a.cx.now.options W (gives core.component.types s) s a.offset xs core c.store_pair.new.cx.core.now n) count (row_go_on L a.cx.now.options W (gives core.component.types s) s a.offset xs core now c.store_pair.new.cx.core.now k x here one inv.stored);
+      stored = subst (λ (n : ℕ). RowIsStored L a.cx.now.options W (gives core.component.types s) s a.offset xs core c.store_pair.new.cx.core.now n) count
+          (row_go_on L a.cx.now.options W (gives core.component.types s) s a.offset xs core now c.store_pair.new.cx.core.now k x here one inv.stored);
       left = sym (ap (λ (n : ℕ). drop n xs) (sym count) ∙ left_next xs c.next.new.self k x e);
       place = omega (arith, inv.place, bytes, add-mul k 1 (size false s), one-mul (size false s), ap (λ (n : ℕ). n * size false s) count);
       options = c.in-Ok.ensures.same_options ∙ inv.options;
@@ -89,7 +91,8 @@ returns-in-Err-clause-stores g c =
     let x : g.row.K.Denot × g.row.V.Denot = (c.in-Some.key.now, c.in-Some.value.now) in
     let e : drop k xs ≡ x ∷ c.next.new.self = sym inv.left ∙ c.in-Some.ensures.steps in
     let here : drop k xs ≡ x ∷ drop (k + 1) xs = e ∙ ap (λ zs. x ∷ zs) (sym (left_next xs c.next.new.self k x e)) in
-    let one = pair_stood L.seen L.moves a.cx.now.options W gives core.component.types now c.store_pair.new.cx.core.now c.loop-key.cx.options a.pair.now c.loop-key.at (a.offset + k * size false s) x (Err c.in-Err.fault) inv.options (handles_instance core now inv.stored.same) inv.place
+    let one = pair_stood L.seen L.moves a.cx.now.options W gives core.component.types now c.store_pair.new.cx.core.now c.loop-key.cx.options a.pair.now c.loop-key.at (a.offset + k * size false s) x
+    (Err c.in-Err.fault) inv.options (handles_instance core now inv.stored.same) inv.place
     c.in-Err.ensures.stores in
     row_broken L a.cx.now.options W (gives core.component.types s) s a.offset xs core now c.store_pair.new.cx.core.now k x c.in-Err.fault here one inv.stored
 

@@ -15,7 +15,8 @@ invariant-loop-key g l =
     let core = l.fn.cx.core.now in
     let s = pair_in (component_types core) l.pair in
     record {
-      stored : RowIsStored L l.fn.cx.options (PairMeans g.K.ComponentType.walks g.V.ComponentType.walks) (pair_gives g.K.LowerShared.gives g.V.LowerShared.gives core.component.types s) s l.offset l.map.entries core l.cx.core.now (length l.yielded);
+      stored : RowIsStored L l.fn.cx.options (PairMeans g.K.ComponentType.walks g.V.ComponentType.walks)
+          (pair_gives g.K.LowerShared.gives g.V.LowerShared.gives core.component.types s) s l.offset l.map.entries core l.cx.core.now (length l.yielded);
       left : ◌≡◌ {A = List (g.row.K.Denot × g.row.V.Denot)} l.key-iterator (drop (length l.yielded) l.map.entries);
       place : l.at ≡ l.offset + length l.yielded * size false s;
       options : l.cx.options ≡ l.fn.cx.options;

@@ -16,5 +16,6 @@ returns-clause-lowers g c =
     let low = c.linear_lower_to_flat in
     let words : c.flat_words.result ≡ flat s = c.flat_words.ensures ∙ ap (λ (x : TypeTable). flat (shape_of x a.ty)) c.types.ensures in
     at_lowers L a.cx.now.options core low.new.cx.core.now s a.dst.now low.new.dst a.at.now (a.at.now + c.flat_words.result - a.at.now) (g.T.ComponentType.walks a.value.now)
-    (g.T.Lower.gives core.component.types s a.value.now) low.result (λ t has. walked_shaped g.T.ComponentType.fits g.T.ComponentType.walks g.T.ComponentType.means g.met.T.ComponentType.typed g.met.T.ComponentType.walked a.value.now core.component.types a.ty t c.requires.fits has)
+    (g.T.Lower.gives core.component.types s a.value.now) low.result
+    (λ t has. walked_shaped g.T.ComponentType.fits g.T.ComponentType.walks g.T.ComponentType.means g.met.T.ComponentType.typed g.met.T.ComponentType.walked a.value.now core.component.types a.ty t c.requires.fits has)
     (omega (arith, words)) c.requires.room (omega (arith, low.ensures.count, words, low.auto.dst, c.requires.room)) low.ensures.lowers

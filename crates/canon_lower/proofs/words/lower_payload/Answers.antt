@@ -32,6 +32,8 @@ returns-in-Some-clause-lowers g c =
     let core = a.cx.now.core.now in
     let C = g.T.ComponentType in
     let low = c.lower_case in
-    let (unit, fits) = some_payload g.U.ComponentType.is_unit C.fits core.component.types c.in-Some.ty (subst (λ (p : Option InterfaceType). IsPayloadOf g.U.ComponentType.is_unit C.fits core.component.types p) c.in-Some.is c.requires.fits) in
-    λ s h room. payload_case L a.cx.now.options core low.new.cx.core.now s a.case g.U.ComponentType.is_unit C.walks g.T.Lower.gives core.component.types a.value.now (shape_of (component_types core) c.in-Some.ty) low.new.dst low.result unit c.ranges.case.fits
+    let (unit, fits) = some_payload g.U.ComponentType.is_unit C.fits core.component.types c.in-Some.ty
+    (subst (λ (p : Option InterfaceType). IsPayloadOf g.U.ComponentType.is_unit C.fits core.component.types p) c.in-Some.is c.requires.fits) in
+    λ s h room. payload_case L a.cx.now.options core low.new.cx.core.now s a.case g.U.ComponentType.is_unit C.walks g.T.Lower.gives core.component.types a.value.now
+    (shape_of (component_types core) c.in-Some.ty) low.new.dst low.result unit c.ranges.case.fits
     (omega (arith, low.ensures.count, room)) (subst (λ (p : Option InterfaceType). HasCase s a.case (payload_in (all_shapes (component_types core)) p)) c.in-Some.is h) low.ensures.lowers low.ensures.words

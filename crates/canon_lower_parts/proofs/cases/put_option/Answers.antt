@@ -16,5 +16,6 @@ returns-clause-put g c =
       shape = at.shape;
       known = at.known;
       fits = at.fits;
-      put = subst (λ (x : InterfaceType). IsCasePut core c.put_case-inner.new.cx.core.now (variant_cases (shape_of (component_types core) x)) c.args.offset c.args.tag c.put_case-inner.result) (sym c.in-Option.is) c.put_case-inner.ensures.put;
+      put = subst (λ (x : InterfaceType). IsCasePut core c.put_case-inner.new.cx.core.now (variant_cases (shape_of (component_types core) x)) c.args.offset c.args.tag c.put_case-inner.result)
+          (sym c.in-Option.is) c.put_case-inner.ensures.put;
     }

@@ -64,4 +64,5 @@ returns-in-Index-clause-moves g c =
     let rep = g.R.HeldResource.rep a.resource.now in
     let same : is_of_type (resource_type_at i a.t) kind ≡ c.is_of_type.result = ap (λ (k : ResourceType). is_of_type (resource_type_at i a.t) k) (sym c.kind-kind.ensures) ∙ sym c.is_of_type.ensures in
     own_moved i a.t kind rep l c.lower_own.new.self.ledger st c.in-Index.idx c.lower_own.result (sym c.state.ensures ∙ c.in-Index.is)
-    (subst (λ (x : Any). LeafMoves l c.lower_own.new.self.ledger (lower_parts i (passed true a.t x)) c.lower_own.result) (c.new.ensures ∙ ap (λ (k : ResourceType). any (handle.Own c.in-Index.idx) k) c.kind-kind.ensures) c.lower_own.ensures.moves)
+    (subst (λ (x : Any). LeafMoves l c.lower_own.new.self.ledger (lower_parts i (passed true a.t x)) c.lower_own.result) (c.new.ensures
+    ∙ ap (λ (k : ResourceType). any (handle.Own c.in-Index.idx) k) c.kind-kind.ensures) c.lower_own.ensures.moves)

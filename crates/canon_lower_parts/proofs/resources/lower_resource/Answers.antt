@@ -15,7 +15,8 @@ returns-in-Ok-clause-lowers g c =
     let a = c.args in
     let core = a.cx.now.core.now in
     let (owned, r, shape) = lower_handle_shape core.component.types a.ty c.requires.fits in
-    handle_lowers L a.cx.now.options core c.give_handle.new.cx.core.now owned r (shape_of (component_types core) a.ty) shape c.memory-memory.ensures.small a.dst.now (handle_gives core.component.types (shape_of (component_types core) a.ty) a.resource)
+    handle_lowers L a.cx.now.options core c.give_handle.new.cx.core.now owned r (shape_of (component_types core) a.ty) shape c.memory-memory.ensures.small a.dst.now
+    (handle_gives core.component.types (shape_of (component_types core) a.ty) a.resource)
     c.in-Ok.number c.u32.result c.requires.words c.u32.ensures c.in-Ok.ensures.gives
 
 pub returns-in-Err-clause-lowers : goal.returns-in-Err-clause-lowers
@@ -24,5 +25,6 @@ returns-in-Err-clause-lowers g c =
     let a = c.args in
     let core = a.cx.now.core.now in
     let (owned, r, shape) = lower_handle_shape core.component.types a.ty c.requires.fits in
-    lower_handle_refused L a.cx.now.options core c.give_handle.new.cx.core.now owned r (shape_of (component_types core) a.ty) shape c.memory-memory.ensures.small a.dst.now (handle_gives core.component.types (shape_of (component_types core) a.ty) a.resource)
+    lower_handle_refused L a.cx.now.options core c.give_handle.new.cx.core.now owned r (shape_of (component_types core) a.ty) shape c.memory-memory.ensures.small a.dst.now
+    (handle_gives core.component.types (shape_of (component_types core) a.ty) a.resource)
     c.in-Err.fault c.in-Err.ensures.gives

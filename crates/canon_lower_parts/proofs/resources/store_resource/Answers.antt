@@ -13,7 +13,8 @@ put-requires-clause-room g c =
     let a = c.args in
     let core = a.cx.now.core.now in
     let (owned, r, shape) = lower_handle_shape core.component.types a.ty c.requires.fits in
-    number_room L a.cx.now.options core c.give_handle.new.cx.core.now owned r (shape_of (component_types core) a.ty) shape c.memory-memory.ensures.small a.offset (handle_gives core.component.types (shape_of (component_types core) a.ty) a.resource)
+    number_room L a.cx.now.options core c.give_handle.new.cx.core.now owned r (shape_of (component_types core) a.ty) shape c.memory-memory.ensures.small a.offset
+    (handle_gives core.component.types (shape_of (component_types core) a.ty) a.resource)
     (Ok c.in-Ok.number) c.requires.room c.in-Ok.ensures.gives
 
 pub returns-in-Ok-clause-stores : goal.returns-in-Ok-clause-stores
@@ -22,7 +23,8 @@ returns-in-Ok-clause-stores g c =
     let a = c.args in
     let core = a.cx.now.core.now in
     let (owned, r, shape) = lower_handle_shape core.component.types a.ty c.requires.fits in
-    handle_stores L a.cx.now.options core c.give_handle.new.cx.core.now owned r (shape_of (component_types core) a.ty) shape c.memory-memory.ensures.small c.put.new.cx.core.now a.offset (handle_gives core.component.types (shape_of (component_types core) a.ty) a.resource)
+    handle_stores L a.cx.now.options core c.give_handle.new.cx.core.now owned r (shape_of (component_types core) a.ty) shape c.memory-memory.ensures.small c.put.new.cx.core.now a.offset
+    (handle_gives core.component.types (shape_of (component_types core) a.ty) a.resource)
     c.in-Ok.number c.requires.room c.in-Ok.ensures.gives (subst (λ (n : ℕ). IsPut c.give_handle.new.cx.core.now c.put.new.cx.core.now a.offset n 4) c.from.ensures c.put.ensures.put)
 
 pub returns-in-Err-clause-stores : goal.returns-in-Err-clause-stores
@@ -31,5 +33,6 @@ returns-in-Err-clause-stores g c =
     let a = c.args in
     let core = a.cx.now.core.now in
     let (owned, r, shape) = lower_handle_shape core.component.types a.ty c.requires.fits in
-    handle_unstored L a.cx.now.options core c.give_handle.new.cx.core.now owned r (shape_of (component_types core) a.ty) shape c.memory-memory.ensures.small a.offset (handle_gives core.component.types (shape_of (component_types core) a.ty) a.resource)
+    handle_unstored L a.cx.now.options core c.give_handle.new.cx.core.now owned r (shape_of (component_types core) a.ty) shape c.memory-memory.ensures.small a.offset
+    (handle_gives core.component.types (shape_of (component_types core) a.ty) a.resource)
     c.in-Err.fault c.in-Err.ensures.gives

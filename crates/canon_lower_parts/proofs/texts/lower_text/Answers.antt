@@ -20,6 +20,7 @@ returns-clause-lowers g c =
     let a = c.args in
     let core = a.cx.now.core.now in
     let L : GuestLaws _ = record { seen = g.G.Guest.seen; moves = g.G.Guest.moves; stays = g.met.G.Guest.stays; goes_on = g.met.G.Guest.goes_on } in
-    subst (λ (s : Shape). TypedLowers L.seen L.moves a.cx.now.options core c.place_text-placed.new.cx.core.now s c.put_words.new.dst 0 (TextMeans a.text.now) [] c.put_words.result) (sym (ap (shape_of (component_types core)) c.requires.fits))
+    subst (λ (s : Shape). TypedLowers L.seen L.moves a.cx.now.options core c.place_text-placed.new.cx.core.now s c.put_words.new.dst 0 (TextMeans a.text.now) [] c.put_words.result)
+    (sym (ap (shape_of (component_types core)) c.requires.fits))
     (placed_done L a.cx.now.options core c.place_text-placed.new.cx.core.now string (TextMeans a.text.now) [] refl c.place_text-placed.result c.put_words.result c.put_words.new.dst text_flat (λ t has. tt) c.put_words.ensures.done c.put_words.ensures.there
     c.place_text-placed.ensures.places)

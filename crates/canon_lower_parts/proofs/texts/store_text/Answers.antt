@@ -19,5 +19,6 @@ returns-clause-stores g c =
     let L : GuestLaws _ = record { seen = g.G.Guest.seen; moves = g.G.Guest.moves; stays = g.met.G.Guest.stays; goes_on = g.met.G.Guest.goes_on } in
     let a = c.args in
     let p = c.place_text-placed in
-    text_done L a.cx.now.options a.cx.now.core.now p.new.cx.core.now a.ty c.requires.fits a.offset c.requires.room (TextMeans a.text.now) [] c.put_placed.new.cx.core.now p.result c.put_placed.result c.put_placed.ensures.done c.put_placed.ensures.put
+    text_done L a.cx.now.options a.cx.now.core.now p.new.cx.core.now a.ty c.requires.fits a.offset c.requires.room
+    (TextMeans a.text.now) [] c.put_placed.new.cx.core.now p.result c.put_placed.result c.put_placed.ensures.done c.put_placed.ensures.put
     p.ensures.places

@@ -7,7 +7,8 @@ pub loop-k-init : goal.loop-k-init
 loop-k-init c = clears_none c.args.from c.args.dst.now
 
 pub loop-k-preserved : goal.loop-k-preserved
-loop-k-preserved c = clears_one c.args.from c.loop-k.k c.u32.result c.args.dst.now c.loop-k.dst c.loop-k.auto.k (omega (arith, c.loop-k.auto.dst, c.loop-k-test.true, c.loop-k.auto.k-end, c.loop-k.invariant.written.stays.same_length)) c.u32.ensures c.loop-k.invariant
+loop-k-preserved c = clears_one c.args.from c.loop-k.k c.u32.result c.args.dst.now c.loop-k.dst c.loop-k.auto.k
+    (omega (arith, c.loop-k.auto.dst, c.loop-k-test.true, c.loop-k.auto.k-end, c.loop-k.invariant.written.stays.same_length)) c.u32.ensures c.loop-k.invariant
 
 pub returns-clause-stays : goal.returns-clause-stays
 returns-clause-stays c = c.loop-k.invariant.written.stays

@@ -19,6 +19,7 @@ returns-clause-stores g c =
     let a = c.args in
     let core = a.cx.now.core.now in
     let shape = g.met.S.ScalarType.is_scalar.shape core.component.types a.ty c.requires.fits in
-    lower_scalar_stores L a.cx.now.options core c.put.new.cx.core.now (shape_of (component_types core) a.ty) g.S.ScalarType.kind a.offset c.get_u64.result c.canonical_abi.result.now.size32 (g.S.ComponentType.walks a.value) c.memory-memory.ensures.small shape c.requires.room
+    lower_scalar_stores L a.cx.now.options core c.put.new.cx.core.now (shape_of (component_types core) a.ty) g.S.ScalarType.kind a.offset c.get_u64.result c.canonical_abi.result.now.size32
+    (g.S.ComponentType.walks a.value) c.memory-memory.ensures.small shape c.requires.room
     (item_size (component_types core) c.types.result.now a.ty c.canonical_abi.result.now c.types.ensures c.canonical_abi.ensures) c.put.ensures.put
     (subst (λ (w : ℕ). IsWordOfScalar g.S.ScalarType.kind (g.S.ComponentType.walks a.value) w) (sym c.get_u64.ensures) c.word.ensures)

@@ -71,7 +71,11 @@ payload_words-loop-payload-preserved t c =
     )
 
 pub payload_words-returns : goal.payload_words-returns
-payload_words-returns t c = omega (arith, c.loop-payload.invariant, no_payloads (all_shapes c.args.types.now) c.args.payloads.now c.loop-payload.payload-index (omega (arith, c.loop-payload-test.false, c.loop-payload.auto.payload-index-end)))
+payload_words-returns t c = omega (
+  arith,
+  c.loop-payload.invariant,
+  no_payloads (all_shapes c.args.types.now) c.args.payloads.now c.loop-payload.payload-index (omega (arith, c.loop-payload-test.false, c.loop-payload.auto.payload-index-end)),
+)
 
 -- ---- a type by its parts
 

@@ -8,7 +8,8 @@ use Rattle.canon_plan.proofs.plan.field_slot.Goals.{After-record}
 use Rattle.canon_plan.proofs.plan.field_slot.Goals as goal
 
 in_record : (c : After-record) → c.args.k < length c.record.result.now.fields.items
-in_record c = in_fields c.args.types.now c.args.types.now c.args.i c.args.k (member_count (product_members (shape_of c.args.types.now (ty.Record c.args.i)))) c.record.result.now.fields.items refl c.record.ensures.entry refl c.requires.inside
+in_record c = in_fields c.args.types.now c.args.types.now c.args.i c.args.k
+    (member_count (product_members (shape_of c.args.types.now (ty.Record c.args.i)))) c.record.result.now.fields.items refl c.record.ensures.entry refl c.requires.inside
 
 pub index-field-requires : goal.index-field-requires
 index-field-requires c = omega (arith, in_record c, c.record.result.now.fields.ok.0)

@@ -6,7 +6,8 @@ use Rattle.canon_recording.proofs.Deciding.{written_few, written_known}
 use Rattle.canon_recording.proofs.decoding.decode_runs.Goals as goal
 
 pub first_no_run-requires-clause-known : goal.first_no_run-requires-clause-known
-first_no_run-requires-clause-known c = subst (λ xs. All (λ (r : RecordedCall). r.export < length c.args.c.now.exports.items) (recorded_calls xs)) (sym c.as_slice.ensures.value) (written_known (exports_of c.args.c.now) (imports_of c.args.c.now) (recorded_calls c.in-Ok.calls.items) c.args.bytes.now c.in-Ok.ensures.is)
+first_no_run-requires-clause-known c = subst (λ xs. All (λ (r : RecordedCall). r.export < length c.args.c.now.exports.items) (recorded_calls xs)) (sym c.as_slice.ensures.value)
+    (written_known (exports_of c.args.c.now) (imports_of c.args.c.now) (recorded_calls c.in-Ok.calls.items) c.args.bytes.now c.in-Ok.ensures.is)
 
 pub first_no_run-requires-clause-few : goal.first_no_run-requires-clause-few
 first_no_run-requires-clause-few c = subst (λ xs. length xs < 2 ^ 32) (sym c.as_slice.ensures.value) (written_few (exports_of c.args.c.now) (imports_of c.args.c.now) c.in-Ok.calls.items c.args.bytes.now c.in-Ok.ensures.is)

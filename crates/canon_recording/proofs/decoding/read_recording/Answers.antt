@@ -12,6 +12,7 @@ returns-in-Ok c = record { reads = behind_letters (counted_row 4 (a_call true (e
 
 pub returns-in-Err : goal.returns-in-Err
 returns-in-Err c = record {
-  reads = named_stops (λ (x : Unit {0} × List RecordedCall). x.1) (also (exactly letters) (counted_row 4 (a_call true (exports_of c.args.c.now) (imports_of c.args.c.now)))) c.args.bytes.now c.args.at.now c.read_letters.new.at c.read_letters.new.at c.in-Err.error
+  reads = named_stops (λ (x : Unit {0} × List RecordedCall). x.1)
+      (also (exactly letters) (counted_row 4 (a_call true (exports_of c.args.c.now) (imports_of c.args.c.now)))) c.args.bytes.now c.args.at.now c.read_letters.new.at c.read_letters.new.at c.in-Err.error
       (recording_first_stops (exactly letters) (counted_row 4 (a_call true (exports_of c.args.c.now) (imports_of c.args.c.now))) c.args.bytes.now c.args.at.now c.read_letters.new.at c.read_letters.new.at c.read_letters.new.at c.in-Err.error c.in-Err.ensures.reads);
 }

@@ -12,7 +12,8 @@ pub read_values-requires-clause-known : goal.read_values-requires-clause-known
 read_values-requires-clause-known c = subst (All (Knows c.types-types.result.now)) (sym c.as_slice-tys.ensures.value) c.tuple.ensures.entry.known
 
 pub read_values-requires-clause-no_handle : goal.read_values-requires-clause-no_handle
-read_values-requires-clause-no_handle c = subst HaveNoHandle (sym (ap (members_of c.types-types.result.now) (c.as_slice-tys.ensures.value ∙ c.tuple.ensures.types) ∙ ap (λ t. tuple_members t c.args.tuple) c.types-types.ensures)) c.requires.no_handle
+read_values-requires-clause-no_handle c = subst HaveNoHandle
+    (sym (ap (members_of c.types-types.result.now) (c.as_slice-tys.ensures.value ∙ c.tuple.ensures.types) ∙ ap (λ t. tuple_members t c.args.tuple) c.types-types.ensures)) c.requires.no_handle
 
 pub returns : goal.returns
 returns c = record { reads = subst (λ ms. ReadsFormat (values true ms) c.args.bytes.now c.args.at.now c.read_values.new.at (seen_as (λ vals. vals.items) c.read_values.result)) (ap (members_of c.types-types.result.now) (c.as_slice-tys.ensures.value ∙ c.tuple.ensures.types) ∙ ap (λ t. tuple_members t c.args.tuple) c.types-types.ensures) c.read_values.ensures.reads }

@@ -17,9 +17,11 @@ read_value-requires c =
 
 pub loop-ty-preserved : goal.loop-ty-preserved
 loop-ty-preserved c =
-    let read = each_go_on (typed true c.args.types.now) c.args.bytes.now c.args.at.now c.loop-ty.at c.read_value.new.at (take c.loop-ty.ty-index c.args.tys.now) c.ty-item.result c.loop-ty.vals.items c.in-Ok.val c.loop-ty.invariant.read c.in-Ok.ensures.reads in
+    let read = each_go_on (typed true c.args.types.now) c.args.bytes.now c.args.at.now c.loop-ty.at c.read_value.new.at
+    (take c.loop-ty.ty-index c.args.tys.now) c.ty-item.result c.loop-ty.vals.items c.in-Ok.val c.loop-ty.invariant.read c.in-Ok.ensures.reads in
     record {
-      read = subst₂ (λ is xs. IsReadSoFar (for_each (typed true c.args.types.now) is) c.args.bytes.now c.args.at.now c.read_value.new.at xs) (take_next c.args.tys.now c.loop-ty.ty-index c.ty-item.result c.loop-ty-test.true (sym c.ty-item.is)) (sym c.in-Ok-keep.ensures.ok) read;
+      read = subst₂ (λ is xs. IsReadSoFar (for_each (typed true c.args.types.now) is) c.args.bytes.now c.args.at.now c.read_value.new.at xs)
+          (take_next c.args.tys.now c.loop-ty.ty-index c.ty-item.result c.loop-ty-test.true (sym c.ty-item.is)) (sym c.in-Ok-keep.ensures.ok) read;
     }
 
 pub returns : goal.returns
@@ -33,7 +35,8 @@ returns c =
 pub returns-in-Err : goal.returns-in-Err
 returns-in-Err c =
     let split = split_at c.args.tys.now c.loop-ty.ty-index c.ty-item.result c.loop-ty-test.true (sym c.ty-item.is) in
-    let stop = each_stop (typed true c.args.types.now) c.args.bytes.now c.args.at.now c.loop-ty.at c.read_value.new.at c.read_value.new.at (take c.loop-ty.ty-index c.args.tys.now) c.ty-item.result (drop (suc c.loop-ty.ty-index) c.args.tys.now) c.loop-ty.vals.items c.in-Err.error c.loop-ty.invariant.read c.in-Err.ensures.reads in
+    let stop = each_stop (typed true c.args.types.now) c.args.bytes.now c.args.at.now c.loop-ty.at c.read_value.new.at c.read_value.new.at (take c.loop-ty.ty-index c.args.tys.now) c.ty-item.result
+    (drop (suc c.loop-ty.ty-index) c.args.tys.now) c.loop-ty.vals.items c.in-Err.error c.loop-ty.invariant.read c.in-Err.ensures.reads in
     record {
       reads = subst (λ F. ReadsFormat F c.args.bytes.now c.args.at.now c.read_value.new.at (Err c.in-Err.error)) (values_each true c.args.types.now c.args.tys.now)
           (subst (λ is. ReadsFormat (for_each (typed true c.args.types.now) is) c.args.bytes.now c.args.at.now c.read_value.new.at (Err c.in-Err.error)) split stop);

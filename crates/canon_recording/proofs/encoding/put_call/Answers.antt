@@ -7,7 +7,12 @@ use Rattle.canon_recording.proofs.encoding.put_call.Goals as goal
 
 pub returns-in-Ok : goal.returns-in-Ok
 returns-in-Ok c =
-    let parts = named_written (recorded_call_of false c.args.call.now.export) (also (passed_values false (exports_of c.args.c.now) c.args.call.now.export) (what_was_done false (exports_of c.args.c.now) (imports_of c.args.c.now))) (call_one (exports_of c.args.c.now) (imports_of c.args.c.now) c.args.call.now.export) ((c.args.call.now.params.items, c.args.call.now.results.items), (c.args.call.now.events, served_asks c.args.call.now.served.items)) c.put_u32.new.bytes.items c.put_known_call.new.bytes.items c.put_known_call.result c.put_known_call.ensures.writes in
+    let parts = named_written (recorded_call_of false c.args.call.now.export)
+    (also (passed_values false (exports_of c.args.c.now) c.args.call.now.export) (what_was_done false (exports_of c.args.c.now) (imports_of c.args.c.now)))
+    (call_one (exports_of c.args.c.now) (imports_of c.args.c.now) c.args.call.now.export) (
+      (c.args.call.now.params.items, c.args.call.now.results.items),
+      (c.args.call.now.events, served_asks c.args.call.now.served.items),
+    ) c.put_u32.new.bytes.items c.put_known_call.new.bytes.items c.put_known_call.result c.put_known_call.ensures.writes in
     record { writes = numbered_written 4 (λ n. n < (exports_of c.args.c.now).count) (λ n. as_ (recorded_call_of false n) (also (passed_values false (exports_of c.args.c.now) n) (what_was_done false (exports_of c.args.c.now) (imports_of c.args.c.now)))) c.args.call.now.export (recorded_call c.args.call.now) (λ m xs h. sym (call_number (exports_of c.args.c.now) (imports_of c.args.c.now) m (recorded_call c.args.call.now) xs h)) c.args.bytes.now.items c.put_u32.new.bytes.items c.put_known_call.new.bytes.items c.put_known_call.result c.requires.of.its.known c.in-Ok.ensures.writes parts }
 
 pub returns-in-Err : goal.returns-in-Err

@@ -11,11 +11,14 @@ use Rattle.canon_recording.proofs.encoding.put_recording.Goals as goal
 pub returns-in-Ok : goal.returns-in-Ok
 returns-in-Ok c =
     let letters_in = exact letters c.args.bytes.now.items c.append.new.bytes.items (Ok tt) c.in-Ok.ensures.writes in
-    let all = then_written (exactly letters) (counted_row 4 (a_call false (exports_of c.args.c.now) (imports_of c.args.c.now))) tt (recorded_calls c.args.calls.now) c.args.bytes.now.items c.append.new.bytes.items c.put_calls.new.bytes.items c.put_calls.new.bytes.items c.put_calls.result (exactly_sound letters) letters_in c.put_calls.ensures.writes in
+    let all = then_written (exactly letters) (counted_row 4 (a_call false (exports_of c.args.c.now) (imports_of c.args.c.now))) tt
+    (recorded_calls c.args.calls.now) c.args.bytes.now.items c.append.new.bytes.items c.put_calls.new.bytes.items c.put_calls.new.bytes.items c.put_calls.result
+    (exactly_sound letters) letters_in c.put_calls.ensures.writes in
     record { writes = named_written (λ (x : Unit {0} × List RecordedCall). x.1) (also (exactly letters) (counted_row 4 (a_call false (exports_of c.args.c.now) (imports_of c.args.c.now)))) calls_one (tt, recorded_calls c.args.calls.now) c.args.bytes.now.items c.put_calls.new.bytes.items c.put_calls.result all }
 
 pub returns-in-Err : goal.returns-in-Err
 returns-in-Err c =
     let letters_in = exact letters c.args.bytes.now.items c.append.new.bytes.items (Err c.in-Err.error) c.in-Err.ensures.writes in
-    let all = first_long (exactly letters) (counted_row 4 (a_call false (exports_of c.args.c.now) (imports_of c.args.c.now))) tt (recorded_calls c.args.calls.now) c.args.bytes.now.items c.append.new.bytes.items c.append.new.bytes.items c.append.new.bytes.items c.in-Err.error letters_in in
+    let all = first_long (exactly letters) (counted_row 4 (a_call false (exports_of c.args.c.now) (imports_of c.args.c.now))) tt
+    (recorded_calls c.args.calls.now) c.args.bytes.now.items c.append.new.bytes.items c.append.new.bytes.items c.append.new.bytes.items c.in-Err.error letters_in in
     record { writes = named_written (λ (x : Unit {0} × List RecordedCall). x.1) (also (exactly letters) (counted_row 4 (a_call false (exports_of c.args.c.now) (imports_of c.args.c.now)))) calls_one (tt, recorded_calls c.args.calls.now) c.args.bytes.now.items c.append.new.bytes.items (Err c.in-Err.error) all }

@@ -32,5 +32,9 @@ returns c =
     let a = c.args in
     record {
       writes = subst (λ F. WritesFormat F a.vals.now c.args.bytes.now.items c.loop-k.bytes.items (Ok tt)) (values_each false a.types.now a.tys.now)
-          (some_all (typed false c.args.types.now) (typed_sound a.types.now) a.tys.now a.vals.now c.args.bytes.now.items c.loop-k.bytes.items c.loop-k.k (omega (arith, c.loop-k-test.false, c.loop-k.auto.k-end)) c.requires.count c.loop-k.invariant.added);
+          (some_all (typed false c.args.types.now) (typed_sound a.types.now) a.tys.now a.vals.now c.args.bytes.now.items c.loop-k.bytes.items c.loop-k.k (omega (
+            arith,
+            c.loop-k-test.false,
+            c.loop-k.auto.k-end,
+          )) c.requires.count c.loop-k.invariant.added);
     }

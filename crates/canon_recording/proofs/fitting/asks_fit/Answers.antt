@@ -10,7 +10,8 @@ loop-ask-init c = rest_begins (IsServedAskOf (imports_of c.args.c.now)) (served_
 
 pub returns-in_err-ask_fits : goal.returns-in_err-ask_fits
 returns-in_err-ask_fits c = record {
-  decides = question_handed_on (IsServedAskOf (imports_of c.args.c.now) (served_ask c.ask-item.result)) (All (IsServedAskOf (imports_of c.args.c.now)) (served_asks c.args.asks.now)) c.in_err-ask_fits.field-0.0 c.from_residual.result c.from_residual.ensures c.in_err-ask_fits.ensures.decides;
+  decides = question_handed_on (IsServedAskOf (imports_of c.args.c.now) (served_ask c.ask-item.result))
+      (All (IsServedAskOf (imports_of c.args.c.now)) (served_asks c.args.asks.now)) c.in_err-ask_fits.field-0.0 c.from_residual.result c.from_residual.ensures c.in_err-ask_fits.ensures.decides;
 }
 
 pub returns-then-not-branch : goal.returns-then-not-branch
@@ -25,5 +26,6 @@ loop-ask-preserved c =
 
 pub returns : goal.returns
 returns c = record {
-  decides = is_so (All (IsServedAskOf (imports_of c.args.c.now)) (served_asks c.args.asks.now)) (rest_is_all (IsServedAskOf (imports_of c.args.c.now)) (served_asks c.args.asks.now) c.loop-ask.ask-index (mapped_past served_ask c.args.asks.now c.loop-ask.ask-index c.loop-ask-test.false) c.loop-ask.invariant);
+  decides = is_so (All (IsServedAskOf (imports_of c.args.c.now)) (served_asks c.args.asks.now))
+      (rest_is_all (IsServedAskOf (imports_of c.args.c.now)) (served_asks c.args.asks.now) c.loop-ask.ask-index (mapped_past served_ask c.args.asks.now c.loop-ask.ask-index c.loop-ask-test.false) c.loop-ask.invariant);
 }

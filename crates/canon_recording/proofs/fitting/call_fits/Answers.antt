@@ -13,13 +13,15 @@ returns-then-not-is_known c = record {
 
 pub returns-in_err-export_fits : goal.returns-in_err-export_fits
 returns-in_err-export_fits c = record {
-  decides = question_handed_on (ArePassedValues (exports_of c.args.c.now) c.args.call.now.export c.args.call.now.params.items c.args.call.now.results.items) (IsRecordedCallOf (exports_of c.args.c.now) (imports_of c.args.c.now) (recorded_call c.args.call.now))
+  decides = question_handed_on (ArePassedValues (exports_of c.args.c.now) c.args.call.now.export c.args.call.now.params.items c.args.call.now.results.items)
+      (IsRecordedCallOf (exports_of c.args.c.now) (imports_of c.args.c.now) (recorded_call c.args.call.now))
       c.in_err-export_fits.field-0.0 c.from_residual.result c.from_residual.ensures c.in_err-export_fits.ensures.decides;
 }
 
 pub returns-then-not-branch : goal.returns-then-not-branch
 returns-then-not-branch c = record {
-  decides = not_so (ArePassedValues (exports_of c.args.c.now) c.args.call.now.export c.args.call.now.params.items c.args.call.now.results.items) (IsRecordedCallOf (exports_of c.args.c.now) (imports_of c.args.c.now) (recorded_call c.args.call.now)) c.in_ok-export_fits.field-0
+  decides = not_so (ArePassedValues (exports_of c.args.c.now) c.args.call.now.export c.args.call.now.params.items c.args.call.now.results.items)
+      (IsRecordedCallOf (exports_of c.args.c.now) (imports_of c.args.c.now) (recorded_call c.args.call.now)) c.in_ok-export_fits.field-0
       (λ (of : IsRecordedCallOf (exports_of c.args.c.now) (imports_of c.args.c.now) (recorded_call c.args.call.now)). (of.its.params, of.its.results)) c.if-not-branch.true c.in_ok-export_fits.ensures.decides;
 }
 

@@ -10,7 +10,8 @@ loop-call-init c = rest_begins (IsRecordedCallOf (exports_of c.args.c.now) (impo
 
 pub returns-in_err-call_fits : goal.returns-in_err-call_fits
 returns-in_err-call_fits c = record {
-  decides = question_handed_on (IsRecordedCallOf (exports_of c.args.c.now) (imports_of c.args.c.now) (recorded_call c.call-item.result)) (All (IsRecordedCallOf (exports_of c.args.c.now) (imports_of c.args.c.now)) (recorded_calls c.args.calls.now)) c.in_err-call_fits.field-0.0 c.from_residual.result c.from_residual.ensures c.in_err-call_fits.ensures.decides;
+  decides = question_handed_on (IsRecordedCallOf (exports_of c.args.c.now) (imports_of c.args.c.now) (recorded_call c.call-item.result))
+      (All (IsRecordedCallOf (exports_of c.args.c.now) (imports_of c.args.c.now)) (recorded_calls c.args.calls.now)) c.in_err-call_fits.field-0.0 c.from_residual.result c.from_residual.ensures c.in_err-call_fits.ensures.decides;
 }
 
 pub returns-then-not-branch : goal.returns-then-not-branch
@@ -21,9 +22,11 @@ returns-then-not-branch c =
 pub loop-call-preserved : goal.loop-call-preserved
 loop-call-preserved c =
     let here = mapped_at recorded_call c.args.calls.now c.loop-call.call-index c.call-item.result c.loop-call-test.true (sym c.call-item.is) in
-    rest_goes_on (IsRecordedCallOf (exports_of c.args.c.now) (imports_of c.args.c.now)) (recorded_calls c.args.calls.now) c.loop-call.call-index (recorded_call c.call-item.result) here (c.in_ok-call_fits.ensures.decides.0 c.if-not-branch.false) c.loop-call.invariant
+    rest_goes_on (IsRecordedCallOf (exports_of c.args.c.now) (imports_of c.args.c.now)) (recorded_calls c.args.calls.now) c.loop-call.call-index (recorded_call c.call-item.result) here
+    (c.in_ok-call_fits.ensures.decides.0 c.if-not-branch.false) c.loop-call.invariant
 
 pub returns : goal.returns
 returns c = record {
-  decides = is_so (All (IsRecordedCallOf (exports_of c.args.c.now) (imports_of c.args.c.now)) (recorded_calls c.args.calls.now)) (rest_is_all (IsRecordedCallOf (exports_of c.args.c.now) (imports_of c.args.c.now)) (recorded_calls c.args.calls.now) c.loop-call.call-index (mapped_past recorded_call c.args.calls.now c.loop-call.call-index c.loop-call-test.false) c.loop-call.invariant);
+  decides = is_so (All (IsRecordedCallOf (exports_of c.args.c.now) (imports_of c.args.c.now)) (recorded_calls c.args.calls.now))
+      (rest_is_all (IsRecordedCallOf (exports_of c.args.c.now) (imports_of c.args.c.now)) (recorded_calls c.args.calls.now) c.loop-call.call-index (mapped_past recorded_call c.args.calls.now c.loop-call.call-index c.loop-call-test.false) c.loop-call.invariant);
 }

@@ -15,6 +15,7 @@ pub returns : goal.returns
 returns c =
     let t = c.args.c.now.types.types in
     let func = c.export_type-func.result in
-    let are = passed_decides (exports_of c.args.c.now) c.args.call.now.export (param_members t func) (result_members t func) c.as_slice.result.now c.args.call.now.params.items c.as_slice-2.result.now c.args.call.now.results.items c.values_fit.result
+    let are = passed_decides (exports_of c.args.c.now) c.args.call.now.export (param_members t func)
+    (result_members t func) c.as_slice.result.now c.args.call.now.params.items c.as_slice-2.result.now c.args.call.now.results.items c.values_fit.result
     c.export_type-func.ensures.params c.export_type-func.ensures.results c.as_slice.ensures.value c.as_slice-2.ensures.value c.values_fit.ensures.decides in
     record { decides = are }

@@ -15,6 +15,7 @@ pub returns : goal.returns
 returns c =
     let t = c.args.c.now.types.types in
     let func = c.import_type-func.result in
-    let are = passed_decides (imports_of c.args.c.now) c.args.ask.now.import (param_members t func) (result_members t func) c.as_slice.result.now c.args.ask.now.params.items c.as_slice-2.result.now c.args.ask.now.results.items c.values_fit.result
+    let are = passed_decides (imports_of c.args.c.now) c.args.ask.now.import (param_members t func)
+    (result_members t func) c.as_slice.result.now c.args.ask.now.params.items c.as_slice-2.result.now c.args.ask.now.results.items c.values_fit.result
     c.import_type-func.ensures.params c.import_type-func.ensures.results c.as_slice.ensures.value c.as_slice-2.ensures.value c.values_fit.ensures.decides in
     record { decides = function_decides (imports_of c.args.c.now) c.args.ask.now.import c.args.ask.now.params.items c.args.ask.now.results.items c.values_fit.result c.requires.known are }

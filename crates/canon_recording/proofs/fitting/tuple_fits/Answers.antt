@@ -16,7 +16,11 @@ pub vals_fit-requires-clause-known : goal.vals_fit-requires-clause-known
 vals_fit-requires-clause-known c = subst (All (Knows c.types-types.result.now)) (sym c.as_slice-tys.ensures.value) c.tuple.ensures.entry.known
 
 pub vals_fit-requires-clause-no_handle : goal.vals_fit-requires-clause-no_handle
-vals_fit-requires-clause-no_handle c = subst HaveNoHandle (sym (ap (members_of c.types-types.result.now) (c.as_slice-tys.ensures.value ∙ c.tuple.ensures.types) ∙ ap (λ t. tuple_members t c.args.tuple) c.types-types.ensures)) c.requires.no_handle
+vals_fit-requires-clause-no_handle c = subst HaveNoHandle (sym (ap (members_of c.types-types.result.now) (c.as_slice-tys.ensures.value ∙ c.tuple.ensures.types)
+    ∙ ap (λ t. tuple_members t c.args.tuple) c.types-types.ensures)) c.requires.no_handle
 
 pub returns : goal.returns
-returns c = record { decides = subst (λ ms. Decides (AreValuesOf ms c.args.vals.now) c.vals_fit.result) (ap (members_of c.types-types.result.now) (c.as_slice-tys.ensures.value ∙ c.tuple.ensures.types) ∙ ap (λ t. tuple_members t c.args.tuple) c.types-types.ensures) c.vals_fit.ensures.decides }
+returns c = record {
+  decides = subst (λ ms. Decides (AreValuesOf ms c.args.vals.now) c.vals_fit.result) (ap (members_of c.types-types.result.now) (c.as_slice-tys.ensures.value
+      ∙ c.tuple.ensures.types) ∙ ap (λ t. tuple_members t c.args.tuple) c.types-types.ensures) c.vals_fit.ensures.decides;
+}

@@ -13,7 +13,13 @@ loop-event-preserved c =
     record { added = row_added (an_event c.args.imports) (event_sound c.args.imports) c.args.events.now c.args.bytes.now.items c.loop-event.bytes.items c.put_event.new.bytes.items c.loop-event.event-index c.event-item.result more (sym c.event-item.is) c.loop-event.invariant.added c.in-Ok.ensures.writes }
 
 pub returns : goal.returns
-returns c = record { writes = row_all (an_event c.args.imports) (event_sound c.args.imports) c.args.events.now c.args.bytes.now.items c.loop-event.bytes.items c.loop-event.event-index (omega (arith, c.loop-event-test.false, c.loop-event.auto.event-index-end)) c.loop-event.invariant.added }
+returns c = record {
+  writes = row_all (an_event c.args.imports) (event_sound c.args.imports) c.args.events.now c.args.bytes.now.items c.loop-event.bytes.items c.loop-event.event-index (omega (
+    arith,
+    c.loop-event-test.false,
+    c.loop-event.auto.event-index-end,
+  )) c.loop-event.invariant.added;
+}
 
 pub returns-in-Err : goal.returns-in-Err
 returns-in-Err c =

@@ -14,7 +14,13 @@ loop-word-preserved c =
     record { added = row_added (any_number 8) (any_sound 8) c.args.words.now c.args.bytes.now.items c.loop-word.bytes.items c.put_u64.new.bytes.items c.loop-word.word-index c.get_u64.result more (ap (λ i. slice_index_or c.args.words.now c.loop-word.word-index i) c.get_u64.ensures ∙ (sym c.word-item.is ∙ sym c.get_u64.ensures)) c.loop-word.invariant.added c.in-Ok.ensures.writes }
 
 pub returns : goal.returns
-returns c = record { writes = row_all (any_number 8) (any_sound 8) c.args.words.now c.args.bytes.now.items c.loop-word.bytes.items c.loop-word.word-index (omega (arith, c.loop-word-test.false, c.loop-word.auto.word-index-end)) c.loop-word.invariant.added }
+returns c = record {
+  writes = row_all (any_number 8) (any_sound 8) c.args.words.now c.args.bytes.now.items c.loop-word.bytes.items c.loop-word.word-index (omega (
+    arith,
+    c.loop-word-test.false,
+    c.loop-word.auto.word-index-end,
+  )) c.loop-word.invariant.added;
+}
 
 pub returns-in-Err : goal.returns-in-Err
 returns-in-Err c =

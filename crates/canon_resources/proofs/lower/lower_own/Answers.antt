@@ -13,7 +13,8 @@ returns-then-not-is_of_type-clause-moves c =
     let a = c.args in
     let i = a.types.now in
     let before = a.ledger.now in
-    lowered_not i true a.ty a.resource before before (Err fault.ResourceTypeMismatch) (is_given (resource_type_at i a.ty) c.is_of_type.result c.ty-given.result a.resource.ty c.ty-given.ensures c.is_of_type.ensures ∙ c.if-not-is_of_type.true) refl refl
+    lowered_not i true a.ty a.resource before before (Err fault.ResourceTypeMismatch)
+    (is_given (resource_type_at i a.ty) c.is_of_type.result c.ty-given.result a.resource.ty c.ty-given.ensures c.is_of_type.ensures ∙ c.if-not-is_of_type.true) refl refl
 
 pub returns-in-None-clause-moves : goal.returns-in-None-clause-moves
 returns-in-None-clause-moves c =

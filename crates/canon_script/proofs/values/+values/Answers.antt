@@ -28,7 +28,8 @@ record_of-loop-item-preserved t c =
 
 pub record_of-returns : goal.record_of-returns
 record_of-returns t c =
-    record_end (view c.args.v.now) c.in-Some.items.now.items c.deref-item-items.result.now c.loop-item.item-index (fields_view c.loop-item.fields.items) c.in-Some.ensures c.deref-item-items.ensures.value c.loop-item-test.false c.loop-item.invariant
+    record_end (view c.args.v.now) c.in-Some.items.now.items c.deref-item-items.result.now c.loop-item.item-index
+    (fields_view c.loop-item.fields.items) c.in-Some.ensures c.deref-item-items.ensures.value c.loop-item-test.false c.loop-item.invariant
     ∙ ap (λ x. Some x) (sym (literal-Record c.loop-item.fields))
 
 pub values_of-value_of-requires : goal.values_of-value_of-requires
@@ -42,7 +43,8 @@ values_of-returns-in-Err t c =
 
 pub values_of-returns : goal.values_of-returns
 values_of-returns t c =
-    array_end values_of (view c.args.v.now) c.in-Some.items.now.items c.deref-item-items.result.now c.loop-item.item-index (literals_view c.loop-item.values.items) refl c.in-Some.ensures c.deref-item-items.ensures.value c.loop-item-test.false c.loop-item.invariant
+    array_end values_of (view c.args.v.now) c.in-Some.items.now.items c.deref-item-items.result.now c.loop-item.item-index
+    (literals_view c.loop-item.values.items) refl c.in-Some.ensures c.deref-item-items.ensures.value c.loop-item-test.false c.loop-item.invariant
 
 pub pairs_of-pair_of-requires : goal.pairs_of-pair_of-requires
 pairs_of-pair_of-requires t c =
@@ -55,7 +57,8 @@ pairs_of-returns-in-Err t c =
 
 pub pairs_of-returns : goal.pairs_of-returns
 pairs_of-returns t c =
-    array_end pairs_in (view c.args.v.now) c.in-Some.items.now.items c.deref-item-items.result.now c.loop-item.item-index (pairs_view c.loop-item.pairs.items) refl c.in-Some.ensures c.deref-item-items.ensures.value c.loop-item-test.false c.loop-item.invariant
+    array_end pairs_in (view c.args.v.now) c.in-Some.items.now.items c.deref-item-items.result.now c.loop-item.item-index
+    (pairs_view c.loop-item.pairs.items) refl c.in-Some.ensures c.deref-item-items.ensures.value c.loop-item-test.false c.loop-item.invariant
 
 pub value_of-returns-in-Some : goal.value_of-returns-in-Some
 value_of-returns-in-Some t c = subst (λ (o : Option Literal). ReadsAs literal_view c.value_by.result o) (sym (value_is (view c.args.v.now) (view c.in-Some.form.now) c.in-Some.kind c.in-Some.ensures)) c.value_by.ensures
@@ -137,7 +140,8 @@ value_by-returns-in-Flags t c =
 pub value_by-returns-in-FixedLengthList : goal.value_by-returns-in-FixedLengthList
 value_by-returns-in-FixedLengthList t c =
     let form = view c.args.form.now in
-    made_of val.FixedLengthList (λ values. literals_view values.items) (λ xs. fixed (literals_of xs)) (option_and_then values_of (as_array form)) (value_by form c.args.kind) c.values_of-in-FixedLengthList.result c.map-in-FixedLengthList.result
+    made_of val.FixedLengthList (λ values. literals_view values.items) (λ xs. fixed (literals_of xs)) (option_and_then values_of (as_array form))
+    (value_by form c.args.kind) c.values_of-in-FixedLengthList.result c.map-in-FixedLengthList.result
     (ap (value_by form) c.in-FixedLengthList.is ∙ fixed_by form)
     literal-FixedLengthList c.values_of-in-FixedLengthList.ensures c.map-in-FixedLengthList.ensures.cases
 

@@ -10,4 +10,5 @@ returns-clause-told g c = λ whole. adds_both _ _ _ _ _ c.if-not-tell.ensures (c
 
 pub returns-clause-cut : goal.returns-clause-cut
 returns-clause-cut g c = λ cut.
-    subst (λ ms. PassesMessages (g.P.Channel.log c.args.caller.now) (g.P.Channel.log c.tell_bytes.new.caller) (IsStrictPrefix (told c.args.head.now ∷ ms))) (sym (c.tell_bytes.ensures.some cut)) (cut_after _ _ _ _ _ [] c.if-not-tell.ensures (c.tell_bytes.ensures.cut cut))
+    subst (λ ms. PassesMessages (g.P.Channel.log c.args.caller.now) (g.P.Channel.log c.tell_bytes.new.caller) (IsStrictPrefix (told c.args.head.now ∷ ms))) (sym (c.tell_bytes.ensures.some cut))
+    (cut_after _ _ _ _ _ [] c.if-not-tell.ensures (c.tell_bytes.ensures.cut cut))

@@ -91,7 +91,10 @@ inflate_latin1_bytes_spec 𝓤 𝓛 𝓜 𝓡 wired =
     sets ! (bin ! (get_in ! (fld ! refl (stop !)) (sub ! 1 refl (whole !))) (get ! refl) le) refl (tt, record { fits = omega (arith, rm.0) }) $
     sets ! (addr ! (through ! refl (stop !))) refl (tt, tt) $
     sets ! (agg ! (and_then ! (get ! refl) (and_then ! (get ! refl) (no_more !)))) refl (tt, (tt, (record { fits = omega (arith, rm.0) }, tt))) $
-    use2 𝓛 (later (some (λ (ε : GName). ‵ ((MutSlice (named 0) κ u8).own_val (record { ref_ptr = (b, p); ghost_name = ε; now = back }) (slice_val (b, p) (length back) ∷ [])) ⊛ ‵ (flft κ q) ⊛ ‵ (follows (Array u8 0) (Array u8 0) γ ε (λ rest. front ++ rest)))))
+    use2 𝓛 (later (some (λ (ε : GName). ‵ ((MutSlice (named 0) κ u8).own_val (record { ref_ptr = (b, p); ghost_name = ε; now = back }) (slice_val (
+      b,
+      p,
+    ) (length back) ∷ [])) ⊛ ‵ (flft κ q) ⊛ ‵ (follows (Array u8 0) (Array u8 0) γ ε (λ rest. front ++ rest)))))
     (lends_back 𝓛 (named 0) κ q b o γ ys front back stands p on room_behind) $ await ! tt $ pick ! (λ ε. split3 ! $
     let res : MutBor (List ℕ) = record { ref_ptr = (b, p); ghost_name = ε; now = back } in
     rewrite ! 0 (λ (n : ℕ). ‵ ((MutSlice (named 0) κ u8).own_val res (slice_val (b, p) n ∷ []))) behind refl $

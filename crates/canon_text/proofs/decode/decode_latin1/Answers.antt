@@ -11,7 +11,8 @@ returns-in-Some c = (decodes_ascii c.args.src.now c.in-Some.text.now c.in-Some.e
 
 pub loop-read-smaller : goal.loop-read-smaller
 loop-read-smaller c =
-    let some = decoding-reads in_latin1 c.args.src.now c.loop-read.piece c.latin1_to_utf8-pass.new.dst c.loop-read.read (length c.args.src.now - c.loop-read.read) _ _ c.latin1_to_utf8-pass.ensures c.loop-read-test.true (omega (arith, c.loop-read-test.true)) (omega arith) in
+    let some = decoding-reads in_latin1 c.args.src.now c.loop-read.piece c.latin1_to_utf8-pass.new.dst c.loop-read.read
+    (length c.args.src.now - c.loop-read.read) _ _ c.latin1_to_utf8-pass.ensures c.loop-read-test.true (omega (arith, c.loop-read-test.true)) (omega arith) in
     omega arith
 
 pub loop-read-preserved : goal.loop-read-preserved
@@ -25,5 +26,7 @@ from_utf8_unchecked-requires c = decoding-utf8 in_latin1 c.args.src.now c.loop-r
 
 pub returns : goal.returns
 returns c =
-    let same : string_bytes c.from_utf8_unchecked.result ≡ c.loop-read.text.items = ap (λ v. v.items) c.from_utf8_unchecked.ensures.value in
-    (subst (λ text. Decodes in_latin1 c.args.src.now text) (sym same) (decodes1 c.args.src.now c.loop-read.text.items c.loop-read.read c.loop-read.invariant c.loop-read-test.false), (λ t. absurd (false≢true t), λ a. absurd (c.in_default.ensures a)))
+    let same : string_bytes c.from_utf8_unchecked.result ≡ c.loop-read.text.items = ap (λ v. v.items) c.from_utf8_unchecked.ensures.value in (
+      subst (λ text. Decodes in_latin1 c.args.src.now text) (sym same) (decodes1 c.args.src.now c.loop-read.text.items c.loop-read.read c.loop-read.invariant c.loop-read-test.false),
+      (λ t. absurd (false≢true t), λ a. absurd (c.in_default.ensures a)),
+    )

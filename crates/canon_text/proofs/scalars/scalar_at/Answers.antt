@@ -44,12 +44,14 @@ returns-then-first-lt128-clause-len c =
 pub returns-then-first-lt224-clause-len : goal.returns-then-first-lt224-clause-len
 returns-then-first-lt224-clause-len c =
     let r = read_at c.args.src.now c.args.at c.requires.utf8 c.requires.inside in
-    has_width r.start.c _ _ (omega (arith, c.from-first.ensures, c.from-second.ensures, r.two (omega (arith, c.from-first.ensures)) (omega (arith, c.from-first.ensures)))) (r.wide2 (omega (arith, c.from-first.ensures)) (omega (arith, c.from-first.ensures)))
+    has_width r.start.c _ _ (omega (arith, c.from-first.ensures, c.from-second.ensures, r.two (omega (arith, c.from-first.ensures)) (omega (arith, c.from-first.ensures))))
+    (r.wide2 (omega (arith, c.from-first.ensures)) (omega (arith, c.from-first.ensures)))
 
 pub returns-then-first-lt240-clause-len : goal.returns-then-first-lt240-clause-len
 returns-then-first-lt240-clause-len c =
     let r = read_at c.args.src.now c.args.at c.requires.utf8 c.requires.inside in
-    has_width r.start.c _ _ (omega (arith, c.from-first.ensures, c.from-second.ensures, c.from-third.ensures, r.three (omega (arith, c.from-first.ensures)) (omega (arith, c.from-first.ensures)))) (r.wide3 (omega (arith, c.from-first.ensures)) (omega (arith, c.from-first.ensures)))
+    has_width r.start.c _ _ (omega (arith, c.from-first.ensures, c.from-second.ensures, c.from-third.ensures, r.three (omega (arith, c.from-first.ensures)) (omega (arith, c.from-first.ensures))))
+    (r.wide3 (omega (arith, c.from-first.ensures)) (omega (arith, c.from-first.ensures)))
 
 pub returns-clause-len : goal.returns-clause-len
 returns-clause-len c =

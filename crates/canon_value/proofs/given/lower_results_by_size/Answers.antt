@@ -30,7 +30,8 @@ returns-then-is_some-clause-lowered g c =
 pub returns-else-is_some-clause-lowered : goal.returns-else-is_some-clause-lowered
 returns-else-is_some-clause-lowered g c =
     let far =
-    more_than_one _ _ c.flat_count.result c.from.result (shape g (goal.at.returns-else-is_some-clause-lowered g c).After-tuple) c.from.ensures (c.flat_count.ensures.words _ c.tuple.ensures.abi) (sym c.is_some.ensures ∙ c.if-is_some.false) in
+    more_than_one _ _ c.flat_count.result c.from.result (shape g (goal.at.returns-else-is_some-clause-lowered g c).After-tuple) c.from.ensures (c.flat_count.ensures.words _ c.tuple.ensures.abi)
+    (sym c.is_some.ensures ∙ c.if-is_some.false) in
     let low = c.store_results.ensures.stored in
     record { handles = low.handles; lowered = record { near = λ near. absurd (omega (arith, near, far)); far = λ _. low.lowered }; passed = low.passed }
 
@@ -43,7 +44,8 @@ returns-then-is_some-clause-quiet_near g c = λ near. c.lower_results_near.ensur
 pub returns-else-is_some-clause-quiet_near : goal.returns-else-is_some-clause-quiet_near
 returns-else-is_some-clause-quiet_near g c =
     let far =
-    more_than_one _ _ c.flat_count.result c.from.result (shape g (goal.at.returns-else-is_some-clause-quiet_near g c).After-tuple) c.from.ensures (c.flat_count.ensures.words _ c.tuple.ensures.abi) (sym c.is_some.ensures ∙ c.if-is_some.false) in
+    more_than_one _ _ c.flat_count.result c.from.result (shape g (goal.at.returns-else-is_some-clause-quiet_near g c).After-tuple) c.from.ensures (c.flat_count.ensures.words _ c.tuple.ensures.abi)
+    (sym c.is_some.ensures ∙ c.if-is_some.false) in
     λ near. absurd (omega (arith, near, far))
 
 pub returns-then-is_some-clause-kept : goal.returns-then-is_some-clause-kept

@@ -16,7 +16,8 @@ use Rattle.canon_value.proofs.given.results_area.Goals.{After-from}
 use Rattle.canon_value.proofs.given.results_area.Goals as goal
 
 shape : (g : Over) (c : After-from g) → shape_of c.types.result.now (ty.Tuple c.args.ty) ≡ product of_places (tuple_members (component_types c.args.core.now) c.args.ty)
-shape g c = tuple_shape_of_now (component_types c.args.core.now) c.types.result.now c.args.ty c.tuple-tuple.result.now.types.items (c.types.ensures ∙ ap (λ (x : Component). x.types.types) c.component.ensures.component) c.tuple-tuple.ensures.entry c.tuple-tuple.ensures.types
+shape g c = tuple_shape_of_now (component_types c.args.core.now) c.types.result.now c.args.ty c.tuple-tuple.result.now.types.items
+    (c.types.ensures ∙ ap (λ (x : Component). x.types.types) c.component.ensures.component) c.tuple-tuple.ensures.entry c.tuple-tuple.ensures.types
 
 -- what the word says, and the tuple's numbers
 record IsRead (g : Over) (c : After-from g) : Type 0 where

@@ -46,7 +46,8 @@ pub returns-in-Err-clause-cause : goal.returns-in-Err-clause-cause
 returns-in-Err-clause-cause g c =
     let a = c.args in
     let t = component_types a.cx.now.core.now in
-    value_count_members (encoding_by a.cx.now.core.now a.cx.now.options) 0 (tuple_members t a.ty) (no_names a.results.now) a.results.now 0 (Err c.in-Err.fault) (tuple_names t a.ty a.results.now c.requires.count) c.in-Err.ensures.stores.counted
+    value_count_members (encoding_by a.cx.now.core.now a.cx.now.options) 0 (tuple_members t a.ty) (no_names a.results.now) a.results.now 0 (Err c.in-Err.fault)
+    (tuple_names t a.ty a.results.now c.requires.count) c.in-Err.ensures.stores.counted
 
 pub returns-in-Ok-clause-small : goal.returns-in-Ok-clause-small
 returns-in-Ok-clause-small g c =

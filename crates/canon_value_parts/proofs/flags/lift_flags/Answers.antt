@@ -26,5 +26,6 @@ returns-clause-lifts c =
 pub returns-clause-handles : goal.returns-clause-handles
 returns-clause-handles c =
     let s = c.args.source.now in
-    λ l. lifts_nothing s.instance.now resources l l _ c.flags_of.result (flags_flat_leaves (narrow s.memory.now) c.args.src.now c.args.at.now _ (flag_names s.types.now c.args.i) (flags_are s.types.now c.args.i c.flags.result.now c.flags.ensures.entry)) refl
+    λ l. lifts_nothing s.instance.now resources l l _ c.flags_of.result
+    (flags_flat_leaves (narrow s.memory.now) c.args.src.now c.args.at.now _ (flag_names s.types.now c.args.i) (flags_are s.types.now c.args.i c.flags.result.now c.flags.ensures.entry)) refl
     c.flags_of.ensures.none (core_on_err c.flags_of.result IsNoRefusal (λ e. stop_of e ≡ None) no_refusal c.flags_of.ensures.unrefused)

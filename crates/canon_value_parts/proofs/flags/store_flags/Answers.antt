@@ -25,7 +25,8 @@ bytes_many g c = flags_bytes (component_types c.args.cx.now.core.now) c.types.re
 
 bytes_room : (g : Over) (c : After-flags g) → c.args.at + c.flags.result.now.abi.size32 ≤ length c.args.cx.now.core.now.memory
 bytes_room g c =
-    let bytes : c.flags.result.now.abi.size32 ≡ size false (shape_of (component_types c.args.cx.now.core.now) (ty.Flags c.args.i)) = c.flags.ensures.abi.size false ∙ ap (λ (t : TypeTable). size false (shape_of t (ty.Flags c.args.i))) c.types.ensures in
+    let bytes : c.flags.result.now.abi.size32 ≡ size false (shape_of (component_types c.args.cx.now.core.now) (ty.Flags c.args.i)) = c.flags.ensures.abi.size false
+    ∙ ap (λ (t : TypeTable). size false (shape_of t (ty.Flags c.args.i))) c.types.ensures in
     omega (arith, c.requires.room, bytes)
 
 its_shape : (g : Over) (c : After-flags g) → shape_of (component_types c.args.cx.now.core.now) (ty.Flags c.args.i) ≡ flags (flag_names (component_types c.args.cx.now.core.now) c.args.i)

@@ -66,7 +66,8 @@ pub returns-in-Record-clause-resources : goal.returns-in-Record-clause-resources
 returns-in-Record-clause-resources c =
     let s = shape_of c.args.types.now (ty.Record c.in-Record.i) in
     let vs = c.args.values.items in
-    core_on_ok c.rebuild_record.result (λ v. IsProduct of_fields (member_names (product_members s)) vs v) (λ v. resources v ≡ all_resources vs) (λ v h. product_resources of_fields (member_names (product_members s)) vs v h) c.rebuild_record.ensures.ok
+    core_on_ok c.rebuild_record.result (λ v. IsProduct of_fields (member_names (product_members s)) vs v) (λ v. resources v ≡ all_resources vs)
+    (λ v h. product_resources of_fields (member_names (product_members s)) vs v h) c.rebuild_record.ensures.ok
 
 pub returns-in-Tuple-clause-resources : goal.returns-in-Tuple-clause-resources
 returns-in-Tuple-clause-resources c = resources_tuple c.args.values

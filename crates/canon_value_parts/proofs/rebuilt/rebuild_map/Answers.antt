@@ -62,5 +62,14 @@ pub returns-clause-ok : goal.returns-clause-ok
 returns-clause-ok c =
     let at = c.loop in
     let rest = into_iter_items at.rest in
-    let none : rest ≡ [] = value_nothing_left rest (omega (arith, left at.pairs.items rest c.args.values.items at.invariant.0, at.invariant.2, c.loop-test.false, at.auto.counter-end, c.len-count.ensures, c.args.values.ok.0, c.requires.even)) in
+    let none : rest ≡ [] = value_nothing_left rest (omega (
+      arith,
+      left at.pairs.items rest c.args.values.items at.invariant.0,
+      at.invariant.2,
+      c.loop-test.false,
+      at.auto.counter-end,
+      c.len-count.ensures,
+      c.args.values.ok.0,
+      c.requires.even,
+    )) in
     (at.pairs.items, (at.pairs, refl, refl), sym (append-nil (by_turns at.pairs.items)) ∙ (ap (λ (vs : List Val). by_turns at.pairs.items ++ vs) (sym none) ∙ at.invariant.0))

@@ -17,7 +17,8 @@ returns-clause-ok c =
     let m = narrow c.args.source.now.memory.now in
     let t = c.args.source.now.types.now in
     let ms = tuple_members t c.args.i in
-    core_on_ok c.load_parts.result (λ (vs : Vec Val Global). AreCharged enc m ms 0 c.args.at c.args.fuel.now c.load_parts.new.fuel vs.items) (λ (vs : Vec Val Global). AreLoaded enc m ms 0 c.args.at c.args.fuel.now c.load_parts.new.fuel vs.items)
+    core_on_ok c.load_parts.result (λ (vs : Vec Val Global). AreCharged enc m ms 0 c.args.at c.args.fuel.now c.load_parts.new.fuel vs.items)
+    (λ (vs : Vec Val Global). AreLoaded enc m ms 0 c.args.at c.args.fuel.now c.load_parts.new.fuel vs.items)
     (λ vs h. members_loaded enc m t (types_of t c.args.i) c.args.at c.args.fuel.now c.load_parts.new.fuel vs.items h) c.load_parts.ensures.ok
 
 pub returns-clause-err : goal.returns-clause-err

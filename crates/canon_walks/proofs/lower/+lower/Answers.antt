@@ -54,7 +54,8 @@ lower_parts-lower_value-requires g t0 c =
     let is = here g t0 (goal.at.lower_parts-lower_value-requires g t0 c).After-member_of-member in
     let fit = has_room L _ _ _ _ _ _ _ _ _ _ _ _ c.loop-k.invariant.lowered m is in
     let shallow = member_shallow (viewed_shapes (component_types core) c.args.members.now) c.loop-k.k is.name (shape_of (component_types core) m.ty) _ is.shapes in
-    let same : depth (shape_of (component_types c.loop-k.cx.core.now) m.ty) ≡ depth (shape_of (component_types core) m.ty) = ap (λ (x : TypeTable). depth (shape_of x m.ty)) (handles_types core c.loop-k.cx.core.now c.loop-k.invariant.lowered.same) in
+    let same : depth (shape_of (component_types c.loop-k.cx.core.now) m.ty) ≡ depth (shape_of (component_types core) m.ty) =
+    ap (λ (x : TypeTable). depth (shape_of x m.ty)) (handles_types core c.loop-k.cx.core.now c.loop-k.invariant.lowered.same) in
     let falls : 4 * depth (shape_of (component_types c.loop-k.cx.core.now) m.ty) < 4 * deepest (viewed_shapes (component_types core) c.args.members.now) + 1 = omega (arith, shallow, same) in
     λ κs sub. (search (rules, the_lemmas, falls), (sub.0, (sub.1, (fit.known, (fit.small, fit.room)))))
 
@@ -140,7 +141,8 @@ lower_value-returns-in-Ok-Members-clause-lowers g t0 c =
     let (known, lies, has, count) = seen in
     let ms = c.in-Ok-Members.members in
     let r = c.lower_parts in
-    members_lower L a.cx.now.options core r.new.cx.core.now a.dst.now r.new.dst a.from (shape_of t a.ty) (viewed_shapes t ms) (viewed_names ms) (viewed_values ms) a.value.now r.result (omega arith) lies has count (members_passes t a.ty a.value.now ms seen)
+    members_lower L a.cx.now.options core r.new.cx.core.now a.dst.now r.new.dst a.from (shape_of t a.ty) (viewed_shapes t ms) (viewed_names ms) (viewed_values ms) a.value.now r.result
+    (omega arith) lies has count (members_passes t a.ty a.value.now ms seen)
     (subst (λ (x : Spot). PartsLowerTo L.seen L.moves a.cx.now.options core r.new.cx.core.now a.dst.now r.new.dst x r.result a.from.place (viewed_shapes t ms) (viewed_names ms) (viewed_values ms)) c.inside.ensures r.ensures.lowers)
 
 pub lower_value-lower_case-requires : goal.lower_value-lower_case-requires

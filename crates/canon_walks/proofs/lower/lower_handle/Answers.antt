@@ -16,7 +16,10 @@ returns-in-Ok-clause-lowers g c =
     let core = a.cx.now.core.now in
     let gives = c.in-Ok.ensures.gives in
     let L : GuestLaws _ = record { seen = g.G.Guest.seen; moves = g.G.Guest.moves; stays = g.met.G.Guest.stays; goes_on = g.met.G.Guest.goes_on } in
-    subst (λ (y : Parts _ _). LowersTo L.seen L.moves a.cx.now.options core y a.dst.now (set a.dst.now a.from.word c.u32.result) a.from (Ok (record { word = a.from.word + 1; place = c.saturating_add.result })) (shape_of_handle a.handle) (val.Resource a.resource))
+    subst (λ (y : Parts _ _). LowersTo L.seen L.moves a.cx.now.options core y a.dst.now (set a.dst.now a.from.word c.u32.result) a.from (Ok (record {
+      word = a.from.word + 1;
+      place = c.saturating_add.result;
+    })) (shape_of_handle a.handle) (val.Resource a.resource))
     (sym gives.only_ledger)
     (handle_lowered L a.cx.now.options core c.give_handle.new.cx.core.now.ledger a.handle.owned a.handle.resource a.resource c.requires.small a.dst.now a.from _ c.in-Ok.number c.u32.result c.requires.room gives.narrow c.u32.ensures refl
     c.saturating_add.ensures gives.passed)

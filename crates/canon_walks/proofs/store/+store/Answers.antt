@@ -89,7 +89,8 @@ store_parts-store_value-requires g t0 c =
     let fit = stands L _ _ _ _ _ _ _ _ _ _ _ _ c.loop-k.invariant.stored m is in
     let start = begins_at g t0 at.After-next_field32_size-start in
     let shallow = member_shallow (viewed_shapes (component_types core) c.args.members.now) c.loop-k.k is.name (shape_of (component_types core) m.ty) _ is.shapes in
-    let same : depth (shape_of (component_types c.loop-k.cx.core.now) m.ty) ≡ depth (shape_of (component_types core) m.ty) = ap (λ (x : TypeTable). depth (shape_of x m.ty)) (handles_types core c.loop-k.cx.core.now c.loop-k.invariant.stored.same) in
+    let same : depth (shape_of (component_types c.loop-k.cx.core.now) m.ty) ≡ depth (shape_of (component_types core) m.ty) =
+    ap (λ (x : TypeTable). depth (shape_of x m.ty)) (handles_types core c.loop-k.cx.core.now c.loop-k.invariant.stored.same) in
     let falls : 4 * depth (shape_of (component_types c.loop-k.cx.core.now) m.ty) < 4 * deepest (viewed_shapes (component_types core) c.args.members.now) + 1 = omega (arith, shallow, same) in
     λ κs sub. (search (rules, the_lemmas, falls), (sub.0, (sub.1, (fit.known, (fit.small, omega (arith, start, fit.room))))))
 
@@ -189,7 +190,8 @@ place_list-returns-in-Ok-store_parts-clause-places g t0 c =
     let ms = c.members_in-members in
     let shapes = ms.ensures.shapes now ∙ ap (λ (x : TypeTable). row_of (list_shape x e) (list_length a.list.now)) (same_types core asked given.asked.same) in
     let bytes = element_size t c.types.result.now e c.element_of-element.result c.element_abi.result.now c.types.ensures c.element_of-element.ensures c.element_abi.ensures in
-    list_placed _ _ _ _ _ (listed t a.list.now c.requires.known) (listed_passes t a.list.now c.requires.known) L a.cx.now.options core asked c.store_parts.new.cx.core.now a.place k c.in-Ok.pointer c.element_count-length.ensures c.in-Some.ensures.some.1
+    list_placed _ _ _ _ _ (listed t a.list.now c.requires.known)
+    (listed_passes t a.list.now c.requires.known) L a.cx.now.options core asked c.store_parts.new.cx.core.now a.place k c.in-Ok.pointer c.element_count-length.ensures c.in-Some.ensures.some.1
     (omega (arith, c.in-Some.ensures.some.0, c.in-Some.ensures.some.2, ap (λ (x : ℕ). k * x) bytes)) ask c.in-Ok-store_parts.next
     (parts_stood L asked c.store_parts.new.cx.core.now a.cx.now.options c.ask_items.new.cx.options a.place c.in-Ok.pointer _ _ _ _ _ _ _ _ (Ok c.in-Ok-store_parts.next)
     given.same_options shapes ms.ensures.names ms.ensures.values c.saturating_add.ensures c.in-Ok-store_parts.ensures.stores)
@@ -209,7 +211,8 @@ place_list-returns-in-Err-store_parts-clause-places g t0 c =
     let ms = c.members_in-members in
     let shapes = ms.ensures.shapes now ∙ ap (λ (x : TypeTable). row_of (list_shape x e) (list_length a.list.now)) (same_types core asked given.asked.same) in
     let bytes = element_size t c.types.result.now e c.element_of-element.result c.element_abi.result.now c.types.ensures c.element_of-element.ensures c.element_abi.ensures in
-    list_broken _ _ _ _ _ (listed t a.list.now c.requires.known) (listed_passes t a.list.now c.requires.known) L a.cx.now.options core asked c.store_parts.new.cx.core.now a.place k c.in-Ok.pointer c.element_count-length.ensures c.in-Some.ensures.some.1
+    list_broken _ _ _ _ _ (listed t a.list.now c.requires.known)
+    (listed_passes t a.list.now c.requires.known) L a.cx.now.options core asked c.store_parts.new.cx.core.now a.place k c.in-Ok.pointer c.element_count-length.ensures c.in-Some.ensures.some.1
     (omega (arith, c.in-Some.ensures.some.0, c.in-Some.ensures.some.2, ap (λ (x : ℕ). k * x) bytes)) ask c.in-Err-store_parts.fault
     (parts_stood L asked c.store_parts.new.cx.core.now a.cx.now.options c.ask_items.new.cx.options a.place c.in-Ok.pointer _ _ _ _ _ _ _ _ (Err c.in-Err-store_parts.fault)
     given.same_options shapes ms.ensures.names ms.ensures.values c.saturating_add.ensures c.in-Err-store_parts.ensures.stores)

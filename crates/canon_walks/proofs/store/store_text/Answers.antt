@@ -13,7 +13,8 @@ returns-in-Ok-clause-stores g c =
     let there = c.in-Ok.ensures.places in
     let L : GuestLaws _ = record { seen = g.G.Guest.seen; moves = g.G.Guest.moves; stays = g.met.G.Guest.stays; goes_on = g.met.G.Guest.goes_on } in
     let pair : IsPair placed.memory c.put_pair.new.memory a.at b.pointer b.length = subst (λ (xs : List ℕ). IsPair xs c.put_pair.new.memory a.at b.pointer b.length) c.as_slice_mut.ensures.value c.put_pair.ensures in
-    value_text_told L a.cx.now.options a.cx.now.core.now placed c.put_pair.new.memory a.at _ a.place b (omega (arith, c.requires.room, there.lowered.lowering.goes.no_shorter)) there.lowered.lowering.small there.narrow.0 there.narrow.1 pair there
+    value_text_told L a.cx.now.options a.cx.now.core.now placed c.put_pair.new.memory a.at _ a.place b
+    (omega (arith, c.requires.room, there.lowered.lowering.goes.no_shorter)) there.lowered.lowering.small there.narrow.0 there.narrow.1 pair there
 
 pub returns-in-Err-clause-stores : goal.returns-in-Err-clause-stores
 returns-in-Err-clause-stores g c =

@@ -17,7 +17,11 @@ returns c =
       },
       record {
         size = c.of-tag.ensures;
-        offset = for_both (λ wide. payload_offset_in wide (record { size = c.of-tag.result; payload_offset32 = c.in_ok-offset32.offset32; payload_offset64 = c.in_ok-offset64.offset64 }) ≡ payload_place (map (case_numbers_in wide) cases)) narrow.0 broad.0;
+        offset = for_both (λ wide. payload_offset_in wide (record {
+          size = c.of-tag.result;
+          payload_offset32 = c.in_ok-offset32.offset32;
+          payload_offset64 = c.in_ok-offset64.offset64;
+        }) ≡ payload_place (map (case_numbers_in wide) cases)) narrow.0 broad.0;
         few = c.requires;
       },
     )

@@ -19,7 +19,8 @@ pub realloc-tells : goal.realloc-tells
 realloc-tells c = record {
   narrow = λ _. c.ensures.narrow;
   width = ap (λ (m : Memory). m.wide) c.ensures.memory;
-  does = reallocates c.args.self.now c.new.self.now c.args.memory.now.bytes c.new.memory.now.bytes (ap (λ (m : Memory). m.bytes) c.ensures.memory) (call c.args.old c.args.old_size c.args.align c.args.new_size) c.result c.ensures.counts c.ensures.lawful;
+  does = reallocates c.args.self.now c.new.self.now c.args.memory.now.bytes c.new.memory.now.bytes (ap (λ (m : Memory). m.bytes) c.ensures.memory)
+      (call c.args.old c.args.old_size c.args.align c.args.new_size) c.result c.ensures.counts c.ensures.lawful;
   moves = free c.result;
 }
 

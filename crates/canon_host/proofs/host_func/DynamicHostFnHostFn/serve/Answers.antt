@@ -6,4 +6,5 @@ use Rattle.canon_host.proofs.host_func.DynamicHostFnHostFn.serve.Goals as goal
 pub returns-clause-serves : goal.returns-clause-serves
 returns-clause-serves g c =
     found_at (λ f asked after words2. ServesInRow g.F.Fn f g.G.Guest.seen g.G.Guest.moves asked c.args.cx.core.now c.args.storage.now c.serve.result after words2)
-    c.self.inside.f c.args.self.now c.asked_of-asked.result c.args.cx.ty c.args.cx.options c.serve.new.core _ c.serve.new.storage _ _ c.self.view_is (search rules) (search rules) (search rules) c.serve.ensures.serves (search rules) (search rules)
+    c.self.inside.f c.args.self.now c.asked_of-asked.result c.args.cx.ty c.args.cx.options c.serve.new.core _ c.serve.new.storage _ _ c.self.view_is (search rules) (search rules)
+    (search rules) c.serve.ensures.serves (search rules) (search rules)

@@ -8,6 +8,7 @@ use Rattle.canon_ledger.proofs.ledger.Ledger.leave.Goals as goal
 
 pub invariant_of-self : goal.invariant_of-self
 invariant_of-self c =
-    holds-leave (ledger_of c.self.inside.handles.tables.items c.self.inside.handles.counter c.self.inside.handles.scopes.items c.self.inside.host.indexes) (ledger_of c.self.inside.handles.tables.items c.self.inside.handles.counter c.pop-context.new.self.items c.self.inside.host.indexes)
+    holds-leave (ledger_of c.self.inside.handles.tables.items c.self.inside.handles.counter c.self.inside.handles.scopes.items c.self.inside.host.indexes)
+    (ledger_of c.self.inside.handles.tables.items c.self.inside.handles.counter c.pop-context.new.self.items c.self.inside.host.indexes)
     (ap (λ (l : LedgerState). can_leave l.handles) c.self.view_is ∙ c.requires)
     (left c.self.inside.handles.tables.items c.self.inside.handles.counter c.self.inside.handles.scopes.items c.self.inside.host.indexes c.pop-context.new.self.items (vec_len c.self.inside.handles.scopes - 1) (omega arith) c.pop-context.ensures.rest) c.self.invariant

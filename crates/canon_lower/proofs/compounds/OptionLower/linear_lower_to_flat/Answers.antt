@@ -37,7 +37,11 @@ returns-in-None-clause-lowers g c =
     let some = c.option.result.now.ty in
     let shape = option_shape t c.types.result.now c.in-Option.i some a.ty c.types.ensures c.in-Option.is c.option.ensures.entry in
     subst (λ v. TypedLowers L.seen L.moves a.cx.now.options core core s c.lower_bare.new.dst 0 (OptionMeans g.T.ComponentType.walks v) (option_gives g.T.Lower.gives core.component.types s v) (Ok tt)) (sym c.in-None.is)
-    (has_bare L a.cx.now.options core core s 0 c.lower_bare.new.dst (omega arith) c.memory-memory.ensures.small (omega (arith, c.lower_bare.ensures.count, c.requires.words)) (option_none s (shape_of t some) shape) c.lower_bare.ensures.words)
+    (has_bare L a.cx.now.options core core s 0 c.lower_bare.new.dst (omega arith) c.memory-memory.ensures.small (omega (
+      arith,
+      c.lower_bare.ensures.count,
+      c.requires.words,
+    )) (option_none s (shape_of t some) shape) c.lower_bare.ensures.words)
 
 pub returns-in-Some-clause-lowers : goal.returns-in-Some-clause-lowers
 returns-in-Some-clause-lowers g c =

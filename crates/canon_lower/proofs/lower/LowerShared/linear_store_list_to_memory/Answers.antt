@@ -21,7 +21,8 @@ returns-in-Err-clause-stores g c =
     let bytes : c.from-size.result ≡ size false (shape_of t a.ty) = c.from-size.ensures ∙ item_size t c.types.result.now a.ty c.canonical_abi.result.now c.types.ensures c.canonical_abi.ensures in
     let one = item_stood g.G.Guest.seen g.G.Guest.moves a.cx.now.options g.Self.ComponentType.walks g.Self.LowerShared.gives core.component.types now c.linear_lower_to_memory.new.cx.core.now c.loop-k.cx.options a.ty a.offset c.loop-k.k c.from-size.result x (Err c.in-Err.fault)
     i.options (handles_instance core now i.stored.same) bytes c.in-Err.ensures.stores in
-    row_broken L a.cx.now.options g.Self.ComponentType.walks (g.Self.LowerShared.gives core.component.types (shape_of t a.ty)) (shape_of t a.ty) a.offset a.items.now core now c.linear_lower_to_memory.new.cx.core.now c.loop-k.k x c.in-Err.fault here one i.stored
+    row_broken L a.cx.now.options g.Self.ComponentType.walks (g.Self.LowerShared.gives core.component.types (shape_of t a.ty))
+    (shape_of t a.ty) a.offset a.items.now core now c.linear_lower_to_memory.new.cx.core.now c.loop-k.k x c.in-Err.fault here one i.stored
 
 pub loop-k-preserved : goal.loop-k-preserved
 loop-k-preserved g c =
@@ -37,7 +38,8 @@ loop-k-preserved g c =
     let one = item_stood g.G.Guest.seen g.G.Guest.moves a.cx.now.options g.Self.ComponentType.walks g.Self.LowerShared.gives core.component.types now c.linear_lower_to_memory.new.cx.core.now c.loop-k.cx.options a.ty a.offset c.loop-k.k c.from-size.result x (Ok tt)
     i.options (handles_instance core now i.stored.same) bytes c.in-Ok.ensures.stores in
     record {
-      stored = row_go_on L a.cx.now.options g.Self.ComponentType.walks (g.Self.LowerShared.gives core.component.types (shape_of t a.ty)) (shape_of t a.ty) a.offset a.items.now core now c.linear_lower_to_memory.new.cx.core.now c.loop-k.k x here one i.stored;
+      stored = row_go_on L a.cx.now.options g.Self.ComponentType.walks (g.Self.LowerShared.gives core.component.types (shape_of t a.ty))
+          (shape_of t a.ty) a.offset a.items.now core now c.linear_lower_to_memory.new.cx.core.now c.loop-k.k x here one i.stored;
       options = c.in-Ok.ensures.same_options ∙ i.options;
       reference = c.in-Ok.ensures.same_reference ∙ i.reference;
     }

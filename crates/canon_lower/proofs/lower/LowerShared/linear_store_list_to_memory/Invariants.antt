@@ -9,7 +9,8 @@ abbrev pub invariant-loop-k : goal.invariant-loop-k
 invariant-loop-k g l =
     let L : GuestLaws _ = record { seen = g.G.Guest.seen; moves = g.G.Guest.moves; stays = g.met.G.Guest.stays; goes_on = g.met.G.Guest.goes_on } in
     record {
-      stored : RowIsStored L l.fn.cx.options g.Self.ComponentType.walks (g.Self.LowerShared.gives l.fn.cx.core.now.component.types (shape_of (component_types l.fn.cx.core.now) l.ty)) (shape_of (component_types l.fn.cx.core.now) l.ty) l.offset l.items l.fn.cx.core.now l.cx.core.now l.k;
+      stored : RowIsStored L l.fn.cx.options g.Self.ComponentType.walks (g.Self.LowerShared.gives l.fn.cx.core.now.component.types (shape_of (component_types l.fn.cx.core.now) l.ty))
+          (shape_of (component_types l.fn.cx.core.now) l.ty) l.offset l.items l.fn.cx.core.now l.cx.core.now l.k;
       options : l.cx.options ≡ l.fn.cx.options;
       reference : l.cx.core.ghost_name ≡ l.fn.cx.core.ghost_name;
     }

@@ -29,7 +29,9 @@ returns-clause-lawful c free =
     (free_lawful c.args.memory.now.bytes c.place.new.memory.bytes s.allocator c.place.new.allocator (call c.args.old c.args.old_size c.args.align c.args.new_size) c.in-Ok.answer c.in-Ok.ensures.row c.requires.aligned c.in-Ok.ensures.does (ap (λ (m : Memory). m.bytes) c.in-Ok.ensures.copies))
 
 pub returns-clause-tidy : goal.returns-clause-tidy
-returns-clause-tidy c = free_tidy c.args.memory.now.bytes c.place.new.memory.bytes c.self.inside.allocator c.place.new.allocator (call c.args.old c.args.old_size c.args.align c.args.new_size) c.in-Ok.answer c.in-Ok.ensures.row c.requires.aligned c.in-Ok.ensures.does (ap (λ (m : Memory). m.bytes) c.in-Ok.ensures.copies)
+returns-clause-tidy c = free_tidy c.args.memory.now.bytes c.place.new.memory.bytes c.self.inside.allocator c.place.new.allocator
+    (call c.args.old c.args.old_size c.args.align c.args.new_size) c.in-Ok.answer c.in-Ok.ensures.row c.requires.aligned c.in-Ok.ensures.does (ap (λ (m : Memory). m.bytes) c.in-Ok.ensures.copies)
 
 pub returns-clause-same_length : goal.returns-clause-same_length
-returns-clause-same_length c = free_length c.args.memory.now.bytes c.place.new.memory.bytes c.self.inside.allocator c.place.new.allocator (call c.args.old c.args.old_size c.args.align c.args.new_size) c.in-Ok.answer c.in-Ok.ensures.row c.requires.aligned c.in-Ok.ensures.does (ap (λ (m : Memory). m.bytes) c.in-Ok.ensures.copies)
+returns-clause-same_length c = free_length c.args.memory.now.bytes c.place.new.memory.bytes c.self.inside.allocator c.place.new.allocator
+    (call c.args.old c.args.old_size c.args.align c.args.new_size) c.in-Ok.answer c.in-Ok.ensures.row c.requires.aligned c.in-Ok.ensures.does (ap (λ (m : Memory). m.bytes) c.in-Ok.ensures.copies)

@@ -7,4 +7,5 @@ pub returns-clause-goes : goal.returns-clause-goes
 returns-clause-goes c = counted_goes c.args.self.now c.end-2.new.self c.end-2.result c.args._memory.now.bytes c.args._memory.now.bytes _ c.end-2.ensures.counts c.end-2.ensures.later (omega arith)
 
 pub returns-clause-moves : goal.returns-clause-moves
-returns-clause-moves c = post_moves c.args.self.now c.end-2.new.self c.args._func c.args._words.now c.args._memory.now.bytes _ _ c.end-2.result (c.end-2.ensures.ends ∙ ap (λ (g : Doing). ended g.plan.post_trap) c.end.view_is) c.end-2.ensures.counts
+returns-clause-moves c = post_moves c.args.self.now c.end-2.new.self c.args._func c.args._words.now c.args._memory.now.bytes _ _ c.end-2.result
+    (c.end-2.ensures.ends ∙ ap (λ (g : Doing). ended g.plan.post_trap) c.end.view_is) c.end-2.ensures.counts

@@ -16,5 +16,6 @@ returns-in_err-variant g c i type f = no_info (IsResultOf g.T.ComponentType.is_u
     (result_too_large g.T.ComponentType.is_unit g.T.ComponentType.fits g.E.ComponentType.is_unit g.E.ComponentType.fits c.in_ok-ok.ok c.in_ok-err.err c.in_ok-ok.ensures c.in_ok-err.ensures c.in_err-variant.ensures.layout) i type f
 
 pub returns : goal.returns
-returns g c i type f = info_told c.in_ok-variant.field-0.0 c.in_ok-variant.field-0.1 _ (result_abi g.T.ComponentType.is_unit g.T.ComponentType.fits g.E.ComponentType.is_unit g.E.ComponentType.fits c.in_ok-ok.ok c.in_ok-err.err c.in_ok-variant.field-0.0 c.in_ok-variant.field-0.1
+returns g c i type f = info_told c.in_ok-variant.field-0.0 c.in_ok-variant.field-0.1 _
+    (result_abi g.T.ComponentType.is_unit g.T.ComponentType.fits g.E.ComponentType.is_unit g.E.ComponentType.fits c.in_ok-ok.ok c.in_ok-err.err c.in_ok-variant.field-0.0 c.in_ok-variant.field-0.1
     c.in_ok-ok.ensures c.in_ok-err.ensures c.in_ok-variant.ensures.layout i type f)

@@ -16,7 +16,8 @@ returns-in_err-depth-clause-cause c =
 
 pub enter-requires-clause-measured : goal.enter-requires-clause-measured
 enter-requires-clause-measured c =
-    measured c.args.self.now (FixedListType c.args.element c.args.size) (c.args.element ∷ []) (c.args.size == 0) c.in_ok-depth.depth c.in_ok-depth.has_borrow refl refl refl c.in_ok-depth.ensures.refusal c.in_ok-depth.ensures.depth c.in_ok-depth.ensures.borrows
+    measured c.args.self.now (FixedListType c.args.element c.args.size) (c.args.element ∷ [])
+    (c.args.size == 0) c.in_ok-depth.depth c.in_ok-depth.has_borrow refl refl refl c.in_ok-depth.ensures.refusal c.in_ok-depth.ensures.depth c.in_ok-depth.ensures.borrows
     (told_below c.in-Some.abi _ c.in-Some.ensures)
 
 pub returns-in_err-place-clause-cause : goal.returns-in_err-place-clause-cause

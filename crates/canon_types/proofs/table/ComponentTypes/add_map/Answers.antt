@@ -22,7 +22,8 @@ returns-in_err-entry_abi-clause-cause c =
 
 pub enter-requires-clause-measured : goal.enter-requires-clause-measured
 enter-requires-clause-measured c =
-    measured c.args.self.now (MapType c.args.key c.args.value) (c.args.key ∷ c.args.value ∷ []) false c.in_ok-depth.depth c.in_ok-depth.has_borrow refl refl refl c.in_ok-depth.ensures.refusal c.in_ok-depth.ensures.depth c.in_ok-depth.ensures.borrows c.in_ok-entry_abi.ensures.fits
+    measured c.args.self.now (MapType c.args.key c.args.value)
+    (c.args.key ∷ c.args.value ∷ []) false c.in_ok-depth.depth c.in_ok-depth.has_borrow refl refl refl c.in_ok-depth.ensures.refusal c.in_ok-depth.ensures.depth c.in_ok-depth.ensures.borrows c.in_ok-entry_abi.ensures.fits
 
 pub returns-in_err-place-clause-cause : goal.returns-in_err-place-clause-cause
 returns-in_err-place-clause-cause c =

@@ -32,7 +32,10 @@ enter-requires-clause-measured c =
     measured c.args.self.now d c.as_slice-parts.result.now false c.in_ok-depth.depth c.in_ok-depth.has_borrow same refl refl c.in_ok-depth.ensures.refusal c.in_ok-depth.ensures.depth c.in_ok-depth.ensures.borrows fit
 
 pub enter-requires-clause-layout : goal.enter-requires-clause-layout
-enter-requires-clause-layout c = (result_laid (all_shapes c.args.self.now) c.in_ok-abi.abi c.args.ok c.args.err c.in_ok-abi.ensures.abi, subst (HasInfo c.in_ok-abi.info) (result_cases (all_shapes c.args.self.now) c.args.ok c.args.err) c.in_ok-abi.ensures.info)
+enter-requires-clause-layout c = (
+  result_laid (all_shapes c.args.self.now) c.in_ok-abi.abi c.args.ok c.args.err c.in_ok-abi.ensures.abi,
+  subst (HasInfo c.in_ok-abi.info) (result_cases (all_shapes c.args.self.now) c.args.ok c.args.err) c.in_ok-abi.ensures.info,
+)
 
 pub returns-in_err-place-clause-cause : goal.returns-in_err-place-clause-cause
 returns-in_err-place-clause-cause c =

@@ -29,7 +29,8 @@ returns-in_err-check_parts-clause-cause c =
     let d = cases_type c.args.cases.items in
     let listed : c.as_slice-payloads.result.now ≡ map (λ x. x.1) c.args.cases.items = c.as_slice-payloads.ensures.value ∙ c.in_ok-listed.ensures.ok ∙ ap (map (λ x. x.1)) c.deref.ensures.value in
     let same : c.as_slice-parts.result.now ≡ parts d = c.as_slice-parts.ensures.value ∙ c.in_ok-types.ensures.ok ∙ ap (filter_map (λ p. p)) listed ∙ case_parts c.args.cases.items in
-    let empty : c.is_empty.result ≡ is_empty d = (let e : c.is_empty.result ≡ (length c.as_slice-payloads.result.now == 0) = grind (arith, common_steps, nat_tests) in e) ∙ cases_empty c.args.cases.items c.as_slice-payloads.result.now listed in
+    let empty : c.is_empty.result ≡ is_empty d = (let e : c.is_empty.result ≡ (length c.as_slice-payloads.result.now == 0) = grind (arith, common_steps, nat_tests) in e)
+    ∙ cases_empty c.args.cases.items c.as_slice-payloads.result.now listed in
     caused c.from_residual-in_err-check_parts.result c.in_err-check_parts.field-0.0 (refusal c.args.self.now d) c.from_residual-in_err-check_parts.ensures
     (λ _. refused_by_parts c.args.self.now d c.as_slice-parts.result.now c.is_empty.result c.in_err-check_parts.field-0.0 same empty c.in_err-check_parts.ensures)
 
@@ -38,7 +39,8 @@ returns-in_err-cases-clause-cause c =
     let d = cases_type c.args.cases.items in
     let listed : c.as_slice-payloads.result.now ≡ map (λ x. x.1) c.args.cases.items = c.as_slice-payloads.ensures.value ∙ c.in_ok-listed.ensures.ok ∙ ap (map (λ x. x.1)) c.deref.ensures.value in
     let same : c.as_slice-parts.result.now ≡ parts d = c.as_slice-parts.ensures.value ∙ c.in_ok-types.ensures.ok ∙ ap (filter_map (λ p. p)) listed ∙ case_parts c.args.cases.items in
-    let empty : c.is_empty.result ≡ is_empty d = (let e : c.is_empty.result ≡ (length c.as_slice-payloads.result.now == 0) = grind (arith, common_steps, nat_tests) in e) ∙ cases_empty c.args.cases.items c.as_slice-payloads.result.now listed in
+    let empty : c.is_empty.result ≡ is_empty d = (let e : c.is_empty.result ≡ (length c.as_slice-payloads.result.now == 0) = grind (arith, common_steps, nat_tests) in e)
+    ∙ cases_empty c.args.cases.items c.as_slice-payloads.result.now listed in
     caused c.from_residual-in_err-cases.result c.in_err-cases.field-0.0 (refusal c.args.self.now d) c.from_residual-in_err-cases.ensures
     (λ n. names_refused c.args.self.now d c.as_slice-parts.result.now c.is_empty.result c.in_err-cases.field-0.0 same empty c.in_ok-check_parts.ensures
     (ap (λ (ns : List Name). names_refusal ns 1048576) (sym (case_names c.args.cases.items)) ∙ c.in_err-cases.ensures.cause n))
@@ -52,10 +54,12 @@ returns-in_err-depth-clause-cause c =
     let d = cases_type c.args.cases.items in
     let listed : c.as_slice-payloads.result.now ≡ map (λ x. x.1) c.args.cases.items = c.as_slice-payloads.ensures.value ∙ c.in_ok-listed.ensures.ok ∙ ap (map (λ x. x.1)) c.deref.ensures.value in
     let same : c.as_slice-parts.result.now ≡ parts d = c.as_slice-parts.ensures.value ∙ c.in_ok-types.ensures.ok ∙ ap (filter_map (λ p. p)) listed ∙ case_parts c.args.cases.items in
-    let empty : c.is_empty.result ≡ is_empty d = (let e : c.is_empty.result ≡ (length c.as_slice-payloads.result.now == 0) = grind (arith, common_steps, nat_tests) in e) ∙ cases_empty c.args.cases.items c.as_slice-payloads.result.now listed in
+    let empty : c.is_empty.result ≡ is_empty d = (let e : c.is_empty.result ≡ (length c.as_slice-payloads.result.now == 0) = grind (arith, common_steps, nat_tests) in e)
+    ∙ cases_empty c.args.cases.items c.as_slice-payloads.result.now listed in
     let apart : names_refusal (names d) 1048576 ≡ None = ap (λ (ns : List Name). names_refusal ns 1048576) (sym (case_names c.args.cases.items)) ∙ c.in_ok-cases.ensures.fits in
     caused c.from_residual-in_err-depth.result c.in_err-depth.field-0.0 (refusal c.args.self.now d) c.from_residual-in_err-depth.ensures
-    (λ _. deep_refused c.args.self.now d c.as_slice-parts.result.now c.as_slice-parts.result.now c.is_empty.result same same empty c.in_ok-check_parts.ensures apart c.in_err-depth.ensures.cause.1 ∙ ap Some (sym c.in_err-depth.ensures.cause.0))
+    (λ _. deep_refused c.args.self.now d c.as_slice-parts.result.now c.as_slice-parts.result.now c.is_empty.result same same empty c.in_ok-check_parts.ensures apart c.in_err-depth.ensures.cause.1
+    ∙ ap Some (sym c.in_err-depth.ensures.cause.0))
 
 pub variant_abi-requires-clause-known : goal.variant_abi-requires-clause-known
 variant_abi-requires-clause-known c =
@@ -68,7 +72,8 @@ returns-in_err-abi-clause-cause c =
     let d = cases_type c.args.cases.items in
     let listed : c.as_slice-payloads.result.now ≡ map (λ x. x.1) c.args.cases.items = c.as_slice-payloads.ensures.value ∙ c.in_ok-listed.ensures.ok ∙ ap (map (λ x. x.1)) c.deref.ensures.value in
     let same : c.as_slice-parts.result.now ≡ parts d = c.as_slice-parts.ensures.value ∙ c.in_ok-types.ensures.ok ∙ ap (filter_map (λ p. p)) listed ∙ case_parts c.args.cases.items in
-    let empty : c.is_empty.result ≡ is_empty d = (let e : c.is_empty.result ≡ (length c.as_slice-payloads.result.now == 0) = grind (arith, common_steps, nat_tests) in e) ∙ cases_empty c.args.cases.items c.as_slice-payloads.result.now listed in
+    let empty : c.is_empty.result ≡ is_empty d = (let e : c.is_empty.result ≡ (length c.as_slice-payloads.result.now == 0) = grind (arith, common_steps, nat_tests) in e)
+    ∙ cases_empty c.args.cases.items c.as_slice-payloads.result.now listed in
     let apart : names_refusal (names d) 1048576 ≡ None = ap (λ (ns : List Name). names_refusal ns 1048576) (sym (case_names c.args.cases.items)) ∙ c.in_ok-cases.ensures.fits in
     let b : Before c.args.self.now d = before c.args.self.now d c.as_slice-parts.result.now c.as_slice-parts.result.now c.is_empty.result c.in_ok-depth.depth same same empty c.in_ok-check_parts.ensures apart c.in_ok-depth.ensures.depth c.in_ok-depth.ensures.fits in
     let whole : c.as_slice-payloads.result.now ≡ map (λ x. x.1) (map (λ x. (string_bytes x.0, x.1)) c.args.cases.items) = listed ∙ case_payload_list c.args.cases.items in
@@ -80,12 +85,15 @@ enter-requires-clause-measured c =
     let d = cases_type c.args.cases.items in
     let listed : c.as_slice-payloads.result.now ≡ map (λ x. x.1) c.args.cases.items = c.as_slice-payloads.ensures.value ∙ c.in_ok-listed.ensures.ok ∙ ap (map (λ x. x.1)) c.deref.ensures.value in
     let same : c.as_slice-parts.result.now ≡ parts d = c.as_slice-parts.ensures.value ∙ c.in_ok-types.ensures.ok ∙ ap (filter_map (λ p. p)) listed ∙ case_parts c.args.cases.items in
-    let empty : c.is_empty.result ≡ is_empty d = (let e : c.is_empty.result ≡ (length c.as_slice-payloads.result.now == 0) = grind (arith, common_steps, nat_tests) in e) ∙ cases_empty c.args.cases.items c.as_slice-payloads.result.now listed in
+    let empty : c.is_empty.result ≡ is_empty d = (let e : c.is_empty.result ≡ (length c.as_slice-payloads.result.now == 0) = grind (arith, common_steps, nat_tests) in e)
+    ∙ cases_empty c.args.cases.items c.as_slice-payloads.result.now listed in
     let apart : names_refusal (names d) 1048576 ≡ None = ap (λ (ns : List Name). names_refusal ns 1048576) (sym (case_names c.args.cases.items)) ∙ c.in_ok-cases.ensures.fits in
     let b : Before c.args.self.now d = before c.args.self.now d c.as_slice-parts.result.now c.as_slice-parts.result.now c.is_empty.result c.in_ok-depth.depth same same empty c.in_ok-check_parts.ensures apart c.in_ok-depth.ensures.depth c.in_ok-depth.ensures.fits in
     let whole : c.as_slice-payloads.result.now ≡ map (λ x. x.1) (map (λ x. (string_bytes x.0, x.1)) c.args.cases.items) = listed ∙ case_payload_list c.args.cases.items in
     let known = passed_parts c.args.self.now c.as_slice-parts.result.now c.is_empty.result (sym c.in_ok-check_parts.ensures) in
-    let m : IsMeasured c.args.self.now d c.in_ok-depth.depth c.in_ok-depth.has_borrow = measured_by c.args.self.now d c.as_slice-parts.result.now c.in_ok-depth.depth c.in_ok-depth.has_borrow b same known c.in_ok-depth.ensures.depth c.in_ok-depth.ensures.borrows (names_apart (names d) 1048576 apart)
+    let m : IsMeasured c.args.self.now d c.in_ok-depth.depth c.in_ok-depth.has_borrow =
+    measured_by c.args.self.now d c.as_slice-parts.result.now c.in_ok-depth.depth c.in_ok-depth.has_borrow b same known c.in_ok-depth.ensures.depth c.in_ok-depth.ensures.borrows
+    (names_apart (names d) 1048576 apart)
     (subst (λ (n : ℕ). n < 2 ^ 32) (bytes_same c.args.self.now c.args.cases.items c.as_slice-payloads.result.now whole) c.in_ok-abi.ensures.fits) in
     subst (λ (x : Definition). IsMeasured c.args.self.now x c.in_ok-depth.depth c.in_ok-depth.has_borrow) (ap cases_type (sym c.in_ok-cases.ensures.ok)) m
 
@@ -93,7 +101,8 @@ pub enter-requires-clause-layout : goal.enter-requires-clause-layout
 enter-requires-clause-layout c =
     let listed : c.as_slice-payloads.result.now ≡ map (λ x. x.1) c.args.cases.items = c.as_slice-payloads.ensures.value ∙ c.in_ok-listed.ensures.ok ∙ ap (map (λ x. x.1)) c.deref.ensures.value in
     let whole : c.as_slice-payloads.result.now ≡ map (λ x. x.1) (map (λ x. (string_bytes x.0, x.1)) c.args.cases.items) = listed ∙ case_payload_list c.args.cases.items in
-    subst (λ (x : Definition). HasLayout c.in_ok-abi.abi (defined_shape (all_shapes c.args.self.now) x) × HasInfo c.in_ok-abi.info (variant_cases (defined_shape (all_shapes c.args.self.now) x))) (ap cases_type (sym c.in_ok-cases.ensures.ok)) (
+    subst (λ (x : Definition). HasLayout c.in_ok-abi.abi (defined_shape (all_shapes c.args.self.now) x) × HasInfo c.in_ok-abi.info (variant_cases (defined_shape (all_shapes c.args.self.now) x)))
+    (ap cases_type (sym c.in_ok-cases.ensures.ok)) (
       variant_laid (all_shapes c.args.self.now) c.in_ok-abi.abi of_cases of_option (map (λ x. (string_bytes x.0, x.1)) c.args.cases.items)
           (subst (λ (ps : List (Option InterfaceType)). HasLayout c.in_ok-abi.abi (variant of_option (unnamed_cases (all_shapes c.args.self.now) ps)))
           whole c.in_ok-abi.ensures.abi),

@@ -19,7 +19,8 @@ invariant_of-self-2 c =
     let after : c.from_u32-2.result ≡ length c.args.self.now.definitions + 1 = omega (arith, c.from_u32-2.ensures, c.from_u32.ensures, at) in
     record {
       plain = c.self.invariant.plain;
-      entries = kept-push_two c.self.inside c.args.self.now c.push_reserved-2.new.self.items (entry_of c.args.params) (entry_of c.args.results) c.push_reserved-3.new.self.items c.self.view_is same c.self.invariant.entries c.requires.params_entry c.requires.results_entry;
+      entries = kept-push_two c.self.inside c.args.self.now c.push_reserved-2.new.self.items (entry_of c.args.params)
+          (entry_of c.args.results) c.push_reserved-3.new.self.items c.self.view_is same c.self.invariant.entries c.requires.params_entry c.requires.results_entry;
       funcs = funcs-func c.self.inside c.args.self.now c.push_reserved-2.new.self.items (entry_of c.args.params)
           (entry_of c.args.results) c.push_reserved-3.new.self.items f c.self.view_is same added at after c.requires.params_tuple
           c.requires.results_tuple c.requires.results_entry c.requires.results_plain c.self.invariant.funcs;

@@ -18,5 +18,6 @@ loop-name-preserved c =
       next = tt;
       ends = tt;
       all = all_next c.loop-name.set.keys (into_iter_items c.loop-name.name-iterator) c.in-Some.name (into_iter_items c.next.new.self) c.insert_full.new.self.keys _ c.in-Some.ensures.steps.0 keys c.loop-name.invariant.all;
-      rest = new_next (λ n. string_bytes n) string_eq (λ a b. refl) c.loop-name.set.keys (into_iter_items c.loop-name.name-iterator) c.in-Some.name (into_iter_items c.next.new.self) c.insert_full.new.self.keys _ apart c.in-Some.ensures.steps.0 keys c.loop-name.invariant.rest;
+      rest = new_next (λ n. string_bytes n) string_eq (λ a b. refl) c.loop-name.set.keys (into_iter_items c.loop-name.name-iterator) c.in-Some.name
+          (into_iter_items c.next.new.self) c.insert_full.new.self.keys _ apart c.in-Some.ensures.steps.0 keys c.loop-name.invariant.rest;
     }

@@ -70,7 +70,8 @@ lift_parts-returns-clause-handles t c =
     let s = a.source.now in
     let ms = shapes_of s.types.now a.members.now in
     let over : c.loop-k.k ≡ member_count ms = omega (arith, c.loop-k-test.false, c.loop-k.auto.k-end, c.slot_count-count.ensures) in
-    taking_ends s.instance.now a.ledger.now c.loop-k.ledger _ _ (all_resources c.loop-k.values.items) c.loop-k.invariant.2 (no_flat_left (narrow s.memory.now) a.src.now c.loop-k.at (members_from c.loop-k.k ms) (members_from-all ms c.loop-k.k over))
+    taking_ends s.instance.now a.ledger.now c.loop-k.ledger _ _ (all_resources c.loop-k.values.items) c.loop-k.invariant.2
+    (no_flat_left (narrow s.memory.now) a.src.now c.loop-k.at (members_from c.loop-k.k ms) (members_from-all ms c.loop-k.k over))
 
 pub lift_value-lift_handle-requires : goal.lift_value-lift_handle-requires
 lift_value-lift_handle-requires t c =
