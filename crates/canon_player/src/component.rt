@@ -27,7 +27,7 @@ pub(crate) type ScriptStore = Store<(), Journaled<ScriptedGuest>, ScriptedImport
 /// A component that exports the first functions of the table, for each of which `posts` says whether it has a post-return function: its
 /// core function and that function have its number. It has these imports. Its first options are those of the functions of the host, and
 /// after them stand those of each export.
-pub(crate) fn component_of(
+pub fn component_of(
     alloc: Global,
     types: ComponentTypes,
     encoding: StringEncoding,

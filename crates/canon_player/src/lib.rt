@@ -7,4 +7,5 @@ mod served;
 mod told;
 mod typed;
 
+pub use component::component_of;
 pub use player::play;

@@ -84,6 +84,13 @@ impl Transcript {
         &self.records
     }
 
+    /// The records, in order, taken out of it.
+    pub fn into_records(self) -> Vec<Record>
+        ensures { result.items ≡ self }
+    {
+        self.records
+    }
+
     /// Adds a record at the end.
     pub fn push(&mut self, item: Record) -> Result<(), OutOfMemory>
         ensures ok { OnOk result (self.new ≡ self.old ++ item ∷ []) }
