@@ -1,4 +1,6 @@
+pub mod Agreeing
 pub mod Asks
+pub mod Behind
 pub mod Comparing
 pub mod Departing
 pub mod Ending
