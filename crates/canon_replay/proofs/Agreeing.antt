@@ -1,9 +1,10 @@
 -- Where what is told agrees with what was recorded: as long as both are alike, the request that is made next is the recorded one.
 use Rattle.std.proofs.Common.{List, None, Option, Some, [], arith, length, slice_get, subst, subst₂, suc, sym, take, zero, ℕ, ◌++◌, ◌∷◌, ◌≡◌, ◌≤◌}
+use Rattle.std.specs.Prelude.{⊤}
 use Rattle.canon_memory.specs.declared.event.Event.{Event}
 use Rattle.canon_memory.specs.declared.event.Event.TheVariants as event
 use Rattle.canon_replay_guest.specs.Following.{IsOfRequest}
-use Rattle.canon_replay_guest.specs.Moves.{GuestRequest, HasWords, IsNext, TellsRequest, destroys, posts, reallocates, resumes, starts}
+use Rattle.canon_replay_guest.specs.Moves.{GuestRequest, HasWords, IsNext, IsOther, TellsRequest, destroys, posts, reallocates, resumes, starts}
 use Rattle.canon_replay_guest.specs.Passing.{AreAlike, IsAlike}
 
 -- ---- lists
@@ -53,10 +54,15 @@ post_told f ws (destroys g r) h = h
 
 -- ---- events that agree
 
+-- where an event is recorded: the words of a request have 64 bits
+abbrev pub WordsAt : Option Event → GuestRequest → Type 0
+WordsAt None q = ⊤
+WordsAt (Some e) q = HasWords q
+
 -- A request that is made behind events which are alike the recorded ones up to a place is the recorded one there.
 abbrev pub Agrees : List Event → List Event → Type 0
 Agrees told recorded = (followed rest : List Event) (made : Event) (place : ℕ) (q : GuestRequest) → told ≡ followed ++ made ∷ rest → place ≤ length recorded → AreAlike followed (take place recorded)
-    → IsOfRequest made q → HasWords q → IsNext (slice_get recorded place) q
+    → IsOfRequest made q → WordsAt (slice_get recorded place) q → IsNext (slice_get recorded place) q
 
 pub agrees_none : (recorded : List Event) → Agrees [] recorded
 agrees_none recorded [] rest made place q is le alike of words = absurd (none_there made rest is)
@@ -75,6 +81,11 @@ agrees_more e r es rs first others (f ∷ fs) rest made (suc place) q is le (s, 
 
 -- an event of no request, where nothing more is recorded
 pub agrees_past : (e : Event) (es : List Event) → ((q : GuestRequest) → ¬ IsOfRequest e q) → Agrees (e ∷ es) []
-agrees_past e es no [] rest made place q is le alike of words = absurd (no q (subst (λ (x : Event). IsOfRequest x q) (sym (same_head e made es rest is)) of))
-agrees_past e es no (f ∷ fs) rest made zero q is le (s, ss, is2, one, more) of words = absurd (none_there s ss is2)
-agrees_past e es no (f ∷ fs) rest made (suc place) q is le alike of words = absurd (omega (arith, le))
+agrees_past e es calm [] rest made place q is le alike of words = absurd (calm q (subst (λ (x : Event). IsOfRequest x q) (sym (same_head e made es rest is)) of))
+agrees_past e es calm (f ∷ fs) rest made zero q is le (s, ss, is2, one, more) of words = absurd (none_there s ss is2)
+agrees_past e es calm (f ∷ fs) rest made (suc place) q is le alike of words = absurd (omega (arith, le))
+
+-- another request isn't the recorded one
+pub other_refuted : (o : Option Event) (q : GuestRequest) → IsOther o q → (WordsAt o q → IsNext o q) → ⊥
+other_refuted None q other next = next tt
+other_refuted (Some e) q (differs, words) next = differs (next words)
