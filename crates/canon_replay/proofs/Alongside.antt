@@ -30,12 +30,12 @@ use Rattle.canon_func.specs.Asks.{AcceptsAsk, AreServed, Limits, allowed}
 use Rattle.canon_func.specs.Call.{Accepts, AcceptsLater, Cause, IsCallOf, IsStart, MetFirst, dynamic, dynamic_results, param_parts, returned_leaves, with_results}
 use Rattle.canon_func.specs.HostAsks.{IsUnrefused}
 use Rattle.canon_func.specs.Passing.{Arguments, ReturnedValues}
-use Rattle.canon_func.specs.Runs.{AskTurn, BeginsInAsk, Each, IsOneRun, Leg, MayStart, OnAsk, OnReturn, OnStart, StartsCall, answers_in, asks_in, events_in, last_len, posts}
+use Rattle.canon_func.specs.Runs.{AskTurn, BeginsInAsk, Each, IsOneRun, Leg, MayStart, OnAsk, OnReturn, OnStart, StartsCall, answers_in, asks_in, events_in, last_len, posts as post_events}
 use Rattle.canon_func.specs.Stores.{Callee}
 use Rattle.canon_func.specs.declared.error.Error.{Error}
 use Rattle.canon_func.specs.declared.error.Error.TheVariants as error
 use Rattle.canon_replay_guest.specs.Following.{IsOfRequest, Leaves}
-use Rattle.canon_replay_guest.specs.Moves.{GuestRequest, HasWords, TellsRequest, destroys, posts as posts_request, reallocates, resumes, starts}
+use Rattle.canon_replay_guest.specs.Moves.{GuestRequest, HasWords, TellsRequest, destroys, posts, reallocates, resumes, starts}
 use Rattle.canon_replay_guest.specs.Passing.{AreAlike}
 use Rattle.canon_replay_guest.specs.declared.stop.Stop.TheVariants as stop
 use Rattle.canon_recording.proofs.Rows.{take_all}
@@ -56,7 +56,7 @@ each_answers : (P : Event → Type 0) → ((o os al ns a : ℕ) → P (event.Rea
 each_answers P one [] more h = h
 each_answers P one (x ∷ xs) more h = (one x.call.old x.call.old_size x.call.align x.call.new_size x.at, each_answers P one xs more h)
 
-posts_return_nothing : (P : List ℕ → List ℕ → Type 0) (post : Option ℕ) (returned : List ℕ) → Each (OnReturn P) (posts post returned)
+posts_return_nothing : (P : List ℕ → List ℕ → Type 0) (post : Option ℕ) (returned : List ℕ) → Each (OnReturn P) (post_events post returned)
 posts_return_nothing P None returned = tt
 posts_return_nothing P (Some f) returned = (tt, tt)
 
@@ -92,7 +92,7 @@ start_told : (f : ℕ) (ws m vs n : List ℕ) (q : GuestRequest) → (AreWords w
 start_told f ws m vs n (starts g us) same (e, d) words = (e, same (subst AreWords (sym d) words) ∙ d)
 start_told f ws m vs n (resumes us) same h words = h
 start_told f ws m vs n (reallocates c) same h words = h
-start_told f ws m vs n (posts_request g us) same h words = h
+start_told f ws m vs n (posts g us) same h words = h
 start_told f ws m vs n (destroys g r) same h words = h
 
 within_fuel : (fuel left cost : ℕ) → fuel ≡ left + cost → cost ≤ fuel
@@ -105,7 +105,7 @@ module _ (callee : Callee) (fuel turns : ℕ) (params results : List Val) (recor
   asked_for = params_requests false (host_asks callee.encoding) callee.params q.trees
 
   abbrev recorded_later : List Event
-  recorded_later = event.Start callee.func q.words q.memory ∷ event.Return q.returned q.after ∷ posts callee.post q.returned
+  recorded_later = event.Start callee.func q.words q.memory ∷ event.Return q.returned q.after ∷ post_events callee.post q.returned
 
   met : MetFirst asked_for n.answers n.trap n.later
   met = n.requested q.trees q.have
@@ -133,14 +133,14 @@ module _ (callee : Callee) (fuel turns : ℕ) (params results : List Val) (recor
       (sym (in_whole s) ∙ n.prefix.events_are) n.prefix.may_trap (subst (IsOneRun callee.func callee.post) n.prefix.begins n.prefix.one_run)
 
   later_agrees : MayStart callee.func n.turns n.late n.late_trap n.tail n.later → addresses_of n.answers ≡ addresses_of q.answers → Agrees n.later recorded_later
-  later_agrees (inl (e, others)) same = subst (λ (es : List Event). Agrees es recorded_later) (sym e) (agrees_none recorded_later)
+  later_agrees (inl (e, turns_none, late_none, trap_none, tail_none)) same = subst (λ (es : List Event). Agrees es recorded_later) (sym e) (agrees_none recorded_later)
   later_agrees (inr s) same = subst (λ (es : List Event). Agrees es recorded_later) (sym s.is)
       (agrees_more (event.Start callee.func s.words s.memory) (event.Start callee.func q.words q.memory) (events_in n.turns ++ n.tail) (recorded_end callee.post q.returned q.after)
       (λ z of words. start_told callee.func s.words s.memory q.words q.memory z (words_same s same) of words)
       (λ alike. turns_agree callee.post q.returned q.after n.turns n.tail n.late n.late_trap (runs_on s) s.asking))
 
   none_or_all : MayStart callee.func n.turns n.late n.late_trap n.tail n.later → (n.later ≡ []) ⊎ (met.left ≡ [])
-  none_or_all (inl (e, others)) = inl e
+  none_or_all (inl (e, turns_none, late_none, trap_none, tail_none)) = inl e
   none_or_all (inr s) = inr (subst (Each (OnStart (λ ws m. met.left ≡ []))) s.is met.all).0
 
   pub agrees : Agrees events recorded
@@ -151,7 +151,7 @@ module _ (callee : Callee) (fuel turns : ℕ) (params results : List Val) (recor
 
   -- ---- how it ends
 
-  module _ (plain_results : HaveNoHandle callee.results) (lawful : LawfulMarks after.guest.marks) (quiet : Each IsNoAsk recorded) (calm : Each IsNoTrap recorded) (place : ℕ) (alike : AreAlike events (take place recorded)) where
+  module _ (lawful : LawfulMarks after.guest.marks) (quiet : Each IsNoAsk recorded) (calm : Each IsNoTrap recorded) (place : ℕ) (alike : AreAlike events (take place recorded)) where
     quiet_events : Each IsNoAsk events
     quiet_events = each_alike IsNoAsk IsNoAsk quiet_alike events (take place recorded) alike (each_take IsNoAsk place recorded quiet)
 
@@ -160,14 +160,14 @@ module _ (callee : Callee) (fuel turns : ℕ) (params results : List Val) (recor
 
     returns_so : (P : List ℕ → List ℕ → Type 0) → P q.returned q.after → Each (OnReturn P) events
     returns_so P h = each_alike (OnReturn P) (OnReturn P) (return_back P) events (take place recorded) alike (each_take (OnReturn P) place recorded (subst (Each (OnReturn P)) (sym q.is)
-        (each_answers (OnReturn P) (λ o os al ns a. tt) q.answers recorded_later (tt, h, posts_return_nothing P callee.post q.returned))))
+        (each_answers (OnReturn P) (λ o os al ns a. tt) q.answers recorded_later (tt, (h, posts_return_nothing P callee.post q.returned)))))
 
     in_tail : (P : Event → Type 0) → Each P events → MayStart callee.func n.turns n.late n.late_trap n.tail n.later → Each P n.tail
     in_tail P h (inl (e, turns_none, late_none, trap_none, tail_none)) = subst (Each P) (sym tail_none) tt
     in_tail P h (inr s) = each_behind P (events_in n.turns) n.tail (at_start s P h).1
 
     no_turn : MayStart callee.func n.turns n.late n.late_trap n.tail n.later → n.turns ≡ []
-    no_turn (inl (e, turns_none, others)) = turns_none
+    no_turn (inl (e, turns_none, late_none, trap_none, tail_none)) = turns_none
     no_turn (inr s) = no_turns n.turns n.tail (at_start s IsNoAsk quiet_events).1
 
     lawful_all : AllLawful (n.answers ++ n.late)
@@ -206,7 +206,7 @@ module _ (callee : Callee) (fuel turns : ℕ) (params results : List Val) (recor
         where
           by : IsOneRun callee.func callee.post events → length recorded ≤ place
           by (ws, m, returned, at_end, r) =
-              let ended : List Event = event.Return returned at_end ∷ posts callee.post returned in
+              let ended : List Event = event.Return returned at_end ∷ post_events callee.post returned in
               let parts : events ≡ r.reallocs ++ (event.Start callee.func ws m ∷ (events_in r.turns ++ ended)) = r.is ∙ append_assoc r.reallocs (event.Start callee.func ws m ∷ events_in r.turns) ended in
               let none : r.turns ≡ [] = no_turns r.turns ended (each_seam IsNoAsk r.reallocs (event.Start callee.func ws m) (events_in r.turns ++ ended) (subst (Each IsNoAsk) parts quiet_events)).1 in
               let whole : events ≡ r.reallocs ++ event.Start callee.func ws m ∷ ended = parts ∙ ap (λ (ts : List AskTurn). r.reallocs ++ (event.Start callee.func ws m ∷ (events_in ts ++ ended))) none in
@@ -219,7 +219,7 @@ module _ (callee : Callee) (fuel turns : ℕ) (params results : List Val) (recor
       only_results = subst (λ (a : Result (List Val) Error). IfOk a (λ rs. Each (OnReturn (λ words memory. (rest : ℕ) × AreResults callee.encoding (narrow memory) callee.results words fuel rest rs)) events)) ok n.only_results
 
       represented : Represents q.returned q.after
-      represented = (each_seam (OnReturn Represents) (events_of q.answers None) (event.Start callee.func q.words q.memory) (event.Return q.returned q.after ∷ posts callee.post q.returned)
+      represented = (each_seam (OnReturn Represents) (events_of q.answers None) (event.Start callee.func q.words q.memory) (event.Return q.returned q.after ∷ post_events callee.post q.returned)
           (subst (Each (OnReturn Represents)) q.is (returns_alike Represents events recorded (subst (AreAlike events) (take_all recorded place follows_all) alike) only_results))).1.0
 
       -- with the recorded results

@@ -18,9 +18,8 @@ use Rattle.canon_context.specs.declared.component.Export.{Export}
 use Rattle.canon_context.specs.declared.fault.Fault.TheVariants as fault
 use Rattle.canon_plan.specs.NoHandle.{HaveNoHandle}
 use Rattle.canon_val.specs.declared.val.Val.{Val}
-use Rattle.canon_host.specs.HostSide.{Giving, LoggedEntry}
+use Rattle.canon_host.specs.HostSide.{Giving, LoggedEntry, host_side}
 use Rattle.canon_func.specs.Call.{LivesUntil, call_refusal}
-use Rattle.canon_func.specs.Called.{host_with}
 use Rattle.canon_func.specs.Runs.{Each, OnStart, asks_in}
 use Rattle.canon_func.specs.Stores.{Callee, callee_in, callee_of, results_in, type_in}
 use Rattle.canon_func.specs.declared.error.Error.{Error}
@@ -115,7 +114,7 @@ module _ {T G I P : Type 0} (seen : G → Seen) (moves : GuestIn G → List Even
       subst (λ (x : Callee). QuietRun x fuel call.params call.results call.events) its_callee_is (subst (λ (k : ℕ). QuietRun its_callee k call.params call.results call.events) w.fuel_is
       (subst (QuietRun its_callee w.before.core.fuel call.params call.results) w.events
       (quiet_run (LivesUntil {U = Unit {0}} seen moves (guest_of w.before.core) (guest_of w.after.core) (Ok tt)) leaves (gives (plan w.before.imports)) its_callee w.before.core.fuel w.before.turns call.params call.results
-      (moment_of seen w.before.core) (moment_of seen w.after.core) (host_with seen moves leaves plan gives log refusals w.before.core w.before.imports) (host_with seen moves leaves plan gives log refusals w.after.core w.after.imports) w.calls.events w.calls.so
+      (moment_of seen w.before.core) (moment_of seen w.after.core) (host_side w.before.core (log w.before.imports) (refusals w.before.imports)) (host_side w.after.core (log w.after.imports) (refusals w.after.imports)) w.calls.events w.calls.so
       (subst (λ (x : Callee). HaveNoHandle x.results) (sym its_callee_is) plain) (subst (Each (OnStart (λ words memory. AreWords words))) (sym w.events) w.words)
       (subst (Each IsNoAsk) (sym w.events) (none_asked call.events quiet)))))
 
@@ -149,22 +148,22 @@ module _ (c : Component) (call : RecordedCall) (before : ReplayStore) (component
     ends_so : (result : Result (Unit {0}) Error) → WasMadeAgain (made_call_of call) before after result results events → IsNotShort result → AreAlike events (take place call.events)
         → ¬ AnswersOtherwise place (made_call_of call) before results result
     ends_so (Err e) made short alike otherwise = short (ap (λ (x : Error). Err x)
-        (ends_ok again_callee before.core.fuel before.turns call.params call.results call.events again_run plain (LivesUntil journaled_seen JournaledReplays (guest_of before.core) (guest_of after.core) (Err e)) (λ m k. k ≡ m)
+        (ends_ok again_callee before.core.fuel before.turns call.params call.results call.events again_run plain (LivesUntil {U = Unit {0}} journaled_seen JournaledReplays (guest_of before.core) (guest_of after.core) (Err e)) (λ m k. k ≡ m)
         (GivesNext (asks_in_store before)) (moment_of journaled_seen before.core) (moment_of journaled_seen after.core) (replay_host before) (replay_host after) (Err e) results events made.is (marks_lawful (passed_events (guest_in_store after)))
         quiet calm place alike))
     ends_so (Ok x) made short alike (inl less) =
-        let all = follows_all again_callee before.core.fuel before.turns call.params call.results call.events again_run plain (LivesUntil journaled_seen JournaledReplays (guest_of before.core) (guest_of after.core) (Ok x)) (λ m k. k ≡ m)
+        let all = follows_all again_callee before.core.fuel before.turns call.params call.results call.events again_run plain (LivesUntil {U = Unit {0}} journaled_seen JournaledReplays (guest_of before.core) (guest_of after.core) (Ok x)) (λ m k. k ≡ m)
         (GivesNext (asks_in_store before)) (moment_of journaled_seen before.core) (moment_of journaled_seen after.core) (replay_host before) (replay_host after) (Ok x) results events made.is (marks_lawful (passed_events (guest_in_store after)))
         quiet calm place alike refl in
         omega (arith, less, all)
     ends_so (Ok x) made short alike (inr other) =
-        same_results again_callee before.core.fuel before.turns call.params call.results call.events again_run plain (LivesUntil journaled_seen JournaledReplays (guest_of before.core) (guest_of after.core) (Ok x)) (λ m k. k ≡ m)
+        same_results again_callee before.core.fuel before.turns call.params call.results call.events again_run plain (LivesUntil {U = Unit {0}} journaled_seen JournaledReplays (guest_of before.core) (guest_of after.core) (Ok x)) (λ m k. k ≡ m)
         (GivesNext (asks_in_store before)) (moment_of journaled_seen before.core) (moment_of journaled_seen after.core) (replay_host before) (replay_host after) (Ok x) results events made.is (marks_lawful (passed_events (guest_in_store after)))
         quiet calm place alike refl (results_shape_in before.core.component.types.types (type_in before.core.component (slice_get before.core.component.exports.items call.export))) tuple other
 
     leaves_so : (result : Result (Unit {0}) Error) → WasMadeAgain (made_call_of call) before after result results events → place ≤ length call.events → ¬ LeavesAt stop.Differs place (made_call_of call) before after events
     leaves_so result made le l =
-        leaves_nowhere again_callee before.core.fuel before.turns call.params call.results call.events again_run plain (LivesUntil journaled_seen JournaledReplays (guest_of before.core) (guest_of after.core) result) (λ m k. k ≡ m)
+        leaves_nowhere again_callee before.core.fuel before.turns call.params call.results call.events again_run plain (LivesUntil {U = Unit {0}} journaled_seen JournaledReplays (guest_of before.core) (guest_of after.core) result) (λ m k. k ≡ m)
         (GivesNext (asks_in_store before)) (moment_of journaled_seen before.core) (moment_of journaled_seen after.core) (replay_host before) (replay_host after) result results events made.is
         place (guest_in_store before).live (length after.core.memory) le l
 

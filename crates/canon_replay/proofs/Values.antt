@@ -6,11 +6,12 @@ use Rattle.canon_model.specs.Image.{Image}
 use Rattle.canon_model.specs.Same.{Carried, CarriedTrees}
 use Rattle.canon_model.specs.Shape.{Members, Shape, of_places, product}
 use Rattle.canon_model.specs.Tree.{Tree, Trees, bits, case, case_of, code_point, handle, items, no_trees, number, parts, text, tree, truth}
-use Rattle.canon_val.specs.Value.{AreLiftedFrom, HasTree, HaveTrees}
+use Rattle.canon_val.specs.Value.{AreLiftedFrom, HasTree, HaveTrees, member_names, no_names}
 use Rattle.canon_val.specs.declared.val.Val.{Val}
 use Rattle.canon_val.specs.declared.val.Val.TheVariants as val
 use Rattle.canon_value_parts.proofs.LiftedValues.{all_unlifted}
 use Rattle.canon_value_parts.proofs.OneValue.{tree_one}
+use Rattle.canon_value_parts.proofs.Values.{product_values}
 use Rattle.canon_replay.specs.Calls.{HaveOtherImages}
 
 mutual
@@ -35,11 +36,8 @@ mutual
 tuple_tree : (s : Shape) (ms : Members) (v : Vec Val Global) (ts : Trees) (t : Tree) → s ≡ product of_places ms → HaveTrees ms v.items ts → HasTree s (val.Tuple v) t → HasTree s (val.Tuple v) (parts ts)
 tuple_tree s ms v ts t is have h =
     let (vs, us, p, e, others) = subst (λ (z : Shape). HasTree z (val.Tuple v) t) is h in
-    let (members, same, names, values) = p in
-    subst (λ (z : Shape). HasTree z (val.Tuple v) (parts ts)) (sym is) (vs, ts, p, refl, subst (λ (xs : List Val). HaveTrees ms xs ts) (sym (values ∙ ap (λ (x : Vec Val Global). x.items) (sym (tuple_in members same)))) have)
-  where
-    tuple_in : (members : Vec Val Global) → val.Tuple v ≡ val.Tuple members → v ≡ members
-    tuple_in members e = cc
+    let same : v.items ≡ vs = product_values of_places (no_names v.items) (member_names ms) v.items vs (val.Tuple v) (v, refl, refl, refl) p in
+    subst (λ (z : Shape). HasTree z (val.Tuple v) (parts ts)) (sym is) (vs, ts, p, refl, subst (λ (xs : List Val). HaveTrees ms xs ts) same have)
 
 -- so their images don't differ
 pub lifted_alike : (s : Shape) (ms : Members) (vs ws : List Val) (ts : Trees) → s ≡ product of_places ms → AreLiftedFrom ms vs ts → AreLiftedFrom ms ws ts → ¬ HaveOtherImages s vs ws
