@@ -1,5 +1,5 @@
 -- Recordings of calls that `Func::call` made, and that asked for no import, are replayed without a difference.
-use Rattle.std.proofs.Common.{All, Bool, Err, List, None, Ok, Option, Result, Some, [], ap, arith, false, inl, inr, length, map, refl, subst, suc, sym, take, true, zero, ℕ, ◌+◌, ◌<◌, ◌∙◌, ◌∷◌, ◌≡◌, ◌≤◌, ◌⊎◌}
+use Rattle.std.proofs.Common.{All, Bool, Err, List, None, Ok, Option, Result, Some, [], ap, arith, drop, false, inl, inr, length, map, refl, subst, subst₂, suc, sym, take, true, zero, ℕ, ◌+◌, ◌<◌, ◌∙◌, ◌∷◌, ◌≡◌, ◌≤◌, ◌⊎◌}
 use Rattle.std.proofs.lemmas.Bool.{eq-eqb}
 use Rattle.std.proofs.lemmas.List.Elements.{All-head, All-tail}
 use Rattle.std.specs.Prelude.{IfSome, IsSome, slice_get, not, ◌&&◌, ◌==◌, ◌≢◌}
@@ -32,8 +32,8 @@ use Rattle.canon_recording.specs.Recordings.{RecordedCall, exports_of, imports_o
 use Rattle.canon_replay_guest.specs.Passing.{AreAlike}
 use Rattle.canon_replay_guest.specs.Replaying.{Replaying, passed_events}
 use Rattle.canon_replay_guest.specs.declared.stop.Stop.TheVariants as stop
-use Rattle.canon_replay.specs.Calls.{AnswersOtherwise, CallDiffers, CallReplayed, DepartsAt, EndsOtherwise, IsNotEntered, IsNotShort, MadeCall, LeavesAt, ReplaysFrom, WasMadeAgain, made_call_of, replay_host, results_shape_in}
-use Rattle.canon_replay.specs.Faithful.{AskForNothing, HasResultTuples, IsNoDifference, RecordedNeverDiffer, WasCalled, WereCalled}
+use Rattle.canon_replay.specs.Calls.{AnswersOtherwise, CallDiffers, CallReplayed, DepartsAt, EndsOtherwise, IsNotEntered, IsNotShort, MadeCall, LeavesAt, ReplaysFrom, WasMadeAgain, made_call_of, events_of_call, replay_host, results_shape_in}
+use Rattle.canon_replay.specs.Faithful.{AskForNothing, HasResultTuples, HaveLawfulAnswers, IsNoDifference, RecordedAreSame, RecordedNeverDiffer, WasCalled, WereCalled}
 use Rattle.canon_replay.specs.Imports.{GivesNext}
 use Rattle.canon_replay.specs.Stores.{JournaledReplays, ReplayStore, asks_in_store, guest_in_store, journaled_seen, named_export}
 use Rattle.canon_replay.specs.declared.outcome.Outcome.{Outcome}
@@ -41,7 +41,11 @@ use Rattle.canon_replay.specs.declared.outcome.Outcome.TheVariants as outcome
 use Rattle.canon_replay.proofs.Accepting.{marks_lawful}
 use Rattle.canon_replay.proofs.Alongside.{ends_ok, follows_all, leaves_nowhere, same_results}
 use Rattle.canon_replay.proofs.Behind.{IsNoAsk, IsNoTrap}
+use Rattle.canon_replay.proofs.Departing.{unless_short}
+use Rattle.canon_replay.proofs.Running.{runs_can}
 use Rattle.canon_replay.proofs.Runs.{QuietRun, none_asked, quiet_run}
+use Rattle.canon_replay.proofs.Steady.{IsBeforeCall, before_next, lawful_is_given}
+use Rattle.canon_replay_guest.specs.Fitting.{CanReplayAll}
 
 -- ---- before the guest is entered
 
@@ -223,8 +227,49 @@ module _ {T G I P : Type 0} (seen : G → Seen) (moves : GuestIn G → List Even
   never_differ_from k (call ∷ calls) store outcome.Same going fits were quiet (inr departs) = tt
   never_differ_from k (call ∷ calls) store (outcome.Unlawful i place) going fits were quiet (inr departs) = tt
 
+  -- the same where the recorded answers are lawful, of a guest that is before call k
+  same_from : (k : ℕ) (calls : List RecordedCall) (store : ReplayStore) (o : Outcome) → IsGoing store → IsBeforeCall k store (map events_of_call calls) → All (IsRecordedCallOf (exports_of c) (imports_of c)) calls
+      → WereCalled seen moves leaves plan gives log refusals c fuel turns calls → AskForNothing calls → HaveLawfulAnswers calls → ReplaysFrom k (map made_call_of calls) store o → o ≡ outcome.Same
+  same_from k [] store o going at fits were quiet law h = h
+  same_from k (call ∷ calls) store o going at fits were quiet law (inl (next, replayed, others)) =
+      let known = All-head (IsRecordedCallOf (exports_of c) (imports_of c)) call calls fits in
+      let run = recorded_run seen moves leaves plan gives log refusals c fuel turns call were.0 (recordable.exports call.export known.its.known).1 quiet.0 in
+      same_from (k + 1) calls next o (goes_on (made_call_of call) store next going replayed)
+      (before_next k store call.events (map events_of_call calls) at (callee_of_call c call).func run.words run.memory run.returned run.after (callee_of_call c call).post run.answers run.is next replayed.events replayed.made.moves.moves
+      replayed.alike (written_calm (imports_of c).count call.events known.asks) replayed.kept.recorded)
+      (All-tail (IsRecordedCallOf (exports_of c) (imports_of c)) call calls fits) were.1 quiet.1 law.1 others
+  same_from k (call ∷ calls) store (outcome.Differs i place) going at fits were quiet law (inr (same, differs)) =
+      absurd (call_same call store going were.0 quiet.0 (All-head (IsRecordedCallOf (exports_of c) (imports_of c)) call calls fits) place differs)
+  same_from k (call ∷ calls) store outcome.Same going at fits were quiet law (inr departs) = refl
+  same_from k (call ∷ calls) store (outcome.Unlawful i place) going at fits were quiet law (inr (same, (after, result, results, events, made, short, l))) =
+      let known = All-head (IsRecordedCallOf (exports_of c) (imports_of c)) call calls fits in
+      let run = recorded_run seen moves leaves plan gives log refusals c fuel turns call were.0 (recordable.exports call.export known.its.known).1 quiet.0 in
+      absurd (lawful_is_given k store call.events (map events_of_call calls) at (callee_of_call c call).func run.words run.memory run.returned run.after (callee_of_call c call).post run.answers run.is after events
+      (unless_short result (JournaledReplays (guest_of store.core) events (guest_of after.core)) short made.moves).moves law.0 place l)
+
 pub recorded_never_differ : {T G I P : Type 0} (seen : G → Seen) (moves : GuestIn G → List Event → GuestIn G → Type 0) (leaves : List ℕ → List ℕ → Type 0)
     (plan : I → P) (gives : P → Giving T) (log : I → Option (List LoggedEntry)) (refusals : I → ℕ) → RecordedNeverDiffer seen moves leaves plan gives log refusals
 recorded_never_differ seen moves leaves plan gives log refusals c calls fuel turns o sound recordable tuples fits were quiet (store, new, replays) =
     never_differ_from seen moves leaves plan gives log refusals c fuel turns sound recordable tuples 0 calls store o
     (record { component = new.component; fuel_is = new.fuel_is; untrapped = new.untrapped }) fits.are were quiet replays
+
+pub recorded_are_same : {T G I P : Type 0} (seen : G → Seen) (moves : GuestIn G → List Event → GuestIn G → Type 0) (leaves : List ℕ → List ℕ → Type 0)
+    (plan : I → P) (gives : P → Giving T) (log : I → Option (List LoggedEntry)) (refusals : I → ℕ) → RecordedAreSame seen moves leaves plan gives log refusals
+recorded_are_same seen moves leaves plan gives log refusals c calls fuel turns o sound recordable tuples fits were quiet law (store, new, replays) =
+    same_from seen moves leaves plan gives log refusals c fuel turns sound recordable tuples 0 calls store o
+    (record { component = new.component; fuel_is = new.fuel_is; untrapped = new.untrapped })
+    (record {
+      going = ap (λ (g : Replaying). g.stop) new.guest;
+      before = inl (ap (λ (g : Replaying). g.call) new.guest, ap (λ (g : Replaying). g.at) new.guest);
+      can = inl (ap (λ (g : Replaying). g.at) new.guest, can_all);
+      small = omega (arith, no_memory);
+      live = ap (λ (g : Replaying). g.live) new.guest;
+      left_are = ap (λ (g : Replaying). g.recorded) new.guest;
+    })
+    fits.are were quiet law replays
+  where
+    no_memory : length store.core.memory ≡ 0
+    no_memory = ap length new.memory
+
+    can_all : CanReplayAll (length store.core.memory) (drop (guest_in_store store).call (guest_in_store store).recorded)
+    can_all = subst₂ CanReplayAll (sym no_memory) (sym (ap (λ (g : Replaying). drop g.call g.recorded) new.guest)) (runs_can c 0 calls fits.runs)

@@ -112,8 +112,14 @@ module _ (enc : Encoding) where
       homes_along string a t u xs ys c (p, at, h) = (p, at, text_along p t u xs ys c h)
       homes_along (own r) a t u xs ys c h = h
       homes_along (borrow r) a t u xs ys c h = h
-      homes_along (list k s) a t u xs ys c (p, zs, at, e, h) = (p, zs, at, e, each_along (Homes AnyPointer (host_texts enc) wide s) (Homes AnyPointer plain_texts wide s) (λ b v w os vs d g. homes_along s b v w os vs d g)
-          (size wide s) p (trees_of t) (trees_of u) zs ys (trees_along t u c) h)
+      homes_along (list k s) a t u xs ys c (p, zs, at, e, h) = (
+        p,
+        zs,
+        at,
+        e,
+        each_along (Homes AnyPointer (host_texts enc) wide s) (Homes AnyPointer plain_texts wide s) (λ b v w os vs d g. homes_along s b v w os vs d g)
+            (size wide s) p (trees_of t) (trees_of u) zs ys (trees_along t u c) h,
+      )
       homes_along (fixed n s) a t u xs ys c h = each_along (Homes AnyPointer (host_texts enc) wide s) (Homes AnyPointer plain_texts wide s) (λ b v w os vs d g. homes_along s b v w os vs d g)
           (size wide s) a (trees_of t) (trees_of u) xs ys (trees_along t u c) h
       homes_along (product k ms) a t u xs ys c h = members_along ms 0 a (trees_of t) (trees_of u) xs ys (trees_along t u c) h

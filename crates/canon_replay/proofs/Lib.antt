@@ -8,7 +8,9 @@ pub mod Departing
 pub mod Ending
 pub mod Faithful
 pub mod Following
+pub mod Growing
 pub mod Homes
+pub mod Lawfully
 pub mod Looping
 pub mod Making
 pub mod Places
@@ -18,6 +20,7 @@ pub mod Running
 pub mod Runs
 pub mod Same
 pub mod Splitting
+pub mod Steady
 pub mod Storing
 pub mod Values
 pub mod Whole

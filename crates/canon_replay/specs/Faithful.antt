@@ -1,9 +1,13 @@
 -- Recordings of calls that `Func::call` made. The law is proved as the contract of a function in src/laws.rt.
 use Rattle.std.specs.Prelude.{List, None, Ok, Option, [], length, slice_get, ℕ, ⊤, ◌<◌, ◌∷◌, ◌≡◌}
 use Rattle.canon_model.specs.Flat.{AreWords}
+use Rattle.canon_model.specs.Memory.{Block}
 use Rattle.canon_model.specs.Shape.{of_places, product}
 use Rattle.canon_memory.specs.declared.event.Event.{Event}
+use Rattle.canon_memory.specs.declared.event.Event.TheVariants as event
 use Rattle.canon_memory.specs.Guest.{GuestIn, Seen}
+use Rattle.canon_memory.specs.Realloc.{call}
+use Rattle.canon_memory.specs.Watch.{relisted}
 use Rattle.canon_context.specs.Component.{IsComponent}
 use Rattle.canon_context.specs.declared.component.Component.{Component}
 use Rattle.canon_host.specs.HostSide.{Giving, LoggedEntry}
@@ -13,6 +17,8 @@ use Rattle.canon_func.specs.Runs.{Each, OnStart, asks_in}
 use Rattle.canon_func.specs.Stores.{Named, StoreView, callee_of, type_in}
 use Rattle.canon_recording.specs.Fits.{FitsComponent, IsRecordable}
 use Rattle.canon_recording.specs.Recordings.{RecordedCall, exports_of}
+use Rattle.canon_replay_guest.specs.Lawful.{IsLawfulAnswer}
+use Rattle.canon_replay_guest.specs.Replaying.{start_length}
 use Rattle.canon_replay.specs.Calls.{IsReplayed, results_shape_in}
 use Rattle.canon_replay.specs.declared.outcome.Outcome.{Outcome}
 use Rattle.canon_replay.specs.declared.outcome.Outcome.TheVariants as outcome
@@ -25,6 +31,17 @@ HasResultTuples c = (n : ℕ) → n < length c.exports.items → results_shape_i
 abbrev pub AskForNothing : List RecordedCall → Type 0
 AskForNothing [] = ⊤
 AskForNothing (call ∷ calls) = (asks_in call.events ≡ 0) × AskForNothing calls
+
+-- Each answer of `realloc` before the start is lawful in a memory of so many bytes, where these blocks live before them.
+abbrev pub AreLawfulAnswers : List Block → ℕ → List Event → Type 0
+AreLawfulAnswers live len (event.Realloc old old_size align new_size answer ∷ events) =
+    IsLawfulAnswer live len (call old old_size align new_size) answer × AreLawfulAnswers (relisted live (call old old_size align new_size) answer) len events
+AreLawfulAnswers live len _ = ⊤
+
+-- the same of each call, in a memory as long as the one in which it was started, and where no block lives before it
+abbrev pub HaveLawfulAnswers : List RecordedCall → Type 0
+HaveLawfulAnswers [] = ⊤
+HaveLawfulAnswers (made ∷ calls) = AreLawfulAnswers [] (start_length made.events 0) made.events × HaveLawfulAnswers calls
 
 -- it isn't told that a call differs
 abbrev pub IsNoDifference : Outcome → Type 0
@@ -60,3 +77,8 @@ module _ {T G I P : Type 0} (seen : G → Seen) (moves : GuestIn G → List Even
   abbrev pub RecordedNeverDiffer : Type 0
   RecordedNeverDiffer = (c : Component) (calls : List RecordedCall) (fuel turns : ℕ) (o : Outcome) → IsComponent c → IsRecordable c → HasResultTuples c → FitsComponent c calls
       → WereCalled c fuel turns calls → AskForNothing calls → IsReplayed c calls fuel turns (Ok o) → IsNoDifference o
+
+  -- Where also the recorded answers before each start are lawful, it answers `Same`.
+  abbrev pub RecordedAreSame : Type 0
+  RecordedAreSame = (c : Component) (calls : List RecordedCall) (fuel turns : ℕ) (o : Outcome) → IsComponent c → IsRecordable c → HasResultTuples c → FitsComponent c calls
+      → WereCalled c fuel turns calls → AskForNothing calls → HaveLawfulAnswers calls → IsReplayed c calls fuel turns (Ok o) → o ≡ outcome.Same
