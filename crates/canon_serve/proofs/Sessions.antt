@@ -33,12 +33,13 @@ messages_more (u ∷ ts) t = ap (λ ms. one_turn_messages u ++ ms) (messages_mor
 -- any but the one that ends it
 pub goes_on_after : (asked : Command) → (asked ≡ command.End → ⊥) → GoesOnAfter asked
 goes_on_after command.End not = not refl
-goes_on_after (command.Begin all json) not = tt
+goes_on_after (command.Begin all keeps json) not = tt
 goes_on_after (command.Call export params) not = tt
 goes_on_after command.Live not = tt
 goes_on_after command.Marks not = tt
 goes_on_after (command.Drop number) not = tt
 goes_on_after (command.New ty rep) not = tt
+goes_on_after command.Events not = tt
 goes_on_after command.Unknown not = tt
 
 module _ {E H : Type 0} (log : E → Option (List Message)) where
@@ -71,9 +72,10 @@ module _ {E H : Type 0} (log : E → Option (List Message)) where
   may_run_short command.Live s t h = tt
   may_run_short command.Marks s t h = tt
   may_run_short (command.New ty rep) s t h = tt
+  may_run_short command.Events s t h = tt
   may_run_short (command.Drop number) s t h = absurd h
   may_run_short command.End s t h = absurd h
-  may_run_short (command.Begin all json) s t h = absurd h
+  may_run_short (command.Begin all keeps json) s t h = absurd h
   may_run_short command.Unknown s t h = absurd h
 
   -- or it wasn't told whole
@@ -109,14 +111,15 @@ unheard_first a b unheard.Broken r is heard = subst (λ e. PassesMessages a b (E
 unheard_first a b unheard.OutOfMemory r is heard = subst (λ e. PassesMessages a b (EndsAtOnce e)) (sym is) (heard.0, heard.1, inl heard.2)
 
 -- it is none that begins a session
-pub other_first : (asked : Command) → ((all : Bool) (json : Vec ℕ Global) → asked ≡ command.Begin all json → ⊥) → IsFirstAnswer asked (answer.Senseless senseless.NoCommand)
-other_first (command.Begin all json) not = absurd (not all json refl)
+pub other_first : (asked : Command) → ((all keeps : Bool) (json : Vec ℕ Global) → asked ≡ command.Begin all keeps json → ⊥) → IsFirstAnswer asked (answer.Senseless senseless.NoCommand)
+other_first (command.Begin all keeps json) not = absurd (not all keeps json refl)
 other_first (command.Call export params) not = tt
 other_first command.End not = tt
 other_first command.Live not = tt
 other_first command.Marks not = tt
 other_first (command.Drop number) not = tt
 other_first (command.New ty rep) not = tt
+other_first command.Events not = tt
 other_first command.Unknown not = tt
 
 module _ (a b c : Option (List Message)) (asked : Command) (answered : Answer) (heard : PassesMessages a b (HearsCommand asked)) (first : IsFirstAnswer asked answered) where
@@ -148,21 +151,21 @@ module _ (a b c : Option (List Message)) (asked : Command) (answered : Answer) (
   not_instantiated is result (inr cut) = subst (λ r. PassesMessages a c (EndsAtOnce r)) (sym cut.0) (cut_first cut.1)
 
 -- a component was heard, but no store began
-pub unbegun : (a b c : Option (List Message)) (all : Bool) (json : Vec ℕ Global) (why : NoStore) (result : End) → PassesMessages a b (HearsCommand (command.Begin all json))
+pub unbegun : (a b c : Option (List Message)) (all keeps : Bool) (json : Vec ℕ Global) (why : NoStore) (result : End) → PassesMessages a b (HearsCommand (command.Begin all keeps json))
     → (why ≡ no_store.NoComponent → HasNoComponent json.items) → (why ≡ no_store.NotInstantiated → HasComponent json.items) → EndsUnbegun why b c result → PassesMessages a c (EndsAtOnce result)
-unbegun a b c all json no_store.NoComponent result heard none not ended = no_component a b c (command.Begin all json) (answer.Senseless senseless.NoComponent) heard (none refl) senseless.NoComponent refl result ended
-unbegun a b c all json no_store.NotInstantiated result heard none not ended = not_instantiated a b c (command.Begin all json) (answer.Refused (error.Fault fault.GuestTrap)) heard (not refl) refl result ended
-unbegun a b c all json no_store.OutOfMemory result heard none not ended =
-    subst (λ r. PassesMessages a c (EndsAtOnce r)) (sym ended.0) (heard.0, subst (λ l. AddsMessages a l heard.0) (sym ended.1) heard.1, inr (all, json, heard.2))
+unbegun a b c all keeps json no_store.NoComponent result heard none not ended = no_component a b c (command.Begin all keeps json) (answer.Senseless senseless.NoComponent) heard (none refl) senseless.NoComponent refl result ended
+unbegun a b c all keeps json no_store.NotInstantiated result heard none not ended = not_instantiated a b c (command.Begin all keeps json) (answer.Refused (error.Fault fault.GuestTrap)) heard (not refl) refl result ended
+unbegun a b c all keeps json no_store.OutOfMemory result heard none not ended =
+    subst (λ r. PassesMessages a c (EndsAtOnce r)) (sym ended.0) (heard.0, subst (λ l. AddsMessages a l heard.0) (sym ended.1) heard.1, inr (all, keeps, json, heard.2))
 
 -- ---- a session
 
 module _ {E H : Type 0} (log : E → Option (List Message)) (engine : E) (host : H) where
-  pub begun_session : (a b c d : Option (List Message)) (all : Bool) (json empty : Vec ℕ Global) (s : EngineStore E H) (why : End) → PassesMessages a b (HearsCommand (command.Begin all json))
-      → IsBegun log engine host all json.items s → empty.items ≡ [] → AddsMessages b c (answer_messages (answer.Done empty)) → ServesUntil log c d (session s []) why → IsSession log engine host a d why
-  begun_session a b c d all json empty s why heard begun is_empty told served = inl (record {
+  pub begun_session : (a b c d : Option (List Message)) (all keeps : Bool) (json empty : Vec ℕ Global) (s : EngineStore E H) (why : End) → PassesMessages a b (HearsCommand (command.Begin all keeps json))
+      → IsBegun log engine host all keeps json.items s → empty.items ≡ [] → AddsMessages b c (answer_messages (answer.Done empty)) → ServesUntil log c d (session s []) why → IsSession log engine host a d why
+  begun_session a b c d all keeps json empty s why heard begun is_empty told served = inl (record {
     store = s;
     between = c;
-    begins = record { watches_all = all; json = json; heard = heard.0; is_heard = heard.2; begun = begun; empty = empty; is_empty = is_empty; passed = adds_both a b c heard.0 (answer_messages (answer.Done empty)) heard.1 told };
+    begins = record { watches_all = all; keeps_events = keeps; json = json; heard = heard.0; is_heard = heard.2; begun = begun; empty = empty; is_empty = is_empty; passed = adds_both a b c heard.0 (answer_messages (answer.Done empty)) heard.1 told };
     served = served;
   })

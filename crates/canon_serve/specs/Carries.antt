@@ -21,6 +21,9 @@ use Rattle.canon_memory.specs.declared.event.Event.{Event}
 use Rattle.canon_relay.specs.Channel.{Message}
 use Rattle.canon_relay.specs.Relay.{RelayMoves, Relaying, relay_seen}
 use Rattle.canon_relay.specs.Wire.{number_bytes}
+use Rattle.canon_events.specs.Bytes.{events_bytes}
+use Rattle.canon_events.specs.Guest.{MaybeMoves, journal_kept, maybe_seen, without_journal}
+use Rattle.canon_events.specs.declared.guest.MaybeJournaled.{MaybeJournaled}
 use Rattle.canon_context.specs.Asks.{SameButHandles}
 use Rattle.canon_context.specs.Core.{Parts, SameButLedger, component_types, guest_of, moment_of}
 use Rattle.canon_context.specs.declared.fault.Fault.TheVariants as fault
@@ -42,19 +45,19 @@ use Rattle.canon_serve.specs.declared.command.Command.{Command}
 use Rattle.canon_serve.specs.declared.command.Command.TheVariants as command
 use Rattle.canon_serve.specs.declared.imports.ChannelImports.{ChannelImports}
 
--- ---- a store whose code runs in an engine behind a channel, and whose answers of `realloc` are tested
+-- ---- a store whose code runs in an engine behind a channel, whose events may be kept, and whose answers of `realloc` are tested
 
 abbrev pub EngineStore : Type 0 → Type 0 → Type 0
-EngineStore E H = StoreView H (Watching (Relaying E)) ChannelImports
+EngineStore E H = StoreView H (Watching (MaybeJournaled (Relaying E))) ChannelImports
 
 abbrev pub EngineParts : Type 0 → Type 0 → Type 0
-EngineParts E H = Parts H (Watching (Relaying E))
+EngineParts E H = Parts H (Watching (MaybeJournaled (Relaying E)))
 
-abbrev pub engine_seen : {E : Type 0} → Watching (Relaying E) → Seen
-engine_seen w = watched_seen relay_seen w
+abbrev pub engine_seen : {E : Type 0} → Watching (MaybeJournaled (Relaying E)) → Seen
+engine_seen w = watched_seen (λ g. maybe_seen relay_seen g) w
 
-abbrev pub EngineMoves : {E : Type 0} → (E → Option (List Message)) → GuestIn (Watching (Relaying E)) → List Event → GuestIn (Watching (Relaying E)) → Type 0
-EngineMoves log w events x = WatchedMoves (RelayMoves log) w events x
+abbrev pub EngineMoves : {E : Type 0} → (E → Option (List Message)) → GuestIn (Watching (MaybeJournaled (Relaying E))) → List Event → GuestIn (Watching (MaybeJournaled (Relaying E))) → Type 0
+EngineMoves log w events x = WatchedMoves (MaybeMoves (RelayMoves log)) w events x
 
 -- ---- a session's state: a store, and the resources that were made or answered so far, which are named by their places
 
@@ -189,6 +192,14 @@ module _ {E H : Type 0} (log : E → Option (List Message)) where
   abbrev pub without_marks : EngineStore E H → EngineStore E H
   without_marks store = record store { core = record store.core { guest = record store.core.guest { marks = [] } } }
 
+  abbrev pub without_events : EngineStore E H → EngineStore E H
+  without_events store = record store { core = record store.core { guest = record store.core.guest { guest = without_journal store.core.guest.guest } } }
+
+  -- The events that were kept are told, and forgotten; or none are kept.
+  abbrev pub TellsEvents : Option (List Event) → EngineStore E H → EngineStore E H → Answer → Type 0
+  TellsEvents None store store2 a = (a ≡ answer.Senseless senseless.NoEvents) × (store2 ≡ store)
+  TellsEvents (Some events) store store2 a = IsDone (events_bytes events) a × (store2 ≡ without_events store)
+
   -- ---- a resource
 
   -- An own handle was put into the host's table, or the ledger refused it: nothing but the ledger changed.
@@ -232,15 +243,17 @@ module _ {E H : Type 0} (log : E → Option (List Message)) where
       ⊎ ((HasExport s.store export → ⊥) × OnlyAnswers s s2 a (answer.Senseless senseless.NoExport))
 
   -- What was answered to a command, and what it left: a call by the export of that number, if there is one; how many handles live; the marks since
-  -- the last time, which are forgotten then; a resource of a number that was dropped, and a new one.
+  -- the last time, which are forgotten then; a resource of a number that was dropped, and a new one; and the events since the last time, which are
+  -- forgotten too.
   abbrev pub CarriesOutCommand : Command → EngineSession E H → EngineSession E H → Answer → Type 0
   CarriesOutCommand (command.Call export params) s s2 a = CalledAt export params.items s s2 a
   CarriesOutCommand command.Live s s2 a = IsDone (number_bytes s.store.core.ledger.handles.counter.live) a × (s2 ≡ s)
   CarriesOutCommand command.Marks s s2 a = IsDone (map mark_byte s.store.core.guest.marks) a × (s2 ≡ session (without_marks s.store) s.list)
   CarriesOutCommand (command.Drop number) s s2 a = DropsListed s s2 a (slice_get s.list number)
   CarriesOutCommand (command.New ty rep) s s2 a = MakesNew ty rep s s2 a
+  CarriesOutCommand command.Events s s2 a = TellsEvents (journal_kept s.store.core.guest.guest) s.store s2.store a × (s2.list ≡ s.list)
   CarriesOutCommand command.End s s2 a = OnlyAnswers s s2 a (answer.Senseless senseless.NoCommand)
-  CarriesOutCommand (command.Begin all json) s s2 a = OnlyAnswers s s2 a (answer.Senseless senseless.NoCommand)
+  CarriesOutCommand (command.Begin all keeps json) s s2 a = OnlyAnswers s s2 a (answer.Senseless senseless.NoCommand)
   CarriesOutCommand command.Unknown s s2 a = OnlyAnswers s s2 a (answer.Senseless senseless.NoCommand)
 
   -- ---- want of memory
@@ -273,4 +286,5 @@ module _ {E H : Type 0} (log : E → Option (List Message)) where
   AnswersShort command.Live s s2 = s2 ≡ s
   AnswersShort command.Marks s s2 = s2 ≡ s
   AnswersShort (command.New ty rep) s s2 = NewShort rep s s2
+  AnswersShort command.Events s s2 = s2 ≡ s
   AnswersShort asked s s2 = ⊥

@@ -44,7 +44,7 @@ GoesOnAfter _ = Unit {0}
 -- memory may run out for the answer of any but these
 abbrev pub MayRunShort : Command → Type 0
 MayRunShort command.End = ⊥
-MayRunShort (command.Begin all json) = ⊥
+MayRunShort (command.Begin all keeps json) = ⊥
 MayRunShort (command.Drop number) = ⊥
 MayRunShort command.Unknown = ⊥
 MayRunShort _ = Unit {0}
@@ -108,10 +108,10 @@ module _ {E H : Type 0} (log : E → Option (List Message)) where
 
 -- how it is answered: the store of its component began; there is none; the engine didn't instantiate it; or it is another command
 abbrev pub IsFirstAnswer : Command → Answer → Type 0
-IsFirstAnswer (command.Begin all json) (answer.Done bytes) = HasComponent json.items × (bytes.items ≡ [])
-IsFirstAnswer (command.Begin all json) (answer.Senseless senseless.NoComponent) = HasNoComponent json.items
-IsFirstAnswer (command.Begin all json) (answer.Refused (error.Fault fault.GuestTrap)) = HasComponent json.items
-IsFirstAnswer (command.Begin all json) a = ⊥
+IsFirstAnswer (command.Begin all keeps json) (answer.Done bytes) = HasComponent json.items × (bytes.items ≡ [])
+IsFirstAnswer (command.Begin all keeps json) (answer.Senseless senseless.NoComponent) = HasNoComponent json.items
+IsFirstAnswer (command.Begin all keeps json) (answer.Refused (error.Fault fault.GuestTrap)) = HasComponent json.items
+IsFirstAnswer (command.Begin all keeps json) a = ⊥
 IsFirstAnswer asked (answer.Senseless senseless.NoCommand) = Unit {0}
 IsFirstAnswer asked a = ⊥
 
@@ -151,7 +151,7 @@ unheard_end unheard.OutOfMemory = end.OutOfMemory
 abbrev pub EndsAtOnce : End → List Message → Type 0
 EndsAtOnce end.Asked messages = ⊥
 EndsAtOnce end.Broken messages = HearsNone messages ⊎ IsCutFirst messages
-EndsAtOnce end.OutOfMemory messages = HearsHead messages ⊎ ((watches_all : Bool) × (json : Vec ℕ Global) × HearsCommand (command.Begin watches_all json) messages)
+EndsAtOnce end.OutOfMemory messages = HearsHead messages ⊎ ((watches_all keeps_events : Bool) × (json : Vec ℕ Global) × HearsCommand (command.Begin watches_all keeps_events json) messages)
 EndsAtOnce end.NoComponent messages = IsFirstTurn (λ a. (why : Senseless) × (a ≡ answer.Senseless why)) messages
 EndsAtOnce end.NotInstantiated messages = IsFirstTurn (λ a. a ≡ answer.Refused (error.Fault fault.GuestTrap)) messages
 
@@ -161,10 +161,11 @@ module _ {E H : Type 0} (log : E → Option (List Message)) (engine : E) (host :
   -- A component was heard, and its store began, which was told.
   pub record BeginsSession (log1 log2 : Option (List Message)) (store : EngineStore E H) : Type 0 where
     pub watches_all : Bool
+    pub keeps_events : Bool
     pub json : Vec ℕ Global
     pub heard : List Message
-    pub is_heard : HearsCommand (command.Begin watches_all json) heard
-    pub begun : IsBegun log engine host watches_all json.items store
+    pub is_heard : HearsCommand (command.Begin watches_all keeps_events json) heard
+    pub begun : IsBegun log engine host watches_all keeps_events json.items store
     pub empty : Vec ℕ Global
     pub is_empty : empty.items ≡ []
     pub passed : AddsMessages log1 log2 (heard ++ answer_messages (answer.Done empty))

@@ -26,6 +26,8 @@ pub enum Senseless {
     NoComponent,
     /// The type or the representation of a new resource has more than 32 bits.
     TooWide,
+    /// The session keeps no events.
+    NoEvents,
 }
 
 /// What came of a command.
@@ -66,6 +68,7 @@ fn senseless_numbers(why: Senseless) -> [u64; 2]
         Senseless::NoResource => [4, 0],
         Senseless::NoComponent => [5, 0],
         Senseless::TooWide => [7, 0],
+        Senseless::NoEvents => [8, 0],
     }
 }
 

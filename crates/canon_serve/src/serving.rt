@@ -45,11 +45,16 @@ pub fn serve<E: Channel + Drop, H: Channel + Drop, P: Channel>(
         Ok(command) => command,
         Err(why) => return unheard(why),
     };
-    let Command::Begin { watches_all, json } = command else {
+    let Command::Begin {
+        watches_all,
+        keeps_events,
+        json,
+    } = command
+    else {
         let answer = Answer::Senseless(Senseless::NoCommand);
         return end_with(alloc, caller, &answer, End::NoComponent);
     };
-    let mut store = match store_of(alloc, engine, host, watches_all, &json) {
+    let mut store = match store_of(alloc, engine, host, watches_all, keeps_events, &json) {
         Ok(store) => store,
         Err(why) => return end_unbegun(alloc, caller, why),
     };

@@ -5,25 +5,29 @@ ghost use Rattle.canon_types.specs.Table.{types_of};
 ghost use Rattle.canon_func.specs.Stores.{IsOwned, type_of};
 ghost use Rattle.canon_context.specs.Core.{component_types};
 ghost use Rattle.canon_relay.specs.Wire.{number_bytes};
-ghost use Rattle.canon_serve.specs.Carries.{AnswersCall, AnswersShort, ByNumbers, CalledAt, CalledBy, CallsExport, CallsShort, CarriesOutCommand, HasExport, IsDone, IsReadParams, IsSenseless, NumberedShort, TellsCall, are_listed, export_named, mark_byte, results_tuple_shape, session, without_marks};
+ghost use Rattle.canon_events.specs.Bytes.{events_bytes};
+ghost use Rattle.canon_events.specs.Guest.{journal_kept};
+ghost use Rattle.canon_serve.specs.Carries.{AnswersCall, AnswersShort, ByNumbers, CalledAt, CalledBy, CallsExport, CallsShort, CarriesOutCommand, HasExport, IsDone, IsReadParams, IsSenseless, NumberedShort, TellsCall, TellsEvents, are_listed, export_named, mark_byte, results_tuple_shape, session, without_marks};
 
 use crate::answer::{Answer, Senseless};
 use crate::command::Command;
 use crate::images::{image_values, read_numbered_values};
 use crate::imports::ChannelImports;
 use crate::resources::{drop_listed, new_resource};
+use canon_events::{MaybeJournaled, put_events};
 use canon_func::{Error, Func, Store};
 use canon_image::ImageError;
 use canon_literals::{are_known, with_resources};
-use canon_memory::{AnswerMark, Watched};
+use canon_memory::{AnswerMark, Event, Watched};
 use canon_relay::{Channel, Relay, put_number};
 use canon_resources::ResourceAny;
 use canon_types::{ExportIndex, OutOfMemory};
 use canon_value::Val;
 use std::alloc::Global;
 
-/// A store whose code runs in an engine, whose imports are served over a channel, and each of whose answers of `realloc` is tested.
-pub type EngineStore<E, H> = Store<H, Watched<Relay<E>>, ChannelImports>;
+/// A store whose code runs in an engine, whose events may be kept, whose imports are served over a channel, and each of whose answers
+/// of `realloc` is tested.
+pub type EngineStore<E, H> = Store<H, Watched<MaybeJournaled<Relay<E>>>, ChannelImports>;
 
 /// Carries out a command. A number of a resource is its place in the list, at whose end those are added that are made or answered.
 pub fn carry_out<E: Channel, H: Channel>(
@@ -41,6 +45,7 @@ pub fn carry_out<E: Channel, H: Channel>(
         Command::Marks => marks(alloc, store),
         Command::Drop { number } => Ok(drop_listed(alloc, store, list, *number)),
         Command::New { ty, rep } => new_resource(alloc, store, list, *ty, *rep),
+        Command::Events => events(alloc, store),
         _ => Ok(Answer::Senseless(Senseless::NoCommand)),
     }
 }
@@ -257,4 +262,30 @@ fn mark_byte(mark: AnswerMark) -> u8
     let lawful = if mark.lawful { 1 } else { 0 };
     let tidy = if mark.tidy { 2 } else { 0 };
     lawful + tidy
+}
+
+/// The events since the last time, which are forgotten then.
+fn events<E: Channel, H: Channel>(
+    alloc: Global,
+    store: &mut EngineStore<E, H>,
+) -> Result<Answer, OutOfMemory>
+    ensures told { IfOk result (λ answer. TellsEvents E.log (journal_kept store.old.core.guest.guest) store.old store.new answer) }
+    ensures short { OnErr result (store.new ≡ store.old) }
+{
+    let guest = store.core_mut().guest_mut().guest_mut();
+    let Some(events) = guest.journal() else {
+        return Ok(Answer::Senseless(Senseless::NoEvents));
+    };
+    let bytes = event_bytes(alloc, events)?;
+    guest.clear_journal();
+    Ok(Answer::Done(bytes))
+}
+
+/// The bytes of events.
+fn event_bytes(alloc: Global, events: &[Event]) -> Result<Vec<u8>, OutOfMemory>
+    ensures { IfOk result (λ bytes. bytes.items ≡ events_bytes events.now) }
+{
+    let mut bytes = Vec::new(alloc);
+    put_events(&mut bytes, events)?;
+    Ok(bytes)
 }
