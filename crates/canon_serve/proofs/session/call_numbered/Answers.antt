@@ -1,9 +1,9 @@
-use Rattle.std.proofs.Common.{ap, inl, length, map, refl, rules, subst, ◌∙◌, ◌≡◌}
+use Rattle.std.proofs.Common.{ap, length, rules, subst, ◌∙◌, ◌≡◌}
 use Rattle.std.specs.Prelude.{IfSome}
 use Rattle.canon_func.specs.Stores.{type_of}
-use Rattle.canon_literals.specs.Literals.{all_known, held_among, listed_resource, literals_view, replaced}
+use Rattle.canon_literals.specs.Literals.{all_known, held_among, literals_view}
 use Rattle.canon_serve.specs.Carries.{AnswersCall, AreLooked, session}
-use Rattle.canon_serve.proofs.Calling.{done_with, map_if_ok, map_on_err, numbered_call, on_any_err, unknown_by}
+use Rattle.canon_serve.proofs.Calling.{done_with, map_if_ok, map_on_err, numbered_call, unknown_by}
 use Rattle.canon_serve.proofs.session.call_numbered.Goals as goal
 
 pub returns-clause-called : goal.returns-clause-called

@@ -1,4 +1,4 @@
-use Rattle.std.proofs.Common.{Err, List, Ok, ap, arith, inr, length, subst, sym, ◌∙◌, ◌≡◌}
+use Rattle.std.proofs.Common.{List, Ok, ap, arith, inr, length, subst, sym, ◌∙◌, ◌≡◌}
 use Rattle.std.specs.Prelude.{IfSome}
 use Rattle.canon_types.specs.Table.{types_of}
 use Rattle.canon_context.specs.Core.{component_types}
