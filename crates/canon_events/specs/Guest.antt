@@ -2,7 +2,7 @@
 use Rattle.std.specs.Prelude.{Bool, List, None, Option, Some, [], false, true, ◌++◌}
 use Rattle.std.proofs.Common.{refl, ◌∙◌}
 use Rattle.canon_memory.specs.declared.event.Event.{Event}
-use Rattle.canon_memory.specs.Guest.{GuestIn, JournaledMoves, Recorded, Seen, of_guest}
+use Rattle.canon_memory.specs.Guest.{GuestIn, JournaledMoves, Seen, of_guest}
 use Rattle.canon_events.specs.declared.guest.MaybeJournaled.{MaybeJournaled}
 use Rattle.canon_events.specs.declared.guest.MaybeJournaled.TheVariants as maybe
 
