@@ -80,7 +80,7 @@ abbrev pub begun_store : {E H : Type 0} → H → Relaying E → Bool → Bool �
 begun_store host relay watches_all keeps_events memory component play = record {
   core = record {
     id = 0;
-    state = host;
+    state = record { channel = host; list = [] };
     guest = record { guest = maybe_journaled relay keeps_events; whole = watches_all; held = []; live = []; marks = []; shortages = 0 };
     memory = memory.bytes;
     wide = memory.wide;

@@ -14,7 +14,6 @@ use Rattle.canon_resources.specs.Held.{Any, any, host_index, table_handle}
 use Rattle.canon_ledger.specs.Index.{GivenIndex}
 use Rattle.canon_ledger.specs.Ledger.{Did, given, host_resource_lower_own}
 use Rattle.canon_ledger.specs.declared.fault.ResourceFault.{ResourceFault}
-use Rattle.canon_literals.specs.Literals.{all_known, held_among, listed_resource, literals_view, replaced}
 use Rattle.canon_memory.specs.Guest.{GuestIn, Mark, Seen}
 use Rattle.canon_memory.specs.Watch.{WatchedMoves, Watching, watched_seen}
 use Rattle.canon_memory.specs.declared.event.Event.{Event}
@@ -37,7 +36,8 @@ use Rattle.canon_func.specs.declared.error.Error.{Error}
 use Rattle.canon_func.specs.declared.error.Error.TheVariants as error
 use Rattle.canon_val.specs.declared.val.Val.{Val}
 use Rattle.canon_val.specs.declared.val.Val.TheVariants as val
-use Rattle.canon_serve.specs.Imports.{AnyAnswer}
+use Rattle.canon_serve.specs.Asks.{Hosting, serves_imports}
+use Rattle.canon_serve.specs.Images.{AreLooked, are_listed}
 use Rattle.canon_serve.specs.declared.answer.Answer.{Answer}
 use Rattle.canon_serve.specs.declared.answer.Answer.TheVariants as answer
 use Rattle.canon_serve.specs.declared.answer.Senseless.TheVariants as senseless
@@ -48,10 +48,10 @@ use Rattle.canon_serve.specs.declared.imports.ChannelImports.{ChannelImports}
 -- ---- a store whose code runs in an engine behind a channel, whose events may be kept, and whose answers of `realloc` are tested
 
 abbrev pub EngineStore : Type 0 → Type 0 → Type 0
-EngineStore E H = StoreView H (Watching (MaybeJournaled (Relaying E))) ChannelImports
+EngineStore E H = StoreView (Hosting H) (Watching (MaybeJournaled (Relaying E))) ChannelImports
 
 abbrev pub EngineParts : Type 0 → Type 0 → Type 0
-EngineParts E H = Parts H (Watching (MaybeJournaled (Relaying E)))
+EngineParts E H = Parts (Hosting H) (Watching (MaybeJournaled (Relaying E)))
 
 abbrev pub engine_seen : {E : Type 0} → Watching (MaybeJournaled (Relaying E)) → Seen
 engine_seen w = watched_seen (λ g. maybe_seen relay_seen g) w
@@ -67,6 +67,22 @@ pub record EngineSession (E H : Type 0) : Type 0 where
 
 abbrev pub session : {E H : Type 0} → EngineStore E H → List Any → EngineSession E H
 session store list = record { store = store; list = list }
+
+abbrev pub with_list_in : {E H : Type 0} → EngineStore E H → List Any → EngineStore E H
+with_list_in store list = record store { core = record store.core { state = record store.core.state { list = list } } }
+
+-- its store while a call lasts: the list stands in the data, where functions of the host reach it
+abbrev pub lent_store : {E H : Type 0} → EngineSession E H → EngineStore E H
+lent_store s = with_list_in s.store s.list
+
+-- ---- what the channels expose of the messages that passed: those to the engine, and to the functions of the host
+
+pub record Logs (E H : Type 0) : Type 0 where
+  pub engine : E → Option (List Message)
+  pub host : H → Option (List Message)
+
+abbrev pub both_logs : {E H : Type 0} → (E → Option (List Message)) → (H → Option (List Message)) → Logs E H
+both_logs engine host = record { engine = engine; host = host }
 
 -- ---- marks
 
@@ -91,14 +107,6 @@ IsSenseless (image.Truncated place) a = a ≡ answer.Senseless (senseless.NoImag
 IsSenseless (image.Malformed place) a = a ≡ answer.Senseless (senseless.NoImage place)
 IsSenseless (image.Trailing place) a = a ≡ answer.Senseless (senseless.NoImage place)
 IsSenseless e a = ⊥
-
--- these are the values that were read, with the resource of the list in the place of each number
-abbrev pub AreLooked : List Any → List Val → List Val → Type 0
-AreLooked list given params = literals_view params ≡ map (replaced (listed_resource list)) (literals_view given)
-
--- each number in them is one of the list
-abbrev pub are_listed : List Any → List Val → Bool
-are_listed list given = all_known (length list) (held_among (literals_view given))
 
 -- ---- a new resource
 
@@ -126,21 +134,29 @@ TellsDrop (Ok x) (answer.Done bytes) = bytes.items ≡ []
 TellsDrop (Err e) (answer.Refused refusal) = refusal ≡ e
 TellsDrop result a = ⊥
 
-module _ {E H : Type 0} (log : E → Option (List Message)) where
+module _ {E H : Type 0} (logs : Logs E H) where
   -- A function was called with these parameters and so many slots for results, which it left so: refused before the guest was entered,
   -- which leaves the store as it was, or called.
-  pub record CallsExport (f : Named) (params : List Val) (slots : ℕ) (store store2 : EngineStore E H) (result : Result (Unit {0}) Error) (results : List Val) : Type 0 where
+  pub record CallsIn (f : Named) (params : List Val) (slots : ℕ) (store store2 : EngineStore E H) (result : Result (Unit {0}) Error) (results : List Val) : Type 0 where
     pub refused : refused_by result ≡ call_refusal (callee_of store f) (length params) slots store.trapped
     pub unchanged : IfSome (refused_by result) (λ e. store2 ≡ store)
     pub call : IsNone (refused_by result) → Adding (moment_of engine_seen store.core) (moment_of engine_seen store2.core)
-        (λ events. OnAnswered result (EngineMoves log (guest_of store.core) events (guest_of store2.core)))
-        (λ events. IsCall (LivesUntil engine_seen (EngineMoves log) (guest_of store.core) (guest_of store2.core) result) (λ before after. Unit {0}) AnyAnswer
+        (λ events. OnAnswered result (EngineMoves logs.engine (guest_of store.core) events (guest_of store2.core)))
+        (λ events. IsCall (LivesUntil engine_seen (EngineMoves logs.engine) (guest_of store.core) (guest_of store2.core) result) (λ before after. Unit {0}) (serves_imports logs.host)
         (callee_of store f) (allowed store.core.fuel store.turns) params (moment_of engine_seen store.core) (moment_of engine_seen store2.core)
         (host_side store.core None store.imports.refusals) (host_side store2.core None store2.imports.refusals) result results events)
     pub trapped : IsNone (refused_by result) → OnErr result (store2.trapped ≡ true)
     pub runs : OnOk result (store2.trapped ≡ store.trapped)
     pub same : SameButHost store.core store2.core
     pub turns : store2.turns ≡ store.turns
+
+  -- The same of a session, whose list stood in the store's data meanwhile: what functions of the host were handed is at its end.
+  abbrev pub CallsExport : Named → List Val → ℕ → EngineSession E H → EngineSession E H → Result (Unit {0}) Error → List Val → Type 0
+  CallsExport f params slots s s2 result results = CallsIn f params slots (lent_store s) (lent_store s2) result results × (s2.store.core.state.list ≡ s.store.core.state.list)
+
+  -- it answered Ok, and then the list alone may have changed
+  abbrev pub CallsOk : Named → List Val → ℕ → EngineSession E H → EngineSession E H → Type 0
+  CallsOk f params slots s s2 = (results : List Val) × (left : EngineSession E H) × CallsExport f params slots s left (Ok tt) results × (s2.store ≡ left.store)
 
   -- the shapes of the tuples of a function's parameters and results
   abbrev pub params_tuple_shape : EngineStore E H → TypeFunc → Shape
@@ -160,8 +176,10 @@ module _ {E H : Type 0} (log : E → Option (List Message)) where
     pub slots_are : slots ≡ length (types_of (component_types s.store.core) t.results)
     pub result : Result (Unit {0}) Error
     pub results : List Val
-    pub called : CallsExport f params slots s.store s2.store result results
-    pub told : TellsCall (results_tuple_shape s.store t) result results s.list s2.list a
+    pub left : EngineSession E H
+    pub called : CallsExport f params slots s left result results
+    pub told : TellsCall (results_tuple_shape s.store t) result results left.list s2.list a
+    pub rest : s2.store ≡ left.store
 
   -- nothing was done, and this was answered
   abbrev pub OnlyAnswers : EngineSession E H → EngineSession E H → Answer → Answer → Type 0
@@ -221,7 +239,7 @@ module _ {E H : Type 0} (log : E → Option (List Message)) where
   pub record DropsHandle (x : Any) (store store2 : EngineStore E H) (result : Result (Unit {0}) Error) : Type 0 where
     pub no_handle : IfNone (host_index x.handle) ((result ≡ Ok tt) × (store2 ≡ store))
     pub refused : IfSome (host_index x.handle) (λ i. IfSome (drop_refusal store.core.ledger store.trapped i) (λ e. (result ≡ Err e) × (store2 ≡ store)))
-    pub drops : IfSome (host_index x.handle) (λ i. IfNone (drop_refusal store.core.ledger store.trapped i) (IsDrop engine_seen (EngineMoves log) (λ m n. Unit {0}) i store store2 result))
+    pub drops : IfSome (host_index x.handle) (λ i. IfNone (drop_refusal store.core.ledger store.trapped i) (IsDrop engine_seen (EngineMoves logs.engine) (λ m n. Unit {0}) i store store2 result))
     pub same : SameButHandles store.core store2.core
     pub turns : store2.turns ≡ store.turns
     pub imports : store2.imports ≡ store.imports
@@ -263,14 +281,13 @@ module _ {E H : Type 0} (log : E → Option (List Message)) where
     pub given : Vec Val Global
     pub slots : ℕ
     pub params : List Val
-    pub results : List Val
     pub read : IfSome (type_of s.store f) (λ t. IsReadParams s.store t bytes (Ok (given, slots)))
     pub looked : AreLooked s.list given.items params
-    pub called : CallsExport f params slots s.store s2.store (Ok tt) results
+    pub called : CallsOk f params slots s s2
 
   -- what a call with parameters in which numbers stand for resources did for whose answer memory ran out
   abbrev pub NumberedShort : Named → List Val → ℕ → EngineSession E H → EngineSession E H → Type 0
-  NumberedShort f given slots s s2 = (s2 ≡ s) ⊎ ((params results : List Val) × AreLooked s.list given params × CallsExport f params slots s.store s2.store (Ok tt) results)
+  NumberedShort f given slots s s2 = (s2 ≡ s) ⊎ ((params : List Val) × AreLooked s.list given params × CallsOk f params slots s s2)
 
   -- what a call did for whose answer memory ran out: nothing, or it is that for the image of its results
   abbrev pub CallsShort : Named → List ℕ → EngineSession E H → EngineSession E H → Type 0

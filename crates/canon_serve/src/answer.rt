@@ -112,7 +112,7 @@ pub(crate) fn tell_answer<P: Channel>(alloc: Global, caller: &mut P, answer: &An
 }
 
 /// Tells the numbers of an answer and its bytes.
-fn tell_both<P: Channel>(caller: &mut P, head: &[u8], bytes: &[u8]) -> bool
+pub(crate) fn tell_both<P: Channel>(caller: &mut P, head: &[u8], bytes: &[u8]) -> bool
     ensures told { IsTrue result → AddsMessages (P.log caller.old) (P.log caller.new) (told head.now ∷ told_bytes bytes.now) }
     ensures cut { IsFalse result → PassesMessages (P.log caller.old) (P.log caller.new) (IsStrictPrefix (told head.now ∷ told_bytes bytes.now)) }
 {

@@ -8,6 +8,7 @@ ghost use Rattle.canon_context.specs.Component.{IsComponent};
 ghost use Rattle.canon_script.specs.Script.{IsWellFormed, Play, play_of};
 ghost use Rattle.canon_serve.specs.Begins.{HasComponent, HasNoComponent, HasPlay, IsBegun, IsInstantiated, IsServedComponent, IsTree, asked_options, served_options};
 
+use crate::hosting::HostState;
 use crate::imports::ChannelImports;
 use crate::session::EngineStore;
 use canon_events::MaybeJournaled;
@@ -81,6 +82,7 @@ pub(crate) fn store_of<E: Channel + Drop, H: Channel + Drop>(
     let guest = MaybeJournaled::new(alloc, relay, keeps_events);
     let guest = watched(alloc, guest, watches_all);
     let id = StoreId::from_u64(STORE);
+    let host = HostState::new(alloc, host);
     let Ok(core) = Core::new(alloc, id, host, guest, memory, component, handles, fuel) else {
         return Err(NoStore::OutOfMemory);
     };

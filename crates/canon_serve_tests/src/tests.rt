@@ -520,6 +520,75 @@ fn a_resource_that_is_gone_is_refused(rt: HostRuntime) {
     assert!(rt; gone(rt.alloc()) == Some(End::Asked));
 }
 
+/// Export 0 goes from an own handle of a resource of the host to one, and so does import 0. Import 1 takes a borrow.
+const HANDED: &str =
+    r#"{"memory": 64, "heap": 0, "turns": 2, "handles": 8, "resources": [{"kind": "dynamic", "id": 3}],
+ "types": [{"own": 0}, {"borrow": 0}], "funcs": [{"params": [0], "results": [0]}],
+ "imports": [{"params": [0], "results": [0], "answers": []}, {"params": [1], "results": [], "answers": []}]}"#;
+
+/// The engine is asked for export 0 with handle 1, lends it to import 1, and gives it to import 0.
+const HANDED_OVER: [Line; 6] = [
+    Line::Told(&[0, 0, 0, 0, 0, 64, 1, 1]),
+    LENT,
+    Line::Replies([1, 1, 0, 1, 1]),
+    Line::Told(&[1, 0, 0, 0, 0, 64, 0]),
+    LENT,
+    Line::Replies([1, 0, 0, 1, 1]),
+];
+
+/// The function of the host is lent the resource as number 1, and given it as number 2.
+const NUMBERED: [Line; 5] = [
+    Line::Told(&[6, 1, 4]),
+    Line::ToldBytes(&[1, 0, 0, 0]),
+    Line::Says(&[0, 0]),
+    Line::Told(&[6, 0, 4]),
+    Line::ToldBytes(&[2, 0, 0, 0]),
+];
+
+/// A resource is lent to a function of the host and given to another, which gives it back, and then to the caller as number 3, who drops it.
+fn handed_over(alloc: Global) -> Option<End> {
+    let back = [
+        Line::Told(&[1, 0, 0, 0, 0, 64, 1, 1]),
+        LENT,
+        Line::Replies([0, 0, 0, 1, 1]),
+    ];
+    let engine = joined(alloc, &HANDED_OVER, &back)?;
+    let answer = [Line::Says(&[0, 4]), Line::SaysBytes(&[2, 0, 0, 0])];
+    let host = joined(alloc, &NUMBERED, &answer)?;
+    let called = joined(
+        alloc,
+        &call_with(0, &[0, 0, 0, 0]),
+        &[
+            Line::Answer([7, 0, 0, 0, 0, 0, 0, 4]),
+            Line::ToldBytes(&[3, 0, 0, 0]),
+        ],
+    )?;
+    let dropped = joined(alloc, &[Line::Command([5, 3, 0, 0]), DONE], &living(ZERO))?;
+    let caller = joined(alloc, &new_number(ZERO), &called)?;
+    let caller = joined(alloc, &caller, &living(ONE))?;
+    let caller = joined(alloc, &caller, &dropped)?;
+    play_in(alloc, HANDED, &engine, &host, &caller)
+}
+
+/// The function of the host gives a number that the session has not, which is refused.
+fn handed_unknown(alloc: Global) -> Option<End> {
+    let answer = [Line::Says(&[0, 4]), Line::SaysBytes(&[3, 0, 0, 0])];
+    let host = joined(alloc, &NUMBERED, &answer)?;
+    let refused = joined(
+        alloc,
+        &call_with(0, &[0, 0, 0, 0]),
+        &[Line::Answer([7, 1, 7, 0, 0, 0, 0, 0])],
+    )?;
+    let caller = joined(alloc, &new_number(ZERO), &refused)?;
+    play_in(alloc, HANDED, &HANDED_OVER, &host, &caller)
+}
+
+#[test]
+fn a_function_of_the_host_takes_and_gives_resources(rt: HostRuntime) {
+    assert!(rt; handed_over(rt.alloc()) == Some(End::Asked));
+    assert!(rt; handed_unknown(rt.alloc()) == Some(End::Asked));
+}
+
 /// Export 0 goes from a number to a number, and import 0 too. Memory is empty, so that events have no bytes of it.
 const EMPTY: &str =
     r#"{"memory": 0, "heap": 0, "turns": 2, "funcs": [{"params": ["u32"], "results": ["u32"]}],
