@@ -258,33 +258,36 @@ module _ {E H : Type 0} (log : E → Option (List Message)) where
 
   -- ---- want of memory
 
-  -- The function was called with the parameters of an image, and answered Ok.
+  -- The function, which has a type, was called with the parameters of an image, each of whose numbers is one of the list, and answered Ok.
   pub record IsDoneCall (f : Named) (bytes : List ℕ) (s s2 : EngineSession E H) : Type 0 where
+    pub type : TypeFunc
+    pub typed : type_of s.store f ≡ Some type
     pub given : Vec Val Global
     pub slots : ℕ
     pub params : List Val
     pub results : List Val
-    pub read : IfSome (type_of s.store f) (λ t. IsReadParams s.store t bytes (Ok (given, slots)))
+    pub read : IsReadParams s.store type bytes (Ok (given, slots))
+    pub known : are_listed s.list given.items ≡ true
     pub looked : AreLooked s.list given.items params
     pub called : CallsExport f params slots s.store s2.store (Ok tt) results
 
   -- what a call with parameters in which numbers stand for resources did for whose answer memory ran out
   abbrev pub NumberedShort : Named → List Val → ℕ → EngineSession E H → EngineSession E H → Type 0
-  NumberedShort f given slots s s2 = (s2 ≡ s) ⊎ ((params results : List Val) × AreLooked s.list given params × CallsExport f params slots s.store s2.store (Ok tt) results)
+  NumberedShort f given slots s s2 = (s2 ≡ s) ⊎ ((params results : List Val) × (are_listed s.list given ≡ true) × AreLooked s.list given params × CallsExport f params slots s.store s2.store (Ok tt) results)
 
   -- what a call did for whose answer memory ran out: nothing, or it is that for the image of its results
   abbrev pub CallsShort : Named → List ℕ → EngineSession E H → EngineSession E H → Type 0
   CallsShort f bytes s s2 = (s2 ≡ s) ⊎ IsDoneCall f bytes s s2
 
-  -- the same of a new resource: nothing, or its handle has no place in the list
-  abbrev pub NewShort : ℕ → EngineSession E H → EngineSession E H → Type 0
-  NewShort rep s s2 = (s2 ≡ s) ⊎ (((index : GivenIndex) × InsertsHandle rep s.store s2.store (Ok index)) × (s2.list ≡ s.list))
+  -- the same of a new resource, whose type and representation have no more than 32 bits: nothing, or its handle has no place in the list
+  abbrev pub NewShort : ℕ → ℕ → EngineSession E H → EngineSession E H → Type 0
+  NewShort ty rep s s2 = (s2 ≡ s) ⊎ (AreNarrowOperands ty rep × ((index : GivenIndex) × InsertsHandle rep s.store s2.store (Ok index)) × (s2.list ≡ s.list))
 
   -- what a command did for whose answer memory ran out
   abbrev pub AnswersShort : Command → EngineSession E H → EngineSession E H → Type 0
   AnswersShort (command.Call export params) s s2 = CallsShort (export_named s.store export) params.items s s2
   AnswersShort command.Live s s2 = s2 ≡ s
   AnswersShort command.Marks s s2 = s2 ≡ s
-  AnswersShort (command.New ty rep) s s2 = NewShort rep s s2
+  AnswersShort (command.New ty rep) s s2 = NewShort ty rep s s2
   AnswersShort command.Events s s2 = s2 ≡ s
   AnswersShort asked s s2 = ⊥

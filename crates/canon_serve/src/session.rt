@@ -92,7 +92,8 @@ fn call_func<E: Channel, H: Channel>(
     func: &Func,
     params: &[u8],
 ) -> Result<Answer, OutOfMemory>
-    requires { IsOwned store.old func.now }
+    requires owned { IsOwned store.old func.now }
+    requires typed { IsSome (type_of store.old func.now) }
     ensures called { IfOk result (λ answer. IfSome (type_of store.old func.now) (λ t. CalledBy E.log func.now t params.now (session store.old list.old.items) (session store.new list.new.items) answer)) }
     ensures short { OnErr result (CallsShort E.log func.now params.now (session store.old list.old.items) (session store.new list.new.items)) }
 {
