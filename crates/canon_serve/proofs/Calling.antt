@@ -83,17 +83,22 @@ module _ {E H : Type 0} (log : E → Option (List Message)) (f : Named) (s s2 : 
 
 -- a call that answered Ok, by the bytes of its parameters
 module _ {E H : Type 0} (log : E → Option (List Message)) (f : Named) (s s2 : EngineSession E H) where
-  pub done_call : (bytes : List ℕ) (given : Vec Val Global) (n : ℕ) (gs : List Val) → gs ≡ given.items → IfSome (type_of s.store f) (λ t. IsReadParams log s.store t bytes (Ok (given, n)))
-      → NumberedShort log f gs n s s2 → CallsShort log f bytes s s2
-  done_call bytes given n gs is read (inl same) = inl same
-  done_call bytes given n gs is read (inr (params, results, looked, called)) =
-      inr (record { given = given; slots = n; params = params; results = results; read = read; looked = subst (λ qs. AreLooked s.list qs params) is looked; called = called })
+  typed_call : (bytes : List ℕ) (given : Vec Val Global) (n : ℕ) (o : Option TypeFunc) → type_of s.store f ≡ o → IsSome o → IfSome o (λ t. IsReadParams log s.store t bytes (Ok (given, n)))
+      → NumberedShort log f given.items n s s2 → CallsShort log f bytes s s2
+  typed_call bytes given n o typed some read (inl same) = inl same
+  typed_call bytes given n None typed some read (inr done) = absurd (false≢true some)
+  typed_call bytes given n (Some t) typed some read (inr (params, results, known, looked, called)) =
+      inr (record { type = t; typed = typed; given = given; slots = n; params = params; results = results; read = read; known = known; looked = looked; called = called })
+
+  pub done_call : (bytes : List ℕ) (given : Vec Val Global) (n : ℕ) (gs : List Val) → gs ≡ given.items → IsSome (type_of s.store f)
+      → IfSome (type_of s.store f) (λ t. IsReadParams log s.store t bytes (Ok (given, n))) → NumberedShort log f gs n s s2 → CallsShort log f bytes s s2
+  done_call bytes given n gs is some read short = typed_call bytes given n (type_of s.store f) refl some read (subst (λ qs. NumberedShort log f qs n s s2) is short)
 
   -- with its parameters
-  pub done_with : (given params : List Val) (ps : List Val) (n : ℕ) → ps ≡ params → AreLooked s.list given params → (s2 ≡ s) ⊎ ((results : List Val) × CallsExport log f ps n s.store s2.store (Ok tt) results)
+  pub done_with : (given params : List Val) (ps : List Val) (n : ℕ) (known : Bool) → known ≡ are_listed s.list given → known ≡ true → ps ≡ params → AreLooked s.list given params → (s2 ≡ s) ⊎ ((results : List Val) × CallsExport log f ps n s.store s2.store (Ok tt) results)
       → NumberedShort log f given n s s2
-  done_with given params ps n is looked (inl same) = inl same
-  done_with given params ps n is looked (inr done) = inr (params, done.0, looked, subst (λ qs. CallsExport log f qs n s.store s2.store (Ok tt) done.0) is done.1)
+  done_with given params ps n known all yes is looked (inl same) = inl same
+  done_with given params ps n known all yes is looked (inr done) = inr (params, done.0, sym all ∙ yes, looked, subst (λ qs. CallsExport log f qs n s.store s2.store (Ok tt) done.0) is done.1)
 
 module _ {E H : Type 0} (log : E → Option (List Message)) (f : Named) (s : EngineSession E H) where
   pub senseless_by : (a : Answer) (bytes : List ℕ) (e : ImageError) (o : Option TypeFunc) → IfSome o (λ t. IsReadParams log s.store t bytes (Err e)) → IsSenseless e a → IfSome o (λ t. CalledBy log f t bytes s s a)

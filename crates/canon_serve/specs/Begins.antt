@@ -1,5 +1,5 @@
 -- The store of a component whose code runs in an engine, as it begins.
-use Rattle.std.specs.Prelude.{Bool, IsUtf8, List, None, Option, Some, [], false, if◌then◌else◌, replicate, slice_get, ℕ, ◌+◌, ◌∷◌, ◌≡◌}
+use Rattle.std.specs.Prelude.{Bool, IsUtf8, List, None, Option, Some, [], false, if◌then◌else◌, length, replicate, slice_get, ℕ, ◌+◌, ◌∷◌, ◌≡◌, ◌≤◌}
 use Rattle.serde_json.specs.Data.{Data}
 use Rattle.serde_json.specs.Read.{read}
 use Rattle.canon_abi.specs.declared.options.CanonicalOptions.{CanonicalOptions}
@@ -97,6 +97,7 @@ module _ {E : Type 0} (log : E → Option (List Message)) where
   -- The engine was asked once, over its channel, to put the component's data into memory.
   pub record IsInstantiated (engine : E) (before : Memory) (relay : Relaying E) (after : Memory) : Type 0 where
     pub passed : PassesMessages (log engine) (log relay.channel) (RepliesDone demand.Instantiate [] before.bytes after.bytes)
+    pub longer : length before.bytes ≤ length after.bytes
     pub counts : relay.counts ≡ record { blocks = 0; traps = 0; shortages = 0 }
     pub width : after.wide ≡ before.wide
 

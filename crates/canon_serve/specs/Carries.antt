@@ -137,7 +137,7 @@ TellsDrop result a = ⊥
 module _ {E H : Type 0} (logs : Logs E H) where
   -- A function was called with these parameters and so many slots for results, which it left so: refused before the guest was entered,
   -- which leaves the store as it was, or called.
-  pub record CallsIn (f : Named) (params : List Val) (slots : ℕ) (store store2 : EngineStore E H) (result : Result (Unit {0}) Error) (results : List Val) : Type 0 where
+  pub record CallsStore (f : Named) (params : List Val) (slots : ℕ) (store store2 : EngineStore E H) (result : Result (Unit {0}) Error) (results : List Val) : Type 0 where
     pub refused : refused_by result ≡ call_refusal (callee_of store f) (length params) slots store.trapped
     pub unchanged : IfSome (refused_by result) (λ e. store2 ≡ store)
     pub call : IsNone (refused_by result) → Adding (moment_of engine_seen store.core) (moment_of engine_seen store2.core)
@@ -152,7 +152,7 @@ module _ {E H : Type 0} (logs : Logs E H) where
 
   -- The same of a session, whose list stood in the store's data meanwhile: what functions of the host were handed is at its end.
   abbrev pub CallsExport : Named → List Val → ℕ → EngineSession E H → EngineSession E H → Result (Unit {0}) Error → List Val → Type 0
-  CallsExport f params slots s s2 result results = CallsIn f params slots (lent_store s) (lent_store s2) result results × (s2.store.core.state.list ≡ s.store.core.state.list)
+  CallsExport f params slots s s2 result results = CallsStore f params slots (lent_store s) (lent_store s2) result results × (s2.store.core.state.list ≡ s.store.core.state.list)
 
   -- it answered Ok, and then the list alone may have changed
   abbrev pub CallsOk : Named → List Val → ℕ → EngineSession E H → EngineSession E H → Type 0
@@ -276,32 +276,35 @@ module _ {E H : Type 0} (logs : Logs E H) where
 
   -- ---- want of memory
 
-  -- The function was called with the parameters of an image, and answered Ok.
+  -- The function, which has a type, was called with the parameters of an image, each of whose numbers is one of the list, and answered Ok.
   pub record IsDoneCall (f : Named) (bytes : List ℕ) (s s2 : EngineSession E H) : Type 0 where
+    pub type : TypeFunc
+    pub typed : type_of s.store f ≡ Some type
     pub given : Vec Val Global
     pub slots : ℕ
     pub params : List Val
-    pub read : IfSome (type_of s.store f) (λ t. IsReadParams s.store t bytes (Ok (given, slots)))
+    pub read : IsReadParams s.store type bytes (Ok (given, slots))
+    pub known : are_listed s.list given.items ≡ true
     pub looked : AreLooked s.list given.items params
     pub called : CallsOk f params slots s s2
 
   -- what a call with parameters in which numbers stand for resources did for whose answer memory ran out
   abbrev pub NumberedShort : Named → List Val → ℕ → EngineSession E H → EngineSession E H → Type 0
-  NumberedShort f given slots s s2 = (s2 ≡ s) ⊎ ((params : List Val) × AreLooked s.list given params × CallsOk f params slots s s2)
+  NumberedShort f given slots s s2 = (s2 ≡ s) ⊎ ((params : List Val) × (are_listed s.list given ≡ true) × AreLooked s.list given params × CallsOk f params slots s s2)
 
   -- what a call did for whose answer memory ran out: nothing, or it is that for the image of its results
   abbrev pub CallsShort : Named → List ℕ → EngineSession E H → EngineSession E H → Type 0
   CallsShort f bytes s s2 = (s2 ≡ s) ⊎ IsDoneCall f bytes s s2
 
-  -- the same of a new resource: nothing, or its handle has no place in the list
-  abbrev pub NewShort : ℕ → EngineSession E H → EngineSession E H → Type 0
-  NewShort rep s s2 = (s2 ≡ s) ⊎ (((index : GivenIndex) × InsertsHandle rep s.store s2.store (Ok index)) × (s2.list ≡ s.list))
+  -- the same of a new resource, whose type and representation have no more than 32 bits: nothing, or its handle has no place in the list
+  abbrev pub NewShort : ℕ → ℕ → EngineSession E H → EngineSession E H → Type 0
+  NewShort ty rep s s2 = (s2 ≡ s) ⊎ (AreNarrowOperands ty rep × ((index : GivenIndex) × InsertsHandle rep s.store s2.store (Ok index)) × (s2.list ≡ s.list))
 
   -- what a command did for whose answer memory ran out
   abbrev pub AnswersShort : Command → EngineSession E H → EngineSession E H → Type 0
   AnswersShort (command.Call export params) s s2 = CallsShort (export_named s.store export) params.items s s2
   AnswersShort command.Live s s2 = s2 ≡ s
   AnswersShort command.Marks s s2 = s2 ≡ s
-  AnswersShort (command.New ty rep) s s2 = NewShort rep s s2
+  AnswersShort (command.New ty rep) s s2 = NewShort ty rep s s2
   AnswersShort command.Events s s2 = s2 ≡ s
   AnswersShort asked s s2 = ⊥

@@ -61,7 +61,7 @@ pub(crate) fn new_resource<E: Channel, H: Channel>(
     rep: u64,
 ) -> Result<Answer, OutOfMemory>
     ensures made { IfOk result (λ answer. MakesNew (both_logs E.log H.log) ty rep (session store.old list.old.items) (session store.new list.new.items) answer) }
-    ensures short { OnErr result (NewShort (both_logs E.log H.log) rep (session store.old list.old.items) (session store.new list.new.items)) }
+    ensures short { OnErr result (NewShort (both_logs E.log H.log) ty rep (session store.old list.old.items) (session store.new list.new.items)) }
 {
     if ty > 0xffff_ffff {
         return Ok(Answer::Senseless(Senseless::TooWide));
@@ -81,7 +81,7 @@ fn make_resource<E: Channel, H: Channel>(
     rep: u32,
 ) -> Result<Answer, OutOfMemory>
     ensures made { IfOk result (λ answer. IsMade (both_logs E.log H.log) ty rep (session store.old list.old.items) (session store.new list.new.items) answer) }
-    ensures short { OnErr result (NewShort (both_logs E.log H.log) rep (session store.old list.old.items) (session store.new list.new.items)) }
+    ensures short { OnErr result (NewShort (both_logs E.log H.log) ty rep (session store.old list.old.items) (session store.new list.new.items)) }
 {
     let mut bytes = Vec::new(alloc);
     put_number(&mut bytes, list.len() as u64)?;

@@ -7,7 +7,7 @@ ghost use Rattle.canon_context.specs.Core.{component_types};
 ghost use Rattle.canon_relay.specs.Wire.{number_bytes};
 ghost use Rattle.canon_events.specs.Bytes.{events_bytes};
 ghost use Rattle.canon_events.specs.Guest.{journal_kept};
-ghost use Rattle.canon_serve.specs.Carries.{AnswersCall, AnswersShort, ByNumbers, CalledAt, CalledBy, CallsExport, CallsIn, CallsOk, CallsShort, CarriesOutCommand, HasExport, IsDone, IsReadParams, IsSenseless, NumberedShort, TellsCall, TellsEvents, both_logs, export_named, mark_byte, results_tuple_shape, session, with_list_in, without_marks};
+ghost use Rattle.canon_serve.specs.Carries.{AnswersCall, AnswersShort, ByNumbers, CalledAt, CalledBy, CallsExport, CallsStore, CallsOk, CallsShort, CarriesOutCommand, HasExport, IsDone, IsReadParams, IsSenseless, NumberedShort, TellsCall, TellsEvents, both_logs, export_named, mark_byte, results_tuple_shape, session, with_list_in, without_marks};
 ghost use Rattle.canon_serve.specs.Images.{are_listed};
 
 use crate::answer::{Answer, Senseless};
@@ -94,7 +94,8 @@ fn call_func<E: Channel, H: Channel>(
     func: &Func,
     params: &[u8],
 ) -> Result<Answer, OutOfMemory>
-    requires { IsOwned store.old func.now }
+    requires owned { IsOwned store.old func.now }
+    requires typed { IsSome (type_of store.old func.now) }
     ensures called { IfOk result (λ answer. IfSome (type_of store.old func.now) (λ t. CalledBy (both_logs E.log H.log) func.now t params.now (session store.old list.old.items) (session store.new list.new.items) answer)) }
     ensures short { OnErr result (CallsShort (both_logs E.log H.log) func.now params.now (session store.old list.old.items) (session store.new list.new.items)) }
 {
@@ -212,7 +213,7 @@ fn call_in<E: Channel, H: Channel>(
     results: &mut [Val],
 ) -> Result<(), Error>
     requires { IsOwned store.old func.now }
-    ensures { CallsIn (both_logs E.log H.log) func.now params.now (length results.old) store.old store.new result results.new }
+    ensures { CallsStore (both_logs E.log H.log) func.now params.now (length results.old) store.old store.new result results.new }
 {
     func.call(alloc, store, params, results)
 }

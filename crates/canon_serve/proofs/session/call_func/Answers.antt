@@ -25,7 +25,7 @@ returns-in-Ok-clause-short g c =
     let log = g.E.Channel.log in
     let s = session c.args.store.now c.args.list.now.items in
     let s2 = session c.call_numbered.new.store c.call_numbered.new.list.items in
-    map_on_err _ _ (done_call log c.args.func.now s s2 c.args.params.now c.in-Ok.given c.in-Ok.slots _ c.deref.ensures.value c.in-Ok.ensures.read) _ c.call_numbered.ensures.short
+    map_on_err _ _ (done_call log c.args.func.now s s2 c.args.params.now c.in-Ok.given c.in-Ok.slots _ c.deref.ensures.value c.requires.typed c.in-Ok.ensures.read) _ c.call_numbered.ensures.short
 
 pub returns-in-Err-clause-short : goal.returns-in-Err-clause-short
 returns-in-Err-clause-short g c = on_any_err _ _ (inl refl)

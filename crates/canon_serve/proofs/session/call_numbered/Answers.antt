@@ -27,7 +27,9 @@ returns-clause-short g c =
     let s2 = session c.call_with.new.store c.call_with.new.list.items in
     let given = c.args.given.now in
     let looked = subst (λ l. AreLooked l given c.in_ok-params.params.items) c.deref.ensures.value c.in_ok-params.ensures in
-    map_on_err _ _ (done_with log c.args.func.now s s2 given c.in_ok-params.params.items _ c.args.slots c.deref-2.ensures.value looked) _ c.call_with.ensures.short
+    let count : c.len.result ≡ length c.args.list.now.items = search rules in
+    let known = c.in_ok-known.ensures ∙ ap (λ n. all_known n (held_among (literals_view given))) count in
+    map_on_err _ _ (done_with log c.args.func.now s s2 given c.in_ok-params.params.items _ c.args.slots c.in_ok-known.known known c.if-not-known.false c.deref-2.ensures.value looked) _ c.call_with.ensures.short
 
 pub returns-then-not-known-clause-called : goal.returns-then-not-known-clause-called
 returns-then-not-known-clause-called g c =
