@@ -8,7 +8,7 @@ use Rattle.canon_func.specs.declared.error.Error.TheVariants as error
 use Rattle.canon_relay.specs.Channel.{AddsMessages, Message}
 use Rattle.canon_relay.specs.Relay.{PassesMessages, adds_both, adds_none}
 use Rattle.canon_serve.specs.Begins.{HasComponent, HasNoComponent, IsBegun}
-use Rattle.canon_serve.specs.Carries.{AnswersShort, CarriesOutCommand, EngineSession, EngineStore, session}
+use Rattle.canon_serve.specs.Carries.{AnswersShort, CarriesOutCommand, EngineSession, EngineStore, Logs, session}
 use Rattle.canon_serve.specs.Messages.{HearsCommand, HearsNothing, IsStrictPrefix, answer_messages}
 use Rattle.canon_serve.specs.Sessions.{CommandTurn, CutsCommand, EndsAtOnce, EndsSession, EndsUnbegun, GoesOnAfter, IsFirstAnswer, IsFirstTurn, IsSession, MayRunShort, ServesAll, ServesOne, ServesTurn, ServesTurns, ServesUntil, ToldOrCut, command_messages, one_turn_messages, unheard_end}
 use Rattle.canon_serve.specs.declared.answer.Answer.{Answer}
@@ -42,15 +42,15 @@ goes_on_after (command.New ty rep) not = tt
 goes_on_after command.Events not = tt
 goes_on_after command.Unknown not = tt
 
-module _ {E H : Type 0} (log : E → Option (List Message)) where
-  serves_more : (ts : List CommandTurn) (t : CommandTurn) (s next last : EngineSession E H) → ServesTurns log ts s next → ServesTurn log t next last → ServesTurns log (ts ++ t ∷ []) s last
-  serves_more [] t s next last here served = (last, subst (λ u. ServesTurn log t u last) here served, refl)
+module _ {E H : Type 0} (logs : Logs E H) where
+  serves_more : (ts : List CommandTurn) (t : CommandTurn) (s next last : EngineSession E H) → ServesTurns logs ts s next → ServesTurn logs t next last → ServesTurns logs (ts ++ t ∷ []) s last
+  serves_more [] t s next last here served = (last, subst (λ u. ServesTurn logs t u last) here served, refl)
   serves_more (u ∷ ts) t s next last serves served = (serves.0, serves.1, serves_more ts t serves.0 next last serves.2 served)
 
-  pub serves_none : (a : Option (List Message)) (s : EngineSession E H) → ServesAll log a a s s
+  pub serves_none : (a : Option (List Message)) (s : EngineSession E H) → ServesAll logs a a s s
   serves_none a s = record { turns = []; serves = refl; passed = adds_none a }
 
-  pub serves_next : (a b c : Option (List Message)) (s next last : EngineSession E H) → ServesAll log a b s next → ServesOne log b c next last → ServesAll log a c s last
+  pub serves_next : (a b c : Option (List Message)) (s next last : EngineSession E H) → ServesAll logs a b s next → ServesOne logs b c next last → ServesAll logs a c s last
   serves_next a b c s next last f g = record {
     turns = f.turns ++ g.0 ∷ [];
     serves = serves_more f.turns g.0 s next last f.serves g.1;
@@ -58,8 +58,8 @@ module _ {E H : Type 0} (log : E → Option (List Message)) where
   }
 
   -- a command that was heard was carried out, and its answer told
-  pub served_one : (a b c : Option (List Message)) (s t : EngineSession E H) (asked : Command) (answered : Answer) → GoesOnAfter asked → PassesMessages a b (HearsCommand asked) → CarriesOutCommand log asked s t answered
-      → AddsMessages b c (answer_messages answered) → ServesOne log a c s t
+  pub served_one : (a b c : Option (List Message)) (s t : EngineSession E H) (asked : Command) (answered : Answer) → GoesOnAfter asked → PassesMessages a b (HearsCommand asked) → CarriesOutCommand logs asked s t answered
+      → AddsMessages b c (answer_messages answered) → ServesOne logs a c s t
   served_one a b c s t asked answered goes_on heard carried told = (
     record { asked = asked; heard = heard.0; answered = answered },
     (goes_on, heard.2, carried),
@@ -67,7 +67,7 @@ module _ {E H : Type 0} (log : E → Option (List Message)) where
   )
 
   -- memory ran out for its answer
-  may_run_short : (asked : Command) (s t : EngineSession E H) → AnswersShort log asked s t → MayRunShort asked
+  may_run_short : (asked : Command) (s t : EngineSession E H) → AnswersShort logs asked s t → MayRunShort asked
   may_run_short (command.Call export params) s t h = tt
   may_run_short command.Live s t h = tt
   may_run_short command.Marks s t h = tt
@@ -79,8 +79,8 @@ module _ {E H : Type 0} (log : E → Option (List Message)) where
   may_run_short command.Unknown s t h = absurd h
 
   -- or it wasn't told whole
-  pub cut_command : (a b c : Option (List Message)) (s t : EngineSession E H) (asked : Command) (why : End) → GoesOnAfter asked → PassesMessages a b (HearsCommand asked) → CutsCommand log why asked s t b c
-      → PassesMessages a c (EndsSession log why s)
+  pub cut_command : (a b c : Option (List Message)) (s t : EngineSession E H) (asked : Command) (why : End) → GoesOnAfter asked → PassesMessages a b (HearsCommand asked) → CutsCommand logs why asked s t b c
+      → PassesMessages a c (EndsSession logs why s)
   cut_command a b c s t asked end.Broken goes_on heard cut = (
     heard.0 ++ cut.2.0,
     adds_both a b c heard.0 cut.2.0 heard.1 cut.2.1,
@@ -91,17 +91,17 @@ module _ {E H : Type 0} (log : E → Option (List Message)) where
   cut_command a b c s t asked end.NoComponent goes_on heard cut = absurd cut
   cut_command a b c s t asked end.NotInstantiated goes_on heard cut = absurd cut
 
-  pub cut_ends : (a b c : Option (List Message)) (s t : EngineSession E H) (asked : Command) (r : Option End) → GoesOnAfter asked → PassesMessages a b (HearsCommand asked) → IfSome r (λ why. CutsCommand log why asked s t b c)
-      → IfSome r (λ why. PassesMessages a c (EndsSession log why s))
+  pub cut_ends : (a b c : Option (List Message)) (s t : EngineSession E H) (asked : Command) (r : Option End) → GoesOnAfter asked → PassesMessages a b (HearsCommand asked) → IfSome r (λ why. CutsCommand logs why asked s t b c)
+      → IfSome r (λ why. PassesMessages a c (EndsSession logs why s))
   cut_ends a b c s t asked None goes_on heard cut = cut
   cut_ends a b c s t asked (Some why) goes_on heard cut = cut_command a b c s t asked why goes_on heard cut
 
   -- nothing more was heard
-  pub unheard_last : (a b : Option (List Message)) (s : EngineSession E H) (why : Unheard) (r : End) → r ≡ unheard_end why → PassesMessages a b (HearsNothing why) → PassesMessages a b (EndsSession log r s)
-  unheard_last a b s unheard.Broken r is heard = subst (λ e. PassesMessages a b (EndsSession log e s)) (sym is) (heard.0, heard.1, inl heard.2)
-  unheard_last a b s unheard.OutOfMemory r is heard = subst (λ e. PassesMessages a b (EndsSession log e s)) (sym is) (heard.0, heard.1, inl heard.2)
+  pub unheard_last : (a b : Option (List Message)) (s : EngineSession E H) (why : Unheard) (r : End) → r ≡ unheard_end why → PassesMessages a b (HearsNothing why) → PassesMessages a b (EndsSession logs r s)
+  unheard_last a b s unheard.Broken r is heard = subst (λ e. PassesMessages a b (EndsSession logs e s)) (sym is) (heard.0, heard.1, inl heard.2)
+  unheard_last a b s unheard.OutOfMemory r is heard = subst (λ e. PassesMessages a b (EndsSession logs e s)) (sym is) (heard.0, heard.1, inl heard.2)
 
-  pub serves_until : (a b c : Option (List Message)) (s last : EngineSession E H) (why : End) → ServesAll log a b s last → PassesMessages b c (EndsSession log why last) → ServesUntil log a c s why
+  pub serves_until : (a b c : Option (List Message)) (s last : EngineSession E H) (why : End) → ServesAll logs a b s last → PassesMessages b c (EndsSession logs why last) → ServesUntil logs a c s why
   serves_until a b c s last why f ends = record { last = last; between = b; served = f; ends = ends }
 
 -- ---- the first command
@@ -160,9 +160,9 @@ unbegun a b c all keeps json no_store.OutOfMemory result heard none not ended =
 
 -- ---- a session
 
-module _ {E H : Type 0} (log : E → Option (List Message)) (engine : E) (host : H) where
+module _ {E H : Type 0} (logs : Logs E H) (engine : E) (host : H) where
   pub begun_session : (a b c d : Option (List Message)) (all keeps : Bool) (json empty : Vec ℕ Global) (s : EngineStore E H) (why : End) → PassesMessages a b (HearsCommand (command.Begin all keeps json))
-      → IsBegun log engine host all keeps json.items s → empty.items ≡ [] → AddsMessages b c (answer_messages (answer.Done empty)) → ServesUntil log c d (session s []) why → IsSession log engine host a d why
+      → IsBegun logs.engine engine host all keeps json.items s → empty.items ≡ [] → AddsMessages b c (answer_messages (answer.Done empty)) → ServesUntil logs c d (session s []) why → IsSession logs engine host a d why
   begun_session a b c d all keeps json empty s why heard begun is_empty told served = inl (record {
     store = s;
     between = c;

@@ -107,9 +107,9 @@ borrows_among values = borrows_in (held_among (literals_view values))
 abbrev pub without_borrows : List Val → LedgerState → LedgerState
 without_borrows values l = run_steps (map HostDrop (borrows_among values)) l
 
--- the borrows among its parameters were dropped, unless memory ran out
+-- the borrows among its parameters were dropped, or, where memory ran out, none
 abbrev pub DropsBorrows : Result (List Val) HostStop → List Val → LedgerState → LedgerState → Type 0
-DropsBorrows (Err stop.OutOfMemory) params before after = Unit {0}
+DropsBorrows (Err stop.OutOfMemory) params before after = (after ≡ before) ⊎ (after ≡ without_borrows params before)
 DropsBorrows answer params before after = after ≡ without_borrows params before
 
 -- ---- an ask

@@ -22,7 +22,7 @@ use canon_ledger::{HostResourceIndex, HostResourceTables};
 use canon_literals::{are_known, resources_in, with_resources};
 use canon_relay::{Channel, number_at, put_numbers};
 use canon_resources::{ResourceAny, ResourceAnyHandle};
-use canon_types::{ComponentTypes, OutOfMemory, TypeFunc, TypeTupleIndex};
+use canon_types::{ComponentTypes, InterfaceType, OutOfMemory, TypeFunc, TypeTupleIndex};
 use canon_value::Val;
 use std::alloc::{AllocError, Global};
 
@@ -78,6 +78,7 @@ fn borrows_in(
 fn drop_all(tables: &mut HostResourceTables<'_>, indices: &[HostResourceIndex])
     requires { scope_in tables.old ≡ None }
     ensures ledger { ledger_in tables.new ≡ run_steps (map HostDrop indices.now) (ledger_in tables.old) }
+    ensures steps { HostSteps (ledger_in tables.old) (ledger_in tables.new) }
     ensures reference { reference_in tables.new ≡ reference_in tables.old }
 {
     for index in indices {
@@ -101,12 +102,15 @@ pub(crate) fn exchange<H: Channel>(
     if !tell_both(host, &head, asked) {
         return Err(HostStop::Refused);
     }
-    match hear_status(alloc, host) {
-        Ok((0, bytes)) => Ok(bytes),
-        Ok(_) => Err(HostStop::Refused),
-        Err(Unheard::Broken) => Err(HostStop::Refused),
-        Err(Unheard::OutOfMemory) => Err(HostStop::OutOfMemory),
+    let (status, bytes) = match hear_status(alloc, host) {
+        Ok(heard) => heard,
+        Err(Unheard::Broken) => return Err(HostStop::Refused),
+        Err(Unheard::OutOfMemory) => return Err(HostStop::OutOfMemory),
+    };
+    if status != 0 {
+        return Err(HostStop::Refused);
     }
+    Ok(bytes)
 }
 
 /// The numbers of an ask, spelled.

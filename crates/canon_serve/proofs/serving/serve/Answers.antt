@@ -1,7 +1,7 @@
 use Rattle.std.proofs.Common.{Err, ap, inr, refl, subst}
 use Rattle.canon_relay.specs.Relay.{PassesMessages}
 use Rattle.canon_serve.specs.Begins.{HasComponent, HasNoComponent, IsBegun}
-use Rattle.canon_serve.specs.Carries.{session}
+use Rattle.canon_serve.specs.Carries.{both_logs, session}
 use Rattle.canon_serve.specs.Messages.{HearsCommand}
 use Rattle.canon_serve.specs.Sessions.{ServesUntil}
 use Rattle.canon_serve.specs.declared.answer.Answer.TheVariants as answer
@@ -52,6 +52,6 @@ returns g c =
     let b = told c.hear_command.new.caller in
     let heard = subst (λ k. PassesMessages a b (HearsCommand k)) c.in-Begin.is c.in-Ok.ensures.heard in
     let begun = subst (λ bytes. IsBegun g.E.Channel.log c.args.engine c.args.host all keeps bytes c.in-Ok-store_of.store) c.deref.ensures.value c.in-Ok-store_of.ensures.begun in
-    begun_session g.E.Channel.log c.args.engine c.args.host a b (told c.tell_answer.new.caller) (told c.serve_store.new.caller) all keeps json c.new.result c.in-Ok-store_of.store c.serve_store.result heard begun c.new.ensures.items
+    begun_session (both_logs g.E.Channel.log g.H.Channel.log) c.args.engine c.args.host a b (told c.tell_answer.new.caller) (told c.serve_store.new.caller) all keeps json c.new.result c.in-Ok-store_of.store c.serve_store.result heard begun c.new.ensures.items
     (c.if-not-tell_answer.ensures.told refl)
-    (subst (λ xs. ServesUntil g.E.Channel.log (told c.tell_answer.new.caller) (told c.serve_store.new.caller) (session c.in-Ok-store_of.store xs) c.serve_store.result) c.new-list.ensures.items c.serve_store.ensures)
+    (subst (λ xs. ServesUntil (both_logs g.E.Channel.log g.H.Channel.log) (told c.tell_answer.new.caller) (told c.serve_store.new.caller) (session c.in-Ok-store_of.store xs) c.serve_store.result) c.new-list.ensures.items c.serve_store.ensures)

@@ -2,13 +2,14 @@ use Rattle.std.proofs.Common.{ap, length, rules, subst, ◌∙◌, ◌≡◌}
 use Rattle.std.specs.Prelude.{IfSome}
 use Rattle.canon_func.specs.Stores.{type_of}
 use Rattle.canon_literals.specs.Literals.{all_known, held_among, literals_view}
-use Rattle.canon_serve.specs.Carries.{AnswersCall, AreLooked, session}
+use Rattle.canon_serve.specs.Carries.{AnswersCall, both_logs, session}
+use Rattle.canon_serve.specs.Images.{AreLooked}
 use Rattle.canon_serve.proofs.Calling.{done_with, map_if_ok, map_on_err, numbered_call, unknown_by}
 use Rattle.canon_serve.proofs.session.call_numbered.Goals as goal
 
 pub returns-clause-called : goal.returns-clause-called
 returns-clause-called g c =
-    let log = g.E.Channel.log in
+    let log = both_logs g.E.Channel.log g.H.Channel.log in
     let f = c.args.func.now in
     let store = c.args.store.now in
     let s = session store c.args.list.now.items in
@@ -22,7 +23,7 @@ returns-clause-called g c =
 
 pub returns-clause-short : goal.returns-clause-short
 returns-clause-short g c =
-    let log = g.E.Channel.log in
+    let log = both_logs g.E.Channel.log g.H.Channel.log in
     let s = session c.args.store.now c.args.list.now.items in
     let s2 = session c.call_with.new.store c.call_with.new.list.items in
     let given = c.args.given.now in
@@ -37,4 +38,4 @@ returns-then-not-known-clause-called g c =
     let given = c.args.given.now in
     let count : c.len.result ≡ length c.args.list.now.items = search rules in
     let known = c.in_ok-known.ensures ∙ ap (λ n. all_known n (held_among (literals_view given))) count in
-    unknown_by g.E.Channel.log c.args.func.now (session store c.args.list.now.items) given c.in_ok-known.known (type_of store c.args.func.now) known c.if-not-known.true
+    unknown_by (both_logs g.E.Channel.log g.H.Channel.log) c.args.func.now (session store c.args.list.now.items) given c.in_ok-known.known (type_of store c.args.func.now) known c.if-not-known.true
