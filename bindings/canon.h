@@ -229,8 +229,8 @@ canon_store *canon_store_new(const canon_setup *, canon_why *why);
 /* Calls an export with the image of its parameters. If it answers CANON_OK, `results` is set to the image of the results. */
 canon_status canon_call(canon_store *, uint32_t export_number, const void *params, size_t len, canon_bytes *results, canon_why *why);
 
-/* Resources have numbers, in the order in which they are made and answered, from 0 on: a handle in an image is such a number, of 4 bytes. A number that was given to
- * a function as an own handle, or was dropped, stays one of a resource that is gone. */
+/* Resources have numbers, in the order in which they are made, handed to functions of the host and answered, from 0 on: a handle in an image is such a number, of 4
+ * bytes. A number that was given to a function as an own handle, or was dropped, or was lent to a function of the host, stays one of a resource that is gone. */
 
 /* Makes a resource of the host, of the type of this number and with this representation, and sets `number` to its number. */
 canon_status canon_resource_new(canon_store *, uint32_t type, uint32_t rep, uint32_t *number, canon_why *why);
