@@ -11,7 +11,6 @@ use Rattle.canon_types.specs.declared.types.TypeFunc.{TypeFunc}
 use Rattle.canon_resources.specs.Held.{Any}
 use Rattle.canon_context.specs.Core.{component_types}
 use Rattle.canon_context.specs.declared.component.Component.{Component}
-use Rattle.canon_relay.specs.Channel.{Message}
 use Rattle.canon_func.specs.Stores.{Named, type_in, type_of}
 use Rattle.canon_func.specs.declared.error.Error.{Error}
 use Rattle.canon_val.specs.declared.val.Val.{Val}

@@ -1,18 +1,28 @@
 -- Asks for functions of the host: what passed, and the borrows that are dropped.
-use Rattle.std.proofs.Common.{Err, List, Ok, Option, Result, [], inl, inr, length, map, refl, subst, ◌++◌, ◌∷◌, ◌≡◌, ℕ}
+use Rattle.std.proofs.Common.{Err, List, Ok, Option, Result, Vec, [], false, inl, inr, length, map, refl, subst, true, ◌++◌, ◌∷◌, ◌≡◌, ℕ}
 use Rattle.std.specs.List.{All}
-use Rattle.std.specs.Prelude.{◌≢◌}
+use Rattle.std.specs.Prelude.{OnOk, ◌≢◌}
+use Rattle.std.specs.declared.alloc.Global.{Global}
 use Rattle.std.proofs.lemmas.List.Elements.{All-cons, All-nil}
 use Rattle.canon_context.specs.Host.{HostSteps, IsHostStep}
 use Rattle.canon_context.specs.declared.host.HostStop.{HostStop}
 use Rattle.canon_context.specs.declared.host.HostStop.TheVariants as stop
+use Rattle.canon_host.specs.Forms.{outcome}
+use Rattle.canon_image_parts.specs.Read.{IsNumberedRead}
 use Rattle.canon_ledger.specs.Index.{GivenIndex}
 use Rattle.canon_ledger.specs.Ledger.{HostDrop, LedgerState, run_steps}
+use Rattle.canon_model.specs.Shape.{Shape}
 use Rattle.canon_relay.specs.Channel.{AddsMessages, Message, told}
 use Rattle.canon_relay.specs.Relay.{PassesMessages, adds_both}
 use Rattle.canon_relay.specs.Wire.{numbers_bytes}
+use Rattle.canon_resources.specs.Held.{Any}
+use Rattle.canon_types.specs.Table.{TypeTable, shape_of}
+use Rattle.canon_types.specs.declared.types.InterfaceType.TheVariants as ty
+use Rattle.canon_types.specs.declared.types.TypeFunc.{TypeFunc}
 use Rattle.canon_val.specs.declared.val.Val.{Val}
-use Rattle.canon_serve.specs.Asks.{DropsBorrows, HearsNoStatus, HearsRefusal, HearsStatus, IsRefusedAsk, ThenHears, ask_messages, without_borrows}
+use Rattle.canon_val.specs.declared.val.Val.TheVariants as val
+use Rattle.canon_serve.specs.Asks.{AnswersAsk, AsksHost, DropsBorrows, HearsNoStatus, HearsRefusal, HearsStatus, Hosting, IsRefusedAsk, IsServedAsk, ListsValues, ReadsAnswer, ThenHears, ask_messages, without_borrows}
+use Rattle.canon_serve.specs.Images.{AreLooked, are_listed}
 use Rattle.canon_serve.specs.Messages.{IsStrictPrefix, told_bytes}
 
 -- ---- borrows
@@ -33,10 +43,10 @@ drops_always (Err stop.OutOfMemory) params l l2 is = inr is
 
 module _ (a b c : Option (List Message)) (n : ℕ) (asked : List ℕ) where
   pub then_heard : (P : List Message → Type 0) → AddsMessages a b (ask_messages n asked) → PassesMessages b c P → PassesMessages a c (ThenHears n asked P)
-  then_heard P told h = (ask_messages n asked ++ h.0, adds_both a b c (ask_messages n asked) h.0 told h.1, (h.0, refl, h.2))
+  then_heard P whole h = (ask_messages n asked ++ h.0, adds_both a b c (ask_messages n asked) h.0 whole h.1, (h.0, refl, h.2))
 
   pub refused_then : AddsMessages a b (ask_messages n asked) → PassesMessages b c HearsRefusal → PassesMessages a c (IsRefusedAsk n asked)
-  refused_then told h = let p = then_heard HearsRefusal told h in (p.0, p.1, inr p.2)
+  refused_then whole h = let p = then_heard HearsRefusal whole h in (p.0, p.1, inr p.2)
 
 pub cut_ask : (a b : Option (List Message)) (n : ℕ) (asked : List ℕ) → PassesMessages a b (IsStrictPrefix (ask_messages n asked)) → PassesMessages a b (IsRefusedAsk n asked)
 cut_ask a b n asked h = (h.0, h.1, inl h.2)
@@ -56,3 +66,44 @@ told_ask a b n len head asked is count h = subst (λ k. AddsMessages a b (told (
 pub cut_told : (a b : Option (List Message)) (n len : ℕ) (head asked : List ℕ) → head ≡ numbers_bytes (6 ∷ n ∷ len ∷ []) → len ≡ length asked → PassesMessages a b (IsStrictPrefix (told head ∷ told_bytes asked)) → PassesMessages a b (IsRefusedAsk n asked)
 cut_told a b n len head asked is count h =
     cut_ask a b n asked (subst (λ k. PassesMessages a b (IsStrictPrefix (told (numbers_bytes (6 ∷ n ∷ k ∷ [])) ∷ told_bytes asked))) count (subst (λ xs. PassesMessages a b (IsStrictPrefix (told xs ∷ told_bytes asked))) is h))
+
+-- ---- values
+
+-- what was read and placed
+gave : (s : Shape) (list : List Any) (answered : List ℕ) (given : Vec Val Global) (slots : List Val) (r : Result (Unit {0}) HostStop) → IsNumberedRead s answered (Ok (val.Tuple given))
+    → OnOk r ((are_listed list given.items ≡ true) × AreLooked list given.items slots) → (r ≡ Err stop.Refused → are_listed list given.items ≡ false) → ReadsAnswer s list answered (outcome r slots)
+gave s list answered given slots (Ok x) read placed unknown = (given, read, placed.0, placed.1)
+gave s list answered given slots (Err stop.Refused) read placed unknown = inr (given, read, unknown refl)
+gave s list answered given slots (Err stop.OutOfMemory) read placed unknown = tt
+
+pub gave_row : (s : Shape) (list : List Any) (answered : List ℕ) (given : Vec Val Global) (row slots : List Val) (r : Result (Unit {0}) HostStop) → row ≡ given.items → IsNumberedRead s answered (Ok (val.Tuple given))
+    → OnOk r ((are_listed list row ≡ true) × AreLooked list row slots) → (r ≡ Err stop.Refused → are_listed list row ≡ false) → ReadsAnswer s list answered (outcome r slots)
+gave_row s list answered given row slots r is read placed unknown =
+    gave s list answered given slots r read (subst (λ vs. OnOk r ((are_listed list vs ≡ true) × AreLooked list vs slots)) is placed) (λ e. subst (λ vs. are_listed list vs ≡ false) is (unknown e))
+
+-- ---- an ask
+
+module _ {H : Type 0} (log : H → Option (List Message)) (n : ℕ) (types : TypeTable) (type : TypeFunc) (before : Hosting H) (params : List Val) (channel : H) (list : List Any) (asked : List ℕ)
+    (listed : ListsValues (shape_of types (ty.Tuple type.params)) params before.list list asked) where
+  abbrev after : Hosting H
+  after = record { channel = channel; list = list }
+
+  abbrev results_shape : Shape
+  results_shape = shape_of types (ty.Tuple type.results)
+
+  by_answer : (answered : List ℕ) (answer : Result (List Val) HostStop) → PassesMessages (log before.channel) (log channel) (IsServedAsk n asked answered) → ReadsAnswer results_shape list answered answer
+      → AnswersAsk log n results_shape asked before after answer
+  by_answer answered (Ok results) passed read = (answered, passed, read)
+  by_answer answered (Err stop.Refused) passed read = (passed.0, passed.1, inr (answered, passed.2, read))
+  by_answer answered (Err stop.OutOfMemory) passed read = tt
+
+  pub asks_answered : (answered : List ℕ) (answer : Result (List Val) HostStop) → PassesMessages (log before.channel) (log channel) (IsServedAsk n asked answered) → ReadsAnswer results_shape list answered answer
+      → AsksHost log n types type before params answer after
+  asks_answered answered answer passed read = record { ask = inl (asked, listed, by_answer answered answer passed read) }
+
+  by_stop : (why : HostStop) → (why ≡ stop.Refused → PassesMessages (log before.channel) (log channel) (IsRefusedAsk n asked)) → AnswersAsk log n results_shape asked before after (Err why)
+  by_stop stop.Refused refused = let p = refused refl in (p.0, p.1, inl p.2)
+  by_stop stop.OutOfMemory refused = tt
+
+  pub asks_stopped : (why : HostStop) → (why ≡ stop.Refused → PassesMessages (log before.channel) (log channel) (IsRefusedAsk n asked)) → AsksHost log n types type before params (Err why) after
+  asks_stopped why refused = record { ask = inl (asked, listed, by_stop why refused) }

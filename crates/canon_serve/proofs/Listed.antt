@@ -1,7 +1,6 @@
 -- Resources of a session's list.
 use Rattle.std.proofs.Common.{List, None, Option, Result, Some, refl, subst, sym, ◌≡◌}
 use Rattle.canon_resources.specs.Held.{Any}
-use Rattle.canon_relay.specs.Channel.{Message}
 use Rattle.canon_func.specs.declared.error.Error.{Error}
 use Rattle.canon_serve.specs.Carries.{DropsHandle, DropsListed, EngineStore, Logs, TellsDrop, session}
 use Rattle.canon_serve.specs.declared.answer.Answer.{Answer}

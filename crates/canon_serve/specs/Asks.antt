@@ -123,10 +123,10 @@ module _ {H : Type 0} (log : H → Option (List Message)) where
   AnswersAsk n s asked before after (Err stop.OutOfMemory) = Unit {0}
 
   -- The resources of its parameters were added to the list, and it was answered; or memory ran out before.
-  abbrev pub AsksHost : ℕ → TypeTable → TypeFunc → Hosting H → List Val → Result (List Val) HostStop → Hosting H → Type 0
-  AsksHost n types type before params answer after =
-      ((asked : List ℕ) × ListsValues (shape_of types (ty.Tuple type.params)) params before.list after.list asked × AnswersAsk n (shape_of types (ty.Tuple type.results)) asked before after answer)
-      ⊎ ((answer ≡ Err stop.OutOfMemory) × (after ≡ before))
+  pub record AsksHost (n : ℕ) (types : TypeTable) (type : TypeFunc) (before : Hosting H) (params : List Val) (answer : Result (List Val) HostStop) (after : Hosting H) : Type 0 where
+    pub ask :
+        ((asked : List ℕ) × ListsValues (shape_of types (ty.Tuple type.params)) params before.list after.list asked × AnswersAsk n (shape_of types (ty.Tuple type.results)) asked before after answer)
+        ⊎ ((answer ≡ Err stop.OutOfMemory) × (after ≡ before))
 
   -- what the import of a number may answer
   abbrev pub MayServe : ℕ → ValuesAnswering (Hosting H)

@@ -94,7 +94,7 @@ impl<H: Channel> HostState<H> {
         ensures channel { self.new.channel ≡ self.old.channel }
         ensures same { OnErr result (self.new ≡ self.old) }
     {
-        let mut list = self.list.to_vec(alloc)?;
+        let mut list = Vec::from_slice(alloc, &self.list)?;
         let asked = image_copies(alloc, types, tuple, params, &mut list)?;
         self.list = list;
         Ok(asked)
