@@ -43,20 +43,20 @@ module _ {G : Type 0} (Moves : GuestIn G → List Event → GuestIn G → Type 0
 
   -- ---- one move after another
 
-  abbrev pub Stays : Type 0
-  Stays = (g : GuestIn G) → Moves g [] g
+  abbrev pub MayStay : Type 0
+  MayStay = (g : GuestIn G) → Moves g [] g
 
-  abbrev pub GoesOn : Type 0
-  GoesOn = (g h k : GuestIn G) (xs ys : List Event) → Moves g xs h → Moves h ys k → Moves g (xs ++ ys) k
+  abbrev pub MayGoOn : Type 0
+  MayGoOn = (g h k : GuestIn G) (xs ys : List Event) → Moves g xs h → Moves h ys k → Moves g (xs ++ ys) k
 
-  stays_between : Stays → (m : MaybeJournaled G) (v : GuestIn (MaybeJournaled G)) → MovesBetween m m v [] v
+  stays_between : MayStay → (m : MaybeJournaled G) (v : GuestIn (MaybeJournaled G)) → MovesBetween m m v [] v
   stays_between stays (maybe.Plain g) v = stays (in_same v g)
   stays_between stays (maybe.Kept j) v = record { moves = stays (of_guest (in_same v j)); shortages = refl }
 
-  pub maybe_stays : Stays → (v : GuestIn (MaybeJournaled G)) → MaybeMoves v [] v
+  pub maybe_stays : MayStay → (v : GuestIn (MaybeJournaled G)) → MaybeMoves v [] v
   maybe_stays stays v = stays_between stays v.guest v
 
-  goes_between : GoesOn → (l m n : MaybeJournaled G) (u v w : GuestIn (MaybeJournaled G)) (xs ys : List Event) → MovesBetween l m u xs v → MovesBetween m n v ys w → MovesBetween l n u (xs ++ ys) w
+  goes_between : MayGoOn → (l m n : MaybeJournaled G) (u v w : GuestIn (MaybeJournaled G)) (xs ys : List Event) → MovesBetween l m u xs v → MovesBetween m n v ys w → MovesBetween l n u (xs ++ ys) w
   goes_between goes_on (maybe.Plain f) (maybe.Plain g) (maybe.Plain h) u v w xs ys p q = goes_on (in_same u f) (in_same v g) (in_same w h) xs ys p q
   goes_between goes_on (maybe.Plain f) (maybe.Plain g) (maybe.Kept k) u v w xs ys p q = absurd q
   goes_between goes_on (maybe.Plain f) (maybe.Kept j) n u v w xs ys p q = absurd p
@@ -67,5 +67,5 @@ module _ {G : Type 0} (Moves : GuestIn G → List Event → GuestIn G → Type 0
     shortages = q.shortages ∙ p.shortages;
   }
 
-  pub maybe_goes_on : GoesOn → (u v w : GuestIn (MaybeJournaled G)) (xs ys : List Event) → MaybeMoves u xs v → MaybeMoves v ys w → MaybeMoves u (xs ++ ys) w
+  pub maybe_goes_on : MayGoOn → (u v w : GuestIn (MaybeJournaled G)) (xs ys : List Event) → MaybeMoves u xs v → MaybeMoves v ys w → MaybeMoves u (xs ++ ys) w
   maybe_goes_on goes_on u v w xs ys p q = goes_between goes_on u.guest v.guest w.guest u v w xs ys p q

@@ -15,7 +15,7 @@ use Rattle.canon_func.specs.Stores.{Named, type_in, type_of}
 use Rattle.canon_func.specs.declared.error.Error.{Error}
 use Rattle.canon_val.specs.declared.val.Val.{Val}
 use Rattle.canon_val.specs.declared.val.Val.TheVariants as val
-use Rattle.canon_serve.specs.Carries.{AnswersCall, ByNumbers, CalledBy, CalledOf, CallsExport, CallsOk, CallsShort, CallsStore, EngineParts, EngineSession, EngineStore, IsReadParams, IsSenseless, Logs, NumberedShort, TellsCall, results_tuple_shape, session, with_list_in}
+use Rattle.canon_serve.specs.Carries.{AnswersCall, ByNumbers, CalledBy, CalledOf, CallsExport, CallsOk, CallsShort, CallsStore, EngineParts, EngineSession, EngineStore, IsReadParams, IsSenseless, SessionLogs, NumberedShort, TellsCall, results_tuple_shape, session, with_list_in}
 use Rattle.canon_serve.specs.Images.{AreLooked, are_listed}
 use Rattle.canon_serve.specs.declared.answer.Answer.{Answer}
 use Rattle.canon_serve.specs.declared.answer.Answer.TheVariants as answer
@@ -38,7 +38,7 @@ pub session_slots_written : {X : Type 0} (items new : List X) (n : ℕ) → n �
 session_slots_written items new n is = ap (λ k. take k (new ++ drop (length new) items)) is ∙ take-append_seam new (drop (length new) items)
 
 -- a call that left this session, to whose list the resources of its results were added
-module _ {E H : Type 0} (logs : Logs E H) (f : Named) (s left s2 : EngineSession E H) (a : Answer) (rest : s2.store ≡ left.store) where
+module _ {E H : Type 0} (logs : SessionLogs E H) (f : Named) (s left s2 : EngineSession E H) (a : Answer) (rest : s2.store ≡ left.store) where
   by_type : (params : List Val) (slots : ℕ) (r : Result (Unit {0}) Error) (rs : List Val) (o : Option TypeFunc) → o ≡ type_of s.store f
       → IfSome o (λ t. slots ≡ length (types_of (component_types s.store.core) t.results)) → CallsExport logs f params slots s left r rs
       → IfSome o (λ t. TellsCall (results_tuple_shape logs s.store t) r rs left.list s2.list a) → IfSome o (λ t. AnswersCall logs f t params s s2 a)
@@ -52,7 +52,7 @@ module _ {E H : Type 0} (logs : Logs E H) (f : Named) (s left s2 : EngineSession
       by_type params slots r rs (type_of s.store f) refl slots_are calls
       (subst (λ (c : Component). IfSome (type_in c (slice_get c.exports.items f.export)) (λ t. TellsCall (shape_of c.types.types (ty.Tuple t.results)) r rs left.list s2.list a)) same told)
 
-module _ {E H : Type 0} (logs : Logs E H) (f : Named) (s s2 : EngineSession E H) (a : Answer) where
+module _ {E H : Type 0} (logs : SessionLogs E H) (f : Named) (s s2 : EngineSession E H) (a : Answer) where
   -- with the resources of the list in the place of the numbers, all of which are known
   pub numbered_call : (given params : List Val) (known : Bool) (o : Option TypeFunc) → known ≡ are_listed s.list given → known ≡ true → AreLooked s.list given params → IfSome o (λ t. AnswersCall logs f t params s s2 a)
       → IfSome o (λ t. ByNumbers logs f t given s s2 a (are_listed s.list given))
@@ -74,7 +74,7 @@ pub with_list : {E H : Type 0} → (s t : EngineStore E H) (list : List Any) →
 with_list s t list e = ap (λ u. session u list) e
 
 -- a call that was refused
-module _ {E H : Type 0} (logs : Logs E H) (f : Named) (s left : EngineSession E H) where
+module _ {E H : Type 0} (logs : SessionLogs E H) (f : Named) (s left : EngineSession E H) where
   any_type : (e : Error) (o : Option TypeFunc) → IfSome o (λ t. (e ≡ e) × (left.list ≡ left.list))
   any_type e None = tt
   any_type e (Some t) = (refl, refl)
@@ -84,7 +84,7 @@ module _ {E H : Type 0} (logs : Logs E H) (f : Named) (s left : EngineSession E 
   refused_call params slots e rs slots_are calls = answers_call logs f s left left (answer.Refused e) refl params slots (Err e) rs slots_are calls (any_type e (type_of left.store f))
 
 -- a call that answered Ok, by the bytes of its parameters
-module _ {E H : Type 0} (logs : Logs E H) (f : Named) (s s2 : EngineSession E H) where
+module _ {E H : Type 0} (logs : SessionLogs E H) (f : Named) (s s2 : EngineSession E H) where
   typed_call : (bytes : List ℕ) (given : Vec Val Global) (n : ℕ) (o : Option TypeFunc) → type_of s.store f ≡ o → IsSome o → IfSome o (λ t. IsReadParams logs s.store t bytes (Ok (given, n)))
       → NumberedShort logs f given.items n s s2 → CallsShort logs f bytes s s2
   typed_call bytes given n o typed some read (inl same) = inl same
@@ -102,7 +102,7 @@ module _ {E H : Type 0} (logs : Logs E H) (f : Named) (s s2 : EngineSession E H)
   done_with given params ps n known all yes is looked (inl same) = inl same
   done_with given params ps n known all yes is looked (inr done) = inr (params, sym all ∙ yes, looked, subst (λ qs. CallsOk logs f qs n s s2) is done)
 
-module _ {E H : Type 0} (logs : Logs E H) (f : Named) (s : EngineSession E H) where
+module _ {E H : Type 0} (logs : SessionLogs E H) (f : Named) (s : EngineSession E H) where
   pub senseless_by : (a : Answer) (bytes : List ℕ) (e : ImageError) (o : Option TypeFunc) → IfSome o (λ t. IsReadParams logs s.store t bytes (Err e)) → IsSenseless e a → IfSome o (λ t. CalledBy logs f t bytes s s a)
   senseless_by a bytes e None read told = read
   senseless_by a bytes e (Some t) read told = (Err e, read, (told, refl))
@@ -114,7 +114,7 @@ module _ {E H : Type 0} (logs : Logs E H) (f : Named) (s : EngineSession E H) wh
 
 -- ---- the list in the store's data
 
-module _ {E H : Type 0} (logs : Logs E H) (f : Named) (params : List Val) (n : ℕ) (r : Result (Unit {0}) Error) (rs : List Val) where
+module _ {E H : Type 0} (logs : SessionLogs E H) (f : Named) (params : List Val) (n : ℕ) (r : Result (Unit {0}) Error) (rs : List Val) where
   back_again : (t u : EngineStore E H) (l m : List Any) → u ≡ with_list_in t l → m ≡ t.core.state.list → with_list_in u m ≡ t
   back_again t u l m is same = ap₂ with_list_in is same
 

@@ -85,25 +85,25 @@ gave_row s list answered given row slots r is read placed unknown =
 
 module _ {H : Type 0} (log : H → Option (List Message)) (n : ℕ) (types : TypeTable) (type : TypeFunc) (before : Hosting H) (params : List Val) (channel : H) (list : List Any) (asked : List ℕ)
     (listed : ListsValues (shape_of types (ty.Tuple type.params)) params before.list list asked) where
-  abbrev after : Hosting H
-  after = record { channel = channel; list = list }
+  abbrev state_after_ask : Hosting H
+  state_after_ask = record { channel = channel; list = list }
 
   abbrev results_shape : Shape
   results_shape = shape_of types (ty.Tuple type.results)
 
   by_answer : (answered : List ℕ) (answer : Result (List Val) HostStop) → PassesMessages (log before.channel) (log channel) (IsServedAsk n asked answered) → ReadsAnswer results_shape list answered answer
-      → AnswersAsk log n results_shape asked before after answer
+      → AnswersAsk log n results_shape asked before state_after_ask answer
   by_answer answered (Ok results) passed read = (answered, passed, read)
   by_answer answered (Err stop.Refused) passed read = (passed.0, passed.1, inr (answered, passed.2, read))
   by_answer answered (Err stop.OutOfMemory) passed read = tt
 
   pub asks_answered : (answered : List ℕ) (answer : Result (List Val) HostStop) → PassesMessages (log before.channel) (log channel) (IsServedAsk n asked answered) → ReadsAnswer results_shape list answered answer
-      → AsksHost log n types type before params answer after
+      → AsksHost log n types type before params answer state_after_ask
   asks_answered answered answer passed read = record { ask = inl (asked, listed, by_answer answered answer passed read) }
 
-  by_stop : (why : HostStop) → (why ≡ stop.Refused → PassesMessages (log before.channel) (log channel) (IsRefusedAsk n asked)) → AnswersAsk log n results_shape asked before after (Err why)
+  by_stop : (why : HostStop) → (why ≡ stop.Refused → PassesMessages (log before.channel) (log channel) (IsRefusedAsk n asked)) → AnswersAsk log n results_shape asked before state_after_ask (Err why)
   by_stop stop.Refused refused = let p = refused refl in (p.0, p.1, inl p.2)
   by_stop stop.OutOfMemory refused = tt
 
-  pub asks_stopped : (why : HostStop) → (why ≡ stop.Refused → PassesMessages (log before.channel) (log channel) (IsRefusedAsk n asked)) → AsksHost log n types type before params (Err why) after
+  pub asks_stopped : (why : HostStop) → (why ≡ stop.Refused → PassesMessages (log before.channel) (log channel) (IsRefusedAsk n asked)) → AsksHost log n types type before params (Err why) state_after_ask
   asks_stopped why refused = record { ask = inl (asked, listed, by_stop why refused) }

@@ -8,7 +8,7 @@ use Rattle.canon_func.specs.declared.error.Error.TheVariants as error
 use Rattle.canon_relay.specs.Channel.{AddsMessages, Message}
 use Rattle.canon_relay.specs.Relay.{PassesMessages, adds_both, adds_none}
 use Rattle.canon_serve.specs.Begins.{HasComponent, HasNoComponent, IsBegun}
-use Rattle.canon_serve.specs.Carries.{AnswersShort, CarriesOutCommand, EngineSession, EngineStore, Logs, session}
+use Rattle.canon_serve.specs.Carries.{AnswersShort, CarriesOutCommand, EngineSession, EngineStore, SessionLogs, session}
 use Rattle.canon_serve.specs.Messages.{HearsCommand, HearsNothing, IsStrictPrefix, answer_messages}
 use Rattle.canon_serve.specs.Sessions.{CommandTurn, CutsCommand, EndsAtOnce, EndsSession, EndsUnbegun, GoesOnAfter, IsFirstAnswer, IsFirstTurn, IsSession, MayRunShort, ServesAll, ServesOne, ServesTurn, ServesTurns, ServesUntil, ToldOrCut, command_messages, one_turn_messages, unheard_end}
 use Rattle.canon_serve.specs.declared.answer.Answer.{Answer}
@@ -42,7 +42,7 @@ goes_on_after (command.New ty rep) not = tt
 goes_on_after command.Events not = tt
 goes_on_after command.Unknown not = tt
 
-module _ {E H : Type 0} (logs : Logs E H) where
+module _ {E H : Type 0} (logs : SessionLogs E H) where
   serves_more : (ts : List CommandTurn) (t : CommandTurn) (s next last : EngineSession E H) → ServesTurns logs ts s next → ServesTurn logs t next last → ServesTurns logs (ts ++ t ∷ []) s last
   serves_more [] t s next last here served = (last, subst (λ u. ServesTurn logs t u last) here served, refl)
   serves_more (u ∷ ts) t s next last serves served = (serves.0, serves.1, serves_more ts t serves.0 next last serves.2 served)
@@ -160,7 +160,7 @@ unbegun a b c all keeps json no_store.OutOfMemory result heard none not ended =
 
 -- ---- a session
 
-module _ {E H : Type 0} (logs : Logs E H) (engine : E) (host : H) where
+module _ {E H : Type 0} (logs : SessionLogs E H) (engine : E) (host : H) where
   pub begun_session : (a b c d : Option (List Message)) (all keeps : Bool) (json empty : Vec ℕ Global) (s : EngineStore E H) (why : End) → PassesMessages a b (HearsCommand (command.Begin all keeps json))
       → IsBegun logs.engine engine host all keeps json.items s → empty.items ≡ [] → AddsMessages b c (answer_messages (answer.Done empty)) → ServesUntil logs c d (session s []) why → IsSession logs engine host a d why
   begun_session a b c d all keeps json empty s why heard begun is_empty told served = inl (record {

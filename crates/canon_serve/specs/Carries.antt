@@ -77,11 +77,11 @@ lent_store s = with_list_in s.store s.list
 
 -- ---- what the channels expose of the messages that passed: those to the engine, and to the functions of the host
 
-pub record Logs (E H : Type 0) : Type 0 where
+pub record SessionLogs (E H : Type 0) : Type 0 where
   pub engine : E → Option (List Message)
   pub host : H → Option (List Message)
 
-abbrev pub both_logs : {E H : Type 0} → (E → Option (List Message)) → (H → Option (List Message)) → Logs E H
+abbrev pub both_logs : {E H : Type 0} → (E → Option (List Message)) → (H → Option (List Message)) → SessionLogs E H
 both_logs engine host = record { engine = engine; host = host }
 
 -- ---- marks
@@ -134,7 +134,7 @@ TellsDrop (Ok x) (answer.Done bytes) = bytes.items ≡ []
 TellsDrop (Err e) (answer.Refused refusal) = refusal ≡ e
 TellsDrop result a = ⊥
 
-module _ {E H : Type 0} (logs : Logs E H) where
+module _ {E H : Type 0} (logs : SessionLogs E H) where
   -- A function was called with these parameters and so many slots for results, which it left so: refused before the guest was entered,
   -- which leaves the store as it was, or called.
   pub record CallsStore (f : Named) (params : List Val) (slots : ℕ) (store store2 : EngineStore E H) (result : Result (Unit {0}) Error) (results : List Val) : Type 0 where
@@ -214,9 +214,9 @@ module _ {E H : Type 0} (logs : Logs E H) where
   without_events store = record store { core = record store.core { guest = record store.core.guest { guest = without_journal store.core.guest.guest } } }
 
   -- The events that were kept are told, and forgotten; or none are kept.
-  abbrev pub TellsEvents : Option (List Event) → EngineStore E H → EngineStore E H → Answer → Type 0
-  TellsEvents None store store2 a = (a ≡ answer.Senseless senseless.NoEvents) × (store2 ≡ store)
-  TellsEvents (Some events) store store2 a = IsDone (events_bytes events) a × (store2 ≡ without_events store)
+  abbrev pub TellsKeptEvents : Option (List Event) → EngineStore E H → EngineStore E H → Answer → Type 0
+  TellsKeptEvents None store store2 a = (a ≡ answer.Senseless senseless.NoEvents) × (store2 ≡ store)
+  TellsKeptEvents (Some events) store store2 a = IsDone (events_bytes events) a × (store2 ≡ without_events store)
 
   -- ---- a resource
 
@@ -269,7 +269,7 @@ module _ {E H : Type 0} (logs : Logs E H) where
   CarriesOutCommand command.Marks s s2 a = IsDone (map mark_byte s.store.core.guest.marks) a × (s2 ≡ session (without_marks s.store) s.list)
   CarriesOutCommand (command.Drop number) s s2 a = DropsListed s s2 a (slice_get s.list number)
   CarriesOutCommand (command.New ty rep) s s2 a = MakesNew ty rep s s2 a
-  CarriesOutCommand command.Events s s2 a = TellsEvents (journal_kept s.store.core.guest.guest) s.store s2.store a × (s2.list ≡ s.list)
+  CarriesOutCommand command.Events s s2 a = TellsKeptEvents (journal_kept s.store.core.guest.guest) s.store s2.store a × (s2.list ≡ s.list)
   CarriesOutCommand command.End s s2 a = OnlyAnswers s s2 a (answer.Senseless senseless.NoCommand)
   CarriesOutCommand (command.Begin all keeps json) s s2 a = OnlyAnswers s s2 a (answer.Senseless senseless.NoCommand)
   CarriesOutCommand command.Unknown s s2 a = OnlyAnswers s s2 a (answer.Senseless senseless.NoCommand)

@@ -6,7 +6,7 @@ use Rattle.canon_func.specs.declared.error.Error.TheVariants as error
 use Rattle.canon_relay.specs.Channel.{AddsMessages, Message}
 use Rattle.canon_relay.specs.Relay.{PassesMessages}
 use Rattle.canon_serve.specs.Begins.{HasComponent, HasNoComponent, IsBegun}
-use Rattle.canon_serve.specs.Carries.{AnswersShort, CarriesOutCommand, EngineSession, EngineStore, Logs, session}
+use Rattle.canon_serve.specs.Carries.{AnswersShort, CarriesOutCommand, EngineSession, EngineStore, SessionLogs, session}
 use Rattle.canon_serve.specs.Messages.{HearsCommand, HearsHead, HearsNone, IsStrictPrefix, answer_messages}
 use Rattle.canon_serve.specs.declared.answer.Answer.{Answer}
 use Rattle.canon_serve.specs.declared.answer.Answer.TheVariants as answer
@@ -53,7 +53,7 @@ MayRunShort _ = Unit {0}
 abbrev pub IsCutCommand : List Message → Type 0
 IsCutCommand messages = (asked : Command) × MayRunShort asked × HearsCommand asked messages
 
-module _ {E H : Type 0} (logs : Logs E H) where
+module _ {E H : Type 0} (logs : SessionLogs E H) where
   -- the command, which doesn't end the session, was heard and carried out, from one state to another, with this answer
   abbrev pub ServesTurn : CommandTurn → EngineSession E H → EngineSession E H → Type 0
   ServesTurn t s s2 = GoesOnAfter t.asked × HearsCommand t.asked t.heard × CarriesOutCommand logs t.asked s s2 t.answered
@@ -157,7 +157,7 @@ EndsAtOnce end.NotInstantiated messages = IsFirstTurn (λ a. a ≡ answer.Refuse
 
 -- ---- a session
 
-module _ {E H : Type 0} (logs : Logs E H) (engine : E) (host : H) where
+module _ {E H : Type 0} (logs : SessionLogs E H) (engine : E) (host : H) where
   -- A component was heard, and its store began, which was told.
   pub record BeginsSession (log1 log2 : Option (List Message)) (store : EngineStore E H) : Type 0 where
     pub watches_all : Bool

@@ -7,7 +7,7 @@ ghost use Rattle.canon_context.specs.Core.{component_types};
 ghost use Rattle.canon_relay.specs.Wire.{number_bytes};
 ghost use Rattle.canon_events.specs.Bytes.{events_bytes};
 ghost use Rattle.canon_events.specs.Guest.{journal_kept};
-ghost use Rattle.canon_serve.specs.Carries.{AnswersCall, AnswersShort, ByNumbers, CalledAt, CalledBy, CallsExport, CallsStore, CallsOk, CallsShort, CarriesOutCommand, HasExport, IsDone, IsReadParams, IsSenseless, NumberedShort, TellsCall, TellsEvents, both_logs, export_named, mark_byte, results_tuple_shape, session, with_list_in, without_marks};
+ghost use Rattle.canon_serve.specs.Carries.{AnswersCall, AnswersShort, ByNumbers, CalledAt, CalledBy, CallsExport, CallsStore, CallsOk, CallsShort, CarriesOutCommand, HasExport, IsDone, IsReadParams, IsSenseless, NumberedShort, TellsCall, TellsKeptEvents, both_logs, export_named, mark_byte, results_tuple_shape, session, with_list_in, without_marks};
 ghost use Rattle.canon_serve.specs.Images.{are_listed};
 
 use crate::answer::{Answer, Senseless};
@@ -298,7 +298,7 @@ fn events<E: Channel, H: Channel>(
     alloc: Global,
     store: &mut EngineStore<E, H>,
 ) -> Result<Answer, OutOfMemory>
-    ensures told { IfOk result (λ answer. TellsEvents (both_logs E.log H.log) (journal_kept store.old.core.guest.guest) store.old store.new answer) }
+    ensures told { IfOk result (λ answer. TellsKeptEvents (both_logs E.log H.log) (journal_kept store.old.core.guest.guest) store.old store.new answer) }
     ensures short { OnErr result (store.new ≡ store.old) }
 {
     let guest = store.core_mut().guest_mut().guest_mut();

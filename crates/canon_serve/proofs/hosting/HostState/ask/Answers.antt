@@ -21,11 +21,11 @@ returns-in-Ok-exchange g c =
     let kept : c.listed.new.self.list ≡ list = search rules in
     let listed = subst (λ l. ListsValues (shape_of types (ty.Tuple type.params)) c.args.params.now before.list l asked) kept c.in-Ok.ensures.listed in
     let passed = subst (λ h. PassesMessages (log h) (log channel) (IsServedAsk c.args.n asked answered)) here
-        (subst (λ bytes. PassesMessages (log c.self.inside.channel) (log channel) (IsServedAsk c.args.n bytes answered)) c.deref.ensures.value c.in-Ok-exchange.ensures.served) in
+    (subst (λ bytes. PassesMessages (log c.self.inside.channel) (log channel) (IsServedAsk c.args.n bytes answered)) c.deref.ensures.value c.in-Ok-exchange.ensures.served) in
     let answer = outcome c.give.result c.give.new.slots in
     let results = shape_of types (ty.Tuple type.results) in
     let read = subst (λ l. ReadsAnswer results l answered answer) c.deref-in-Ok-exchange-2.ensures.value
-        (subst (λ bytes. ReadsAnswer results c.deref-in-Ok-exchange-2.result.now bytes answer) c.deref-in-Ok-exchange.ensures.value c.give.ensures) in
+    (subst (λ bytes. ReadsAnswer results c.deref-in-Ok-exchange-2.result.now bytes answer) c.deref-in-Ok-exchange.ensures.value c.give.ensures) in
     asks_answered log c.args.n types type before c.args.params.now channel list asked listed answered answer passed read
 
 pub returns : goal.returns
