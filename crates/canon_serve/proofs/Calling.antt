@@ -119,9 +119,9 @@ module _ {E H : Type 0} (logs : SessionLogs E H) (f : Named) (params : List Val)
   back_again t u l m is same = ap₂ with_list_in is same
 
   -- it was exchanged with another before the call, and again after it
-  pub entered : (s lent t u : EngineStore E H) (list other after : List Any) → lent ≡ with_list_in s list → other ≡ s.core.state.list → CallsStore logs f params n lent t r rs
+  pub entered_with_list : (s lent t u : EngineStore E H) (list other after : List Any) → lent ≡ with_list_in s list → other ≡ s.core.state.list → CallsStore logs f params n lent t r rs
       → u ≡ with_list_in t other → after ≡ t.core.state.list → CallsExport logs f params n (session s list) (session u after) r rs
-  entered s lent t u list other after is kept calls is2 same = (
+  entered_with_list s lent t u list other after is kept calls is2 same = (
     subst (λ v. CallsStore logs f params n (with_list_in s list) v r rs) (sym (back_again t u other after is2 same)) (subst (λ v. CallsStore logs f params n v t r rs) is calls),
     ap (λ (v : EngineStore E H). v.core.state.list) is2 ∙ kept,
   )
