@@ -99,8 +99,8 @@ module _ {E H : Type 0} (logs : SessionLogs E H) (f : Named) (s s2 : EngineSessi
   -- with its parameters
   pub done_with : (given params : List Val) (ps : List Val) (n : ℕ) (known : Bool) → known ≡ are_listed s.list given → known ≡ true → ps ≡ params → AreLooked s.list given params → (s2 ≡ s) ⊎ CallsOk logs f ps n s s2
       → NumberedShort logs f given n s s2
-  done_with given params ps n known all yes is looked (inl same) = inl same
-  done_with given params ps n known all yes is looked (inr done) = inr (params, sym all ∙ yes, looked, subst (λ qs. CallsOk logs f qs n s s2) is done)
+  done_with given params ps n known all sure is looked (inl same) = inl same
+  done_with given params ps n known all sure is looked (inr done) = inr (params, sym all ∙ sure, looked, subst (λ qs. CallsOk logs f qs n s s2) is done)
 
 module _ {E H : Type 0} (logs : SessionLogs E H) (f : Named) (s : EngineSession E H) where
   pub senseless_by : (a : Answer) (bytes : List ℕ) (e : ImageError) (o : Option TypeFunc) → IfSome o (λ t. IsReadParams logs s.store t bytes (Err e)) → IsSenseless e a → IfSome o (λ t. CalledBy logs f t bytes s s a)
