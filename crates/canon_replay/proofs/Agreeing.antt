@@ -4,7 +4,7 @@ use Rattle.std.specs.Prelude.{⊤}
 use Rattle.canon_memory.specs.declared.event.Event.{Event}
 use Rattle.canon_memory.specs.declared.event.Event.TheVariants as event
 use Rattle.canon_replay_guest.specs.Following.{IsOfRequest}
-use Rattle.canon_replay_guest.specs.Moves.{GuestRequest, HasWords, IsNext, IsOther, TellsRequest, destroys, posts, reallocates, resumes, starts}
+use Rattle.canon_replay_guest.specs.Moves.{GuestRequest, HasWords, IsNext, IsOtherRequest, TellsRequest, destroys, posts, reallocates, resumes, starts}
 use Rattle.canon_replay_guest.specs.Passing.{AreAlike, IsAlike}
 
 -- ---- lists
@@ -86,6 +86,6 @@ agrees_past e es calm (f ∷ fs) rest made zero q is le (s, ss, is2, one, more) 
 agrees_past e es calm (f ∷ fs) rest made (suc place) q is le alike of words = absurd (omega (arith, le))
 
 -- another request isn't the recorded one
-pub other_refuted : (o : Option Event) (q : GuestRequest) → IsOther o q → (WordsAt o q → IsNext o q) → ⊥
+pub other_refuted : (o : Option Event) (q : GuestRequest) → IsOtherRequest o q → (WordsAt o q → IsNext o q) → ⊥
 other_refuted None q other next = next tt
 other_refuted (Some e) q (differs, words) next = differs (next words)

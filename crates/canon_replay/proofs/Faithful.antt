@@ -33,7 +33,7 @@ use Rattle.canon_replay_guest.specs.Passing.{AreAlike}
 use Rattle.canon_replay_guest.specs.Replaying.{Replaying, passed_events}
 use Rattle.canon_replay_guest.specs.declared.stop.Stop.TheVariants as stop
 use Rattle.canon_replay.specs.Calls.{AnswersOtherwise, CallDiffers, CallReplayed, DepartsAt, EndsOtherwise, IsNotEntered, IsNotShort, MadeCall, LeavesAt, ReplaysFrom, WasMadeAgain, made_call_of, events_of_call, replay_host, results_shape_in}
-use Rattle.canon_replay.specs.Faithful.{AskForNothing, HasResultTuples, HaveLawfulAnswers, IsNoDifference, RecordedAreSame, RecordedNeverDiffer, WasCalled, WereCalled}
+use Rattle.canon_replay.specs.Faithful.{AskForNothing, HasResultTuples, HaveLawfulAnswers, IsNoDifference, RecordedAreSame, RecordedNeverDiffer, IsFaithfulCall, AreFaithful}
 use Rattle.canon_replay.specs.Imports.{GivesNext}
 use Rattle.canon_replay.specs.Stores.{JournaledReplays, ReplayStore, asks_in_store, guest_in_store, journaled_seen, named_export}
 use Rattle.canon_replay.specs.declared.outcome.Outcome.{Outcome}
@@ -103,7 +103,7 @@ written_calm imports (event.Dtor f rep ∷ events) all = (tt, written_calm impor
 written_calm imports (event.Trap told at ∷ events) all = absurd (All-head (IsWritten imports) (event.Trap told at) events all)
 
 module _ {T G I P : Type 0} (seen : G → Seen) (moves : GuestIn G → List Event → GuestIn G → Type 0) (leaves : List ℕ → List ℕ → Type 0)
-    (plan : I → P) (gives : P → Giving T) (log : I → Option (List LoggedEntry)) (refusals : I → ℕ) (c : Component) (fuel turns : ℕ) (call : RecordedCall) (w : WasCalled seen moves leaves plan gives log refusals c fuel turns call) where
+    (plan : I → P) (gives : P → Giving T) (log : I → Option (List LoggedEntry)) (refusals : I → ℕ) (c : Component) (fuel turns : ℕ) (call : RecordedCall) (w : IsFaithfulCall seen moves leaves plan gives log refusals c fuel turns call) where
   abbrev its_callee : Callee
   its_callee = callee_of w.before w.func
 
@@ -188,7 +188,7 @@ module _ {T G I P : Type 0} (seen : G → Seen) (moves : GuestIn G → List Even
     untrapped = r.kept.trapped ∙ going.untrapped;
   }
 
-  call_same : (call : RecordedCall) (before : ReplayStore) → IsGoing before → WasCalled seen moves leaves plan gives log refusals c fuel turns call → asks_in call.events ≡ 0 → IsRecordedCallOf (exports_of c) (imports_of c) call
+  call_same : (call : RecordedCall) (before : ReplayStore) → IsGoing before → IsFaithfulCall seen moves leaves plan gives log refusals c fuel turns call → asks_in call.events ≡ 0 → IsRecordedCallOf (exports_of c) (imports_of c) call
       → (place : ℕ) → ¬ CallDiffers place (made_call_of call) before
   call_same call before going w quiet fits place (le, how) = by how
     where
@@ -217,7 +217,7 @@ module _ {T G I P : Type 0} (seen : G → Seen) (moves : GuestIn G → List Even
       by (inr (after, result, results, events, made, short, inr (alike, otherwise))) =
           ends_so c call before going.component going.untrapped run plain.0 plain.1 quiet_all calm_all tuple place after results events result made short alike otherwise
 
-  never_differ_from : (k : ℕ) (calls : List RecordedCall) (store : ReplayStore) (o : Outcome) → IsGoing store → All (IsRecordedCallOf (exports_of c) (imports_of c)) calls → WereCalled seen moves leaves plan gives log refusals c fuel turns calls
+  never_differ_from : (k : ℕ) (calls : List RecordedCall) (store : ReplayStore) (o : Outcome) → IsGoing store → All (IsRecordedCallOf (exports_of c) (imports_of c)) calls → AreFaithful seen moves leaves plan gives log refusals c fuel turns calls
       → AskForNothing calls → ReplaysFrom k (map made_call_of calls) store o → IsNoDifference o
   never_differ_from k [] store o going fits were quiet h = subst IsNoDifference (sym h) tt
   never_differ_from k (call ∷ calls) store o going fits were quiet (inl (next, replayed, others)) =
@@ -229,7 +229,7 @@ module _ {T G I P : Type 0} (seen : G → Seen) (moves : GuestIn G → List Even
 
   -- the same where the recorded answers are lawful, of a guest that is before call k
   same_from : (k : ℕ) (calls : List RecordedCall) (store : ReplayStore) (o : Outcome) → IsGoing store → IsBeforeCall k store (map events_of_call calls) → All (IsRecordedCallOf (exports_of c) (imports_of c)) calls
-      → WereCalled seen moves leaves plan gives log refusals c fuel turns calls → AskForNothing calls → HaveLawfulAnswers calls → ReplaysFrom k (map made_call_of calls) store o → o ≡ outcome.Same
+      → AreFaithful seen moves leaves plan gives log refusals c fuel turns calls → AskForNothing calls → HaveLawfulAnswers calls → ReplaysFrom k (map made_call_of calls) store o → o ≡ outcome.Same
   same_from k [] store o going at fits were quiet law h = h
   same_from k (call ∷ calls) store o going at fits were quiet law (inl (next, replayed, others)) =
       let known = All-head (IsRecordedCallOf (exports_of c) (imports_of c)) call calls fits in

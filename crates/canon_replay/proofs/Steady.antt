@@ -126,8 +126,15 @@ module _ (k : ℕ) (store : ReplayStore) (its : List Event) (others : List (List
           let p = past_all f in
           (p.0, p.1, f.live ∙ (along_alike g.live events its alike ∙ (ap (live_along g.live) is ∙ quiet_live func words memory returned after post answers g.live)))
       over (inr (inl (why, s, c, l))) = absurd (some_stop why (sym s ∙ going_on))
-      over (inr (inr (lt, l))) = absurd (omega (arith, as_long, ap length l.is, length-append l.followed (l.made ∷ l.rest), alike_length l.followed (take (length (call_events g.recorded k)) (call_events g.recorded k)) l.alike,
-          take_length (call_events g.recorded k), ap length events_are))
+      over (inr (inr (lt, l))) = absurd (omega (
+        arith,
+        as_long,
+        ap length l.is,
+        length-append l.followed (l.made ∷ l.rest),
+        alike_length l.followed (take (length (call_events g.recorded k)) (call_events g.recorded k)) l.alike,
+        take_length (call_events g.recorded k),
+        ap length events_are,
+      ))
 
       pub before_next : IsBeforeCall (k + 1) next others
       before_next =

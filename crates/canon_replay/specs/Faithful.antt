@@ -54,7 +54,7 @@ module _ {T G I P : Type 0} (seen : G → Seen) (moves : GuestIn G → List Even
   -- `Func::call` of the recorded export was called with the recorded parameters, in a store of this component, with this fuel and this limit of
   -- turns, and with so many slots for results. It answered Ok with the recorded results, and its guest added the recorded events; the words of the
   -- start have 64 bits.
-  pub record WasCalled (c : Component) (fuel turns : ℕ) (call : RecordedCall) : Type 0 where
+  pub record IsFaithfulCall (c : Component) (fuel turns : ℕ) (call : RecordedCall) : Type 0 where
     pub before : StoreView T G I
     pub after : StoreView T G I
     pub func : Named
@@ -69,16 +69,16 @@ module _ {T G I P : Type 0} (seen : G → Seen) (moves : GuestIn G → List Even
     pub words : Each (OnStart (λ words memory. AreWords words)) call.events
 
   -- each call was made so, in whichever store
-  abbrev pub WereCalled : Component → ℕ → ℕ → List RecordedCall → Type 0
-  WereCalled c fuel turns [] = ⊤
-  WereCalled c fuel turns (call ∷ calls) = WasCalled c fuel turns call × WereCalled c fuel turns calls
+  abbrev pub AreFaithful : Component → ℕ → ℕ → List RecordedCall → Type 0
+  AreFaithful c fuel turns [] = ⊤
+  AreFaithful c fuel turns (call ∷ calls) = IsFaithfulCall c fuel turns call × AreFaithful c fuel turns calls
 
   -- Where such calls asked for no import, `replay` with this fuel and this limit of turns doesn't answer `Differs`.
   abbrev pub RecordedNeverDiffer : Type 0
   RecordedNeverDiffer = (c : Component) (calls : List RecordedCall) (fuel turns : ℕ) (o : Outcome) → IsComponent c → IsRecordable c → HasResultTuples c → FitsComponent c calls
-      → WereCalled c fuel turns calls → AskForNothing calls → IsReplayed c calls fuel turns (Ok o) → IsNoDifference o
+      → AreFaithful c fuel turns calls → AskForNothing calls → IsReplayed c calls fuel turns (Ok o) → IsNoDifference o
 
   -- Where also the recorded answers before each start are lawful, it answers `Same`.
   abbrev pub RecordedAreSame : Type 0
   RecordedAreSame = (c : Component) (calls : List RecordedCall) (fuel turns : ℕ) (o : Outcome) → IsComponent c → IsRecordable c → HasResultTuples c → FitsComponent c calls
-      → WereCalled c fuel turns calls → AskForNothing calls → HaveLawfulAnswers calls → IsReplayed c calls fuel turns (Ok o) → o ≡ outcome.Same
+      → AreFaithful c fuel turns calls → AskForNothing calls → HaveLawfulAnswers calls → IsReplayed c calls fuel turns (Ok o) → o ≡ outcome.Same

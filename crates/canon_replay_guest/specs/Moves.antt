@@ -46,9 +46,9 @@ HasWords (posts func words) = AreWords words
 HasWords _ = ⊤
 
 -- A request, with words of 64 bits, isn't the recorded one; or none is recorded.
-abbrev pub IsOther : Option Event → GuestRequest → Type 0
-IsOther None q = ⊤
-IsOther (Some e) q = ¬ (TellsRequest e q) × HasWords q
+abbrev pub IsOtherRequest : Option Event → GuestRequest → Type 0
+IsOtherRequest None q = ⊤
+IsOtherRequest (Some e) q = ¬ (TellsRequest e q) × HasWords q
 
 -- memory is grown before it, where it is the first of a call
 abbrev pub GrowsMemory : GuestRequest → Type 0
@@ -132,7 +132,7 @@ TakesStep e before after (Err fault.OutOfMemory) = ⊤
 
 -- why it trapped, in a memory of so many bytes
 abbrev pub IsReason : Stop → Replaying → ℕ → GuestRequest → Type 0
-IsReason stop.Differs g len q = IsOther (next_event g) q
+IsReason stop.Differs g len q = IsOtherRequest (next_event g) q
 IsReason stop.Unlawful g len q = (c : Call) × (answer : ℕ) × (q ≡ reallocates c) × IsRecordedAnswer (next_event g) c answer × ¬ (IsLawfulAnswer g.live len c answer)
 IsReason stop.Unfit g len q = IsNext (next_event g) q × LetsGo q × ((step : Step) (after : List ℕ) → ¬ (IsStep (event_after g) len step after))
 
