@@ -1,0 +1,41 @@
+-- Scripts whose calls may be recorded.
+use Rattle.std.specs.Prelude.{List, None, Option, Some, [], map, ⊤, ◌∷◌, ◌≡◌}
+use Rattle.canon_context.specs.declared.component.Component.{Component}
+use Rattle.canon_recording.specs.Fits.{IsRecordable}
+use Rattle.canon_script.specs.Script.{Play, ScriptItem, call_item, drop_item, item_view, new_item, typed_item}
+use Rattle.canon_player.specs.Stores.{IsScripted}
+use Rattle.canon_replay_cli.specs.declared.scripted.Scripted.{Scripted}
+
+-- it is a call with dynamic values
+abbrev pub IsCallItem : ScriptItem → Type 0
+IsCallItem (call_item c) = ⊤
+IsCallItem (typed_item c) = ⊥
+IsCallItem (new_item n) = ⊥
+IsCallItem (drop_item d) = ⊥
+
+abbrev pub AreCallItems : List ScriptItem → Type 0
+AreCallItems [] = ⊤
+AreCallItems (i ∷ items) = IsCallItem i × AreCallItems items
+
+-- the component of a script
+abbrev pub IsOfScript : Play → Component → Type 0
+IsOfScript play c = IsScripted play.types play.encoding play.posts play.imports c
+
+-- its items are calls, and calls of its component may be recorded
+pub record IsRecordableScript (play : Play) : Type 0 where
+  pub calls : AreCallItems play.items
+  pub component : (c : Component) → IsOfScript play c → IsRecordable c
+
+-- there is no script, or none of this kind
+abbrev pub IsNoRecordable : Option Play → Type 0
+IsNoRecordable None = ⊤
+IsNoRecordable (Some play) = ¬ IsRecordableScript play
+
+-- ---- how it is kept
+
+pub record IsScriptedBy (play : Play) (s : Scripted) : Type 0 where
+  pub component : IsOfScript play s.component
+  pub items : map item_view s.items.items ≡ play.items
+  pub calls : AreCallItems play.items
+  pub fuel : s.fuel ≡ play.fuel
+  pub turns : s.turns ≡ play.turns
