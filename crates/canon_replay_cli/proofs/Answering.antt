@@ -8,7 +8,7 @@ use Rattle.canon_cli.specs.Program.{IsInput, IsJson, IsNoJson, IsStatus, OnTold,
 use Rattle.canon_cli.specs.declared.status.Status.{Status}
 use Rattle.canon_context.specs.declared.component.Component.{Component}
 use Rattle.canon_recording.specs.Fits.{IsRecordable}
-use Rattle.canon_replay_cli.specs.Program.{AnswersReplay, IsDoneBy, IsDoneOf, IsNoTaskOf, IsReplayStatus, IsTaskOf, IsUnwrittenOf, ReadsOther, ReadsSo, ReadsUnwritten}
+use Rattle.canon_replay_cli.specs.Program.{AnswersReplay, IsDoneBy, IsDoneOf, IsNoTaskOf, IsReplayStatus, IsTaskOf, IsTooLongOf, ReadsOther, ReadsSo, ReadsTooLong}
 use Rattle.canon_replay_cli.specs.Replays.{IsNoReplayTask, ReplayTask, replay_task_of}
 use Rattle.canon_replay_cli.specs.Scripts.{AreCallItems, IsNoRecordable, IsOfScript, IsRecordableScript}
 use Rattle.canon_replay_cli.specs.declared.command.ReplayCommand.{ReplayCommand}
@@ -27,9 +27,9 @@ done_is_task : (asked : ReplayCommand) (tree : Data) (bytes : List ℕ) → IsDo
 done_is_task command.Record tree bytes (play, is, h) none = subst IsNoRecordable is none (recordable_script play h.component h.is_of h.recordable h.all_calls)
 done_is_task command.Replay tree bytes (task, is, h) none = subst IsNoReplayTask is none (recordable_script task.script h.component h.is_of h.recordable h.all_calls)
 
-unwritten_is_task : (asked : ReplayCommand) (tree : Data) → IsUnwrittenOf asked tree → ¬ IsNoTaskOf asked tree
-unwritten_is_task command.Record tree (play, is, h) none = subst IsNoRecordable is none (recordable_script play h.component h.is_of h.recordable h.all_calls)
-unwritten_is_task command.Replay tree h none = h
+long_is_task : (asked : ReplayCommand) (tree : Data) → IsTooLongOf asked tree → ¬ IsNoTaskOf asked tree
+long_is_task command.Record tree (play, is, h) none = subst IsNoRecordable is none (recordable_script play h.component h.is_of h.recordable h.all_calls)
+long_is_task command.Replay tree h none = h
 
 -- ---- the input
 
@@ -67,7 +67,7 @@ module _ (asked : ReplayCommand) (input : List ℕ) (left : Option (List ℕ)) w
   module _ (s : Status) (status : IsReplayStatus s) (used : ¬ (s.0 ≡ 2)) (no_fault : ¬ (s.0 ≡ 3)) (long : s.0 ≡ 6 → ReadsTooMuch (Some input) left)
       (bad : s.0 ≡ 7 → ReadsNoJson (Some input) left) (none : s.0 ≡ 8 → ReadsOther asked (Some input) left)
       (done : s.0 ≡ 0 → (bytes : List ℕ) × IsDoneBy asked (Some input) left bytes) (cut : s.0 ≡ 4 → (bytes : List ℕ) × IsDoneBy asked (Some input) left bytes)
-      (unwritten : s.0 ≡ 9 → ReadsUnwritten asked (Some input) left) where
+      (unwritten : s.0 ≡ 9 → ReadsTooLong asked (Some input) left) where
     -- by its number
     by_number : (P : Type 0) → (s.0 ≡ 6 → P) → (s.0 ≡ 7 → P) → (s.0 ≡ 8 → P) → (s.0 ≡ 0 → P) → (s.0 ≡ 4 → P) → (s.0 ≡ 5 → P) → (s.0 ≡ 9 → P) → P
     by_number P a b c d e f g = elim status as (λ _. P) [
@@ -82,14 +82,14 @@ module _ (asked : ReplayCommand) (input : List ℕ) (left : Option (List ℕ)) w
     replay_answers_told = record {
       too_long = λ far. by_number ((s.0 ≡ 6) ⊎ (s.0 ≡ 5)) (λ e. inl e) (λ e. absurd (omega (arith, far, none_short (bad e)))) (λ e. absurd (omega (arith, far, so_short (IsNoTaskOf asked) (none e))))
           (λ e. let d = done e in absurd (omega (arith, far, so_short _ d.1))) (λ e. let d = cut e in absurd (omega (arith, far, so_short _ d.1))) (λ e. inr e)
-          (λ e. absurd (omega (arith, far, so_short (IsUnwrittenOf asked) (unwritten e))));
+          (λ e. absurd (omega (arith, far, so_short (IsTooLongOf asked) (unwritten e))));
       not_json = λ near lacks. by_number ((s.0 ≡ 7) ⊎ (s.0 ≡ 5)) (λ e. absurd (omega (arith, near, much_long (long e)))) (λ e. inl e) (λ e. let n = none e in absurd (lacks n.tree (so_json (IsNoTaskOf asked) n)))
           (λ e. let d = done e in absurd (lacks d.1.tree (so_json _ d.1))) (λ e. let d = cut e in absurd (lacks d.1.tree (so_json _ d.1))) (λ e. inr e)
-          (λ e. let u = unwritten e in absurd (lacks u.tree (so_json (IsUnwrittenOf asked) u)));
+          (λ e. let u = unwritten e in absurd (lacks u.tree (so_json (IsTooLongOf asked) u)));
       no_task = λ near tree json lacks. by_number ((s.0 ≡ 8) ⊎ (s.0 ≡ 5)) (λ e. absurd (omega (arith, near, much_long (long e)))) (λ e. absurd (none_json (bad e) tree json)) (λ e. inl e)
           (λ e. let d = done e in absurd (done_is_task asked tree d.0 (so_of (λ t. IsDoneOf asked t d.0) tree json d.1) lacks))
           (λ e. let d = cut e in absurd (done_is_task asked tree d.0 (so_of (λ t. IsDoneOf asked t d.0) tree json d.1) lacks)) (λ e. inr e)
-          (λ e. absurd (unwritten_is_task asked tree (so_of (IsUnwrittenOf asked) tree json (unwritten e)) lacks));
+          (λ e. absurd (long_is_task asked tree (so_of (IsTooLongOf asked) tree json (unwritten e)) lacks));
       task = λ near tree json is. by_number ((s.0 ≡ 0) ⊎ ((s.0 ≡ 4) ⊎ ((s.0 ≡ 5) ⊎ (s.0 ≡ 9)))) (λ e. absurd (omega (arith, near, much_long (long e)))) (λ e. absurd (none_json (bad e) tree json))
           (λ e. absurd (is (so_of (IsNoTaskOf asked) tree json (none e)))) (λ e. inl e) (λ e. inr (inl e)) (λ e. inr (inr (inl e))) (λ e. inr (inr (inr e)));
     }
@@ -97,7 +97,7 @@ module _ (asked : ReplayCommand) (input : List ℕ) (left : Option (List ℕ)) w
 pub replay_answers : (asked : ReplayCommand) (left left' : Option (List ℕ)) (s : Status) → IsReplayStatus s → ¬ (s.0 ≡ 2) → ¬ (s.0 ≡ 3)
     → (s.0 ≡ 6 → ReadsTooMuch left left') → (s.0 ≡ 7 → ReadsNoJson left left') → (s.0 ≡ 8 → ReadsOther asked left left')
     → (s.0 ≡ 0 → (bytes : List ℕ) × IsDoneBy asked left left' bytes) → (s.0 ≡ 4 → (bytes : List ℕ) × IsDoneBy asked left left' bytes)
-    → (s.0 ≡ 9 → ReadsUnwritten asked left left') → OnTold left (λ input. AnswersReplay asked input s)
+    → (s.0 ≡ 9 → ReadsTooLong asked left left') → OnTold left (λ input. AnswersReplay asked input s)
 replay_answers asked None left' s status used no_fault long bad none done cut unwritten = tt
 replay_answers asked (Some input) left' s status used no_fault long bad none done cut unwritten = replay_answers_told asked input left' s status used no_fault long bad none done cut unwritten
 

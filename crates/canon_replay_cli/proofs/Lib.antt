@@ -1,3 +1,5 @@
 pub mod Answering
+pub mod KeptCalls
+pub mod PlayedRuns
 pub mod Recordable
 pub mod TakingCalls

@@ -1,6 +1,6 @@
 -- Whether calls of a component may be recorded is a matter of its types, its exports and its imports.
 use Rattle.std.proofs.Common.{All, List, None, Option, Some, ap, length, refl, subst, sym, ℕ, ◌<◌, ◌∙◌, ◌≡◌}
-use Rattle.std.specs.Prelude.{false, slice_get}
+use Rattle.std.specs.Prelude.{false, option_map, slice_get}
 use Rattle.canon_model.specs.Shape.{Members, no_members}
 use Rattle.canon_types.specs.Instance.{Instance}
 use Rattle.canon_types.specs.declared.types.TypeFunc.{TypeFunc}
@@ -14,7 +14,8 @@ use Rattle.canon_plan.specs.NoHandle.{HaveNoHandle}
 use Rattle.canon_recording.specs.Fits.{IsHost, IsRecordable}
 use Rattle.canon_recording.specs.Recordings.{import_type}
 use Rattle.canon_script.specs.Script.{Play}
-use Rattle.canon_replay_cli.specs.Scripts.{IsOfScript}
+use Rattle.canon_replay_cli.specs.Replays.{IsNoReplayTask, ReplayTask, replay_task_with}
+use Rattle.canon_replay_cli.specs.Scripts.{AreCallItems, IsNoRecordable, IsOfScript}
 
 same_params : (c d : Component) (o : Option Export) → d.types ≡ c.types → (callee_in c o).params ≡ (callee_in d o).params
 same_params c d None e = refl
@@ -62,3 +63,26 @@ module _ (c d : Component) (types : d.types ≡ c.types) (exports : d.exports.it
 -- of all components of one script
 pub one_recordable : (play : Play) (c d : Component) → IsOfScript play c → IsOfScript play d → IsRecordable c → IsRecordable d
 one_recordable play c d is of h = same_recordable c d (of.types ∙ sym is.types) (of.exports ∙ sym is.exports) (of.imports ∙ sym is.imports) h
+
+-- ---- why a JSON value is no task
+
+pub no_script : (o : Option Play) → o ≡ None → IsNoRecordable o
+no_script o e = subst IsNoRecordable (sym e) tt
+
+pub no_calls : (o : Option Play) (play : Play) → o ≡ Some play → ¬ AreCallItems play.items → IsNoRecordable o
+no_calls o play e lacks = subst IsNoRecordable (sym e) (λ h. lacks h.calls)
+
+pub no_recordable : (o : Option Play) (play : Play) (c : Component) → o ≡ Some play → IsOfScript play c → ¬ IsRecordable c → IsNoRecordable o
+no_recordable o play c e is lacks = subst IsNoRecordable (sym e) (λ h. lacks (h.component c is))
+
+pub no_replay : (o : Option ReplayTask) → o ≡ None → IsNoReplayTask o
+no_replay o e = subst IsNoReplayTask (sym e) tt
+
+-- there are bytes, and the script isn't one of calls that may be recorded
+pub no_replay_script : (bytes : List ℕ) (script : Option Play) (o : Option ReplayTask) → o ≡ option_map (λ s. replay_task_with s bytes) script → IsNoRecordable script → IsNoReplayTask o
+no_replay_script bytes None o e h = subst IsNoReplayTask (sym e) tt
+no_replay_script bytes (Some play) o e h = subst IsNoReplayTask (sym e) h
+
+-- there is one script
+pub one_script : (o : Option Play) (p q : Play) → o ≡ Some p → o ≡ Some q → p ≡ q
+one_script o p q e f = let same : Some p ≡ Some q = sym e ∙ f in cc

@@ -14,26 +14,26 @@ map_end f (y ∷ ys) x = rw (map_end f ys x) refl
 
 module _ (items : List Item) (records : List Record) where
   -- These calls were taken of the first items and records, and these are left: with what is taken of them, all is.
-  pub record AreTaken (calls : List Recorded) (left : List Item) (more : List Record) : Type 0 where
+  pub record AreCallsTaken (calls : List Recorded) (left : List Item) (more : List Record) : Type 0 where
     pub rest : (others : List RecordedCall) → TakesCalls (map item_view left) more others → TakesCalls (map item_view items) records (recorded_calls calls ++ others)
 
-  pub taking_begins : AreTaken [] items records
+  pub taking_begins : AreCallsTaken [] items records
   taking_begins = record { rest = λ others h. h }
 
   -- nothing more is taken
-  ends_with : (calls : List Recorded) (left : List Item) (more : List Record) → AreTaken calls left more → TakesCalls (map item_view left) more [] → TakesCalls (map item_view items) records (recorded_calls calls)
+  ends_with : (calls : List Recorded) (left : List Item) (more : List Record) → AreCallsTaken calls left more → TakesCalls (map item_view left) more [] → TakesCalls (map item_view items) records (recorded_calls calls)
   ends_with calls left more are h = subst (TakesCalls (map item_view items) records) (append-nil (recorded_calls calls)) (are.rest [] h)
 
-  pub taking_ends : (calls : List Recorded) (more : List Record) → AreTaken calls [] more → TakesCalls (map item_view items) records (recorded_calls calls)
+  pub taking_ends : (calls : List Recorded) (more : List Record) → AreCallsTaken calls [] more → TakesCalls (map item_view items) records (recorded_calls calls)
   taking_ends calls more are = ends_with calls [] more are refl
 
-  pub no_record : (calls : List Recorded) (i : Item) (left : List Item) → AreTaken calls (i ∷ left) [] → TakesCalls (map item_view items) records (recorded_calls calls)
+  pub no_record : (calls : List Recorded) (i : Item) (left : List Item) → AreCallsTaken calls (i ∷ left) [] → TakesCalls (map item_view items) records (recorded_calls calls)
   no_record calls i left are = ends_with calls (i ∷ left) [] are refl
 
-  pub not_taken : (calls : List Recorded) (i : Item) (left : List Item) (r : Record) (more : List Record) → AreTaken calls (i ∷ left) (r ∷ more) → IsTakenCall (item_view i) r None → TakesCalls (map item_view items) records (recorded_calls calls)
+  pub not_taken : (calls : List Recorded) (i : Item) (left : List Item) (r : Record) (more : List Record) → AreCallsTaken calls (i ∷ left) (r ∷ more) → IsTakenCall (item_view i) r None → TakesCalls (map item_view items) records (recorded_calls calls)
   not_taken calls i left r more are h = ends_with calls (i ∷ left) (r ∷ more) are h
 
-  pub one_taken : (calls next : List Recorded) (i : Item) (left : List Item) (r : Record) (more : List Record) (call : Recorded) → AreTaken calls (i ∷ left) (r ∷ more) → IsTakenCall (item_view i) r (Some call) → next ≡ calls ++ call ∷ [] → AreTaken next left more
+  pub one_taken : (calls next : List Recorded) (i : Item) (left : List Item) (r : Record) (more : List Record) (call : Recorded) → AreCallsTaken calls (i ∷ left) (r ∷ more) → IsTakenCall (item_view i) r (Some call) → next ≡ calls ++ call ∷ [] → AreCallsTaken next left more
   one_taken calls next i left r more call are (kept, is) e = record {
     rest = λ others h. subst (TakesCalls (map item_view items) records) (sym (longer others)) (are.rest (recorded_call call ∷ others) (kept, (is, h)));
   }

@@ -6,7 +6,7 @@ use Rattle.serde_json.specs.Data.{Data}
 use Rattle.canon_script.specs.Script.{Play, script_of}
 use Rattle.canon_cli.specs.Program.{IsInput, IsJson, IsNoJson, IsStatus, max_input}
 use Rattle.canon_cli.specs.declared.status.Status.{Status}
-use Rattle.canon_replay_cli.specs.Recorded.{IsNotWritten, IsPlayRecorded}
+use Rattle.canon_replay_cli.specs.Recorded.{IsPlayTooLong, IsPlayRecorded}
 use Rattle.canon_replay_cli.specs.Replays.{IsNoReplayTask, IsReplayText, ReplayTask, replay_task_of}
 use Rattle.canon_replay_cli.specs.Scripts.{IsNoRecordable}
 use Rattle.canon_replay_cli.specs.declared.command.ReplayCommand.{ReplayCommand}
@@ -33,10 +33,10 @@ abbrev pub IsDoneOf : ReplayCommand → Data → List ℕ → Type 0
 IsDoneOf command.Record tree bytes = (play : Play) × (script_of tree ≡ Some play) × IsPlayRecorded play bytes
 IsDoneOf command.Replay tree text = (task : ReplayTask) × (replay_task_of tree ≡ Some task) × IsReplayText task text
 
--- it was played, and its recording isn't written
-abbrev pub IsUnwrittenOf : ReplayCommand → Data → Type 0
-IsUnwrittenOf command.Record tree = (play : Play) × (script_of tree ≡ Some play) × IsNotWritten play
-IsUnwrittenOf command.Replay tree = ⊥
+-- it was played, and its recording is too long to be written
+abbrev pub IsTooLongOf : ReplayCommand → Data → Type 0
+IsTooLongOf command.Record tree = (play : Play) × (script_of tree ≡ Some play) × IsPlayTooLong play
+IsTooLongOf command.Replay tree = ⊥
 
 -- what was read is a JSON value of which this is so
 pub record ReadsSo (IsSo : Data → Type 0) (left left' : Option (List ℕ)) : Type 0 where
@@ -49,8 +49,8 @@ pub record ReadsSo (IsSo : Data → Type 0) (left left' : Option (List ℕ)) : T
 abbrev pub IsDoneBy : ReplayCommand → Option (List ℕ) → Option (List ℕ) → List ℕ → Type 0
 IsDoneBy asked left left' bytes = ReadsSo (λ tree. IsDoneOf asked tree bytes) left left'
 
-abbrev pub ReadsUnwritten : ReplayCommand → Option (List ℕ) → Option (List ℕ) → Type 0
-ReadsUnwritten asked left left' = ReadsSo (IsUnwrittenOf asked) left left'
+abbrev pub ReadsTooLong : ReplayCommand → Option (List ℕ) → Option (List ℕ) → Type 0
+ReadsTooLong asked left left' = ReadsSo (IsTooLongOf asked) left left'
 
 abbrev pub ReadsOther : ReplayCommand → Option (List ℕ) → Option (List ℕ) → Type 0
 ReadsOther asked left left' = ReadsSo (IsNoTaskOf asked) left left'

@@ -1,5 +1,5 @@
 -- What a script leaves as a recording, once it was played.
-use Rattle.std.specs.Prelude.{List, length, ℕ, ◌<◌, ◌^◌, ◌≤◌, ◌⊎◌}
+use Rattle.std.specs.Prelude.{List, length, ℕ, ◌<◌, ◌^◌, ◌≤◌}
 use Rattle.canon_context.specs.declared.component.Component.{Component}
 use Rattle.canon_recording.specs.Fits.{FitsComponent, IsRecordable}
 use Rattle.canon_recording.specs.Recordings.{RecordedCall, recording}
@@ -9,13 +9,13 @@ use Rattle.canon_transcript.specs.declared.transcript.Record.{Record}
 use Rattle.canon_replay_cli.specs.Scripts.{AreCallItems, IsOfScript}
 use Rattle.canon_replay_cli.specs.Taken.{TakesCalls}
 
--- these are the bytes of a recording of the component
+-- these are the bytes of a recording of the component, which are few enough
 abbrev pub IsRecordingOf : Component → List RecordedCall → List ℕ → Type 0
 IsRecordingOf c calls bytes = FitsComponent c calls × (recording c).writes calls bytes × (length bytes ≤ 2 ^ 30)
 
--- each way to write it has too many bytes, or it is none of the component
-abbrev pub IsUnwritten : Component → List RecordedCall → Type 0
-IsUnwritten c calls = (¬ FitsComponent c calls) ⊎ ((bs : List ℕ) → (recording c).writes calls bs → 2 ^ 30 < length bs)
+-- each way to write these calls as a recording of the component has too many bytes
+abbrev pub IsRecordingTooLong : Component → List RecordedCall → Type 0
+IsRecordingTooLong c calls = (bs : List ℕ) → (recording c).writes calls bs → 2 ^ 30 < length bs
 
 -- A script of calls was played, in a session that left these records; of its component, whose calls may be recorded, and of the calls that are taken this
 -- is so.
@@ -33,5 +33,5 @@ pub record IsPlayTaken (play : Play) (IsSo : Component → List RecordedCall →
 abbrev pub IsPlayRecorded : Play → List ℕ → Type 0
 IsPlayRecorded play bytes = IsPlayTaken play (λ c calls. IsRecordingOf c calls bytes)
 
-abbrev pub IsNotWritten : Play → Type 0
-IsNotWritten play = IsPlayTaken play IsUnwritten
+abbrev pub IsPlayTooLong : Play → Type 0
+IsPlayTooLong play = IsPlayTaken play IsRecordingTooLong

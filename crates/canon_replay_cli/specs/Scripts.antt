@@ -1,5 +1,5 @@
 -- Scripts whose calls may be recorded.
-use Rattle.std.specs.Prelude.{List, None, Option, Some, [], map, ⊤, ◌∷◌, ◌≡◌}
+use Rattle.std.specs.Prelude.{List, None, Option, Some, [], length, map, ⊤, ◌∷◌, ◌≡◌, ◌≤◌}
 use Rattle.canon_context.specs.declared.component.Component.{Component}
 use Rattle.canon_recording.specs.Fits.{IsRecordable}
 use Rattle.canon_script.specs.Script.{Play, ScriptItem, call_item, drop_item, item_view, new_item, typed_item}
@@ -37,5 +37,6 @@ pub record IsScriptedBy (play : Play) (s : Scripted) : Type 0 where
   pub component : IsOfScript play s.component
   pub items : map item_view s.items.items ≡ play.items
   pub calls : AreCallItems play.items
+  pub told : length play.posts ≤ length play.types.funcs
   pub fuel : s.fuel ≡ play.fuel
   pub turns : s.turns ≡ play.turns

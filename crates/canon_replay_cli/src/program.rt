@@ -6,7 +6,7 @@ ghost use Rattle.serde_json.specs.View.{view};
 ghost use Rattle.canon_memory.specs.Counts.{Rose};
 ghost use Rattle.canon_cli.specs.Program.{IsRefusedStatus, OnTold, ReadsNoJson, ReadsTooMuch, max_input, most_taken};
 ghost use Rattle.canon_cli.specs.Streams.{AppendsPrefix, TakesAtMost};
-ghost use Rattle.canon_replay_cli.specs.Program.{AnswersReplay, IsDoneBy, IsDoneOf, IsNoTaskOf, IsReplayStatus, IsTaskOf, IsUnwrittenOf, ReadsOther, ReadsUnwritten, replay_command_of};
+ghost use Rattle.canon_replay_cli.specs.Program.{AnswersReplay, IsDoneBy, IsDoneOf, IsNoTaskOf, IsReplayStatus, IsTaskOf, IsTooLongOf, ReadsOther, ReadsTooLong, replay_command_of};
 
 use crate::command::{ReplayCommand, replay_command_of};
 use crate::lines::replay_lines;
@@ -15,7 +15,7 @@ use canon_cli::{ScriptError, Sink, Source, Status, read_json, write_all};
 use serde_json::Value;
 use std::alloc::Global;
 
-/// What was played isn't written: it has more than 1,073,741,824 bytes, or isn't a recording of the script's component.
+/// The script was played, and its recording isn't written, since it has more than 1,073,741,824 bytes.
 pub const NOT_RECORDED: Status = Status(9);
 
 /// Does what the words of the command line say. `record` plays the script that the source holds, and writes the recording of its calls to the
@@ -37,8 +37,8 @@ pub fn replay_run<S: Source, K: Sink>(
         × IsDoneBy asked (S.left source.old) (S.left source.new) bytes × AppendsPrefix (K.taken sink.old) (K.taken sink.new) bytes
         × Rose (K.faults sink.old) (K.faults sink.new)) }
 
-    // At 9 the script was played, and its recording isn't written.
-    ensures not_recorded { IfSome (replay_command_of words.now) (λ asked. result.0 ≡ 9 → ReadsUnwritten asked (S.left source.old) (S.left source.new)) }
+    // At 9, of `record` alone, the script was played, and its recording is too long: nothing is written.
+    ensures not_recorded { IfSome (replay_command_of words.now) (λ asked. result.0 ≡ 9 → ReadsTooLong asked (S.left source.old) (S.left source.new)) }
     ensures unwritten { result.0 ≡ 9 → sink.new ≡ sink.old }
 
     // The others, each with its cause but 5, leave the sink as it was. 3 and 4 come exactly where the source or the sink
@@ -59,7 +59,7 @@ pub fn replay_run<S: Source, K: Sink>(
     ensures taken { ¬ (result ≡ Status.TOO_LONG) → ¬ (result ≡ Status.MEMORY) → TakesAtMost max_input (S.left source.old) (S.left source.new) }
     ensures most { TakesAtMost most_taken (S.left source.old) (S.left source.new) }
 
-    // All is written, or memory ran out, or a recording isn't written, where nothing failed.
+    // All is written, or memory ran out, or a recording is too long, where nothing failed.
     ensures complete { IfSome (replay_command_of words.now) (λ asked. ¬ Rose (S.faults source.old) (S.faults source.new) → ¬ Rose (K.faults sink.old) (K.faults sink.new)
         → OnTold (S.left source.old) (λ input. IsTaskOf asked input → (result.0 ≡ 0) ⊎ ((result.0 ≡ 5) ⊎ (result.0 ≡ 9)))) }
     ensures no_other { IsReplayStatus result }
@@ -87,7 +87,7 @@ fn answer_input<S: Source, K: Sink>(
     ensures write_fault { result ≡ Status.WRITE_FAULT → (bytes : List ℕ)
         × IsDoneBy asked (S.left source.old) (S.left source.new) bytes × AppendsPrefix (K.taken sink.old) (K.taken sink.new) bytes
         × Rose (K.faults sink.old) (K.faults sink.new) }
-    ensures not_recorded { result.0 ≡ 9 → ReadsUnwritten asked (S.left source.old) (S.left source.new) }
+    ensures not_recorded { result.0 ≡ 9 → ReadsTooLong asked (S.left source.old) (S.left source.new) }
     ensures unwritten { result.0 ≡ 9 → sink.new ≡ sink.old }
     ensures memory { result ≡ Status.MEMORY → sink.new ≡ sink.old }
     ensures refused { IsRefusedStatus result → sink.new ≡ sink.old }
@@ -119,7 +119,7 @@ fn bytes_of_input<S: Source>(
     source: &mut S,
 ) -> Result<Vec<u8>, Status>
     ensures done { IfOk result (λ bytes. IsDoneBy asked (S.left source.old) (S.left source.new) bytes.items) }
-    ensures not_recorded { result ≡ Err NOT_RECORDED → ReadsUnwritten asked (S.left source.old) (S.left source.new) }
+    ensures not_recorded { result ≡ Err NOT_RECORDED → ReadsTooLong asked (S.left source.old) (S.left source.new) }
     ensures taken { result ≡ Err Status.READ_FAULT → TakesAtMost max_input (S.left source.old) (S.left source.new) }
     ensures most { TakesAtMost most_taken (S.left source.old) (S.left source.new) }
     ensures read_fault { result ≡ Err Status.READ_FAULT → Rose (S.faults source.old) (S.faults source.new) }
@@ -142,14 +142,14 @@ fn bytes_of_input<S: Source>(
 /// The recording of the script of a JSON value.
 fn recorded(alloc: Global, tree: &Value) -> Result<Vec<u8>, Status>
     ensures done { IfOk result (λ bytes. IsDoneOf ReplayCommand.Record (view tree.now) bytes.items) }
-    ensures not_recorded { result ≡ Err NOT_RECORDED → IsUnwrittenOf ReplayCommand.Record (view tree.now) }
+    ensures not_recorded { result ≡ Err NOT_RECORDED → IsTooLongOf ReplayCommand.Record (view tree.now) }
     ensures bad_script { result ≡ Err Status.BAD_SCRIPT → IsNoTaskOf ReplayCommand.Record (view tree.now) }
     ensures no_other { IfErr result (λ s. (s ≡ Status.MEMORY) ⊎ ((s ≡ Status.BAD_SCRIPT) ⊎ (s ≡ NOT_RECORDED))) }
 {
     match record_bytes(alloc, tree) {
         Ok(bytes) => Ok(bytes),
         Err(RecordError::BadScript) => Err(Status::BAD_SCRIPT),
-        Err(RecordError::NotWritten) => Err(NOT_RECORDED),
+        Err(RecordError::TooLong) => Err(NOT_RECORDED),
         Err(RecordError::OutOfMemory) => Err(Status::MEMORY),
     }
 }

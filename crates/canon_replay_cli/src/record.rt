@@ -1,14 +1,14 @@
 //! The bytes of the recording of a script.
 
-ghost use Rattle.std.specs.Prelude.{◌≡◌, Err, IfOk, List, Some, map};
+ghost use Rattle.std.specs.Prelude.{◌≡◌, ◌⊎◌, ◌↔◌, Err, IfOk, List, None, Some, map};
 ghost use Rattle.serde_json.specs.View.{view};
 ghost use Rattle.canon_json.specs.declared.error.ScriptError.TheVariants as refused;
 ghost use Rattle.canon_context.specs.Component.{IsComponent};
-ghost use Rattle.canon_recording.specs.Fits.{IsRecordable};
+ghost use Rattle.canon_recording.specs.Fits.{FitsComponent, IsRecordable};
 ghost use Rattle.canon_recording.specs.Recordings.{calls_in};
 ghost use Rattle.canon_script.specs.Script.{Play, item_view, play_of, script_of};
 ghost use Rattle.canon_player.specs.Session.{Session};
-ghost use Rattle.canon_replay_cli.specs.Recorded.{IsNotWritten, IsPlayRecorded, IsRecordingOf, IsUnwritten};
+ghost use Rattle.canon_replay_cli.specs.Recorded.{IsPlayRecorded, IsPlayTooLong, IsRecordingOf, IsRecordingTooLong};
 ghost use Rattle.canon_replay_cli.specs.Scripts.{IsNoRecordable};
 ghost use Rattle.canon_replay_cli.specs.declared.record.RecordError.TheVariants as error;
 
@@ -29,8 +29,8 @@ use std::alloc::Global;
 pub enum RecordError {
     /// The JSON value is no script of calls that may be recorded.
     BadScript,
-    /// What was played has more than 1,073,741,824 bytes, or isn't a recording of the script's component.
-    NotWritten,
+    /// The recording of what was played has more than 1,073,741,824 bytes.
+    TooLong,
     /// Want of memory.
     OutOfMemory,
 }
@@ -40,7 +40,7 @@ pub enum RecordError {
 pub fn record_bytes(alloc: Global, v: &Value) -> Result<Vec<u8>, RecordError>
     ensures done { IfOk result (λ bytes. (play : Play) × (script_of (view v.now) ≡ Some play) × IsPlayRecorded play bytes.items) }
     ensures bad_script { result ≡ Err error.BadScript → IsNoRecordable (script_of (view v.now)) }
-    ensures not_written { result ≡ Err error.NotWritten → (play : Play) × (script_of (view v.now) ≡ Some play) × IsNotWritten play }
+    ensures too_long { result ≡ Err error.TooLong → (play : Play) × (script_of (view v.now) ≡ Some play) × IsPlayTooLong play }
 {
     let scripted = match scripted_of_json(alloc, v) {
         Ok(scripted) => scripted,
@@ -79,17 +79,17 @@ fn bytes_of(alloc: Global, c: &Component, r: &Recording) -> Result<Vec<u8>, Reco
     requires sound { IsComponent c.now }
     requires recordable { IsRecordable c.now }
     ensures written { IfOk result (λ bytes. IsRecordingOf c.now (calls_in r.now) bytes.items) }
-    ensures not_written { result ≡ Err error.NotWritten → IsUnwritten c.now (calls_in r.now) }
+    ensures too_long { result ≡ Err error.TooLong → (¬ FitsComponent c.now (calls_in r.now)) ⊎ IsRecordingTooLong c.now (calls_in r.now) }
     ensures no_other { ¬ (result ≡ Err error.BadScript) }
 {
     match fits(alloc, c, r) {
         Ok(true) => {}
-        Ok(false) => return Err(RecordError::NotWritten),
+        Ok(false) => return Err(RecordError::TooLong),
         Err(_) => return Err(RecordError::OutOfMemory),
     }
     match encode(alloc, c, r) {
         Ok(bytes) => Ok(bytes),
-        Err(ReplayError::TooLong) => Err(RecordError::NotWritten),
+        Err(ReplayError::TooLong) => Err(RecordError::TooLong),
         Err(_) => Err(RecordError::OutOfMemory),
     }
 }
@@ -97,7 +97,7 @@ fn bytes_of(alloc: Global, c: &Component, r: &Recording) -> Result<Vec<u8>, Reco
 /// Why a script isn't read, as a recording that isn't written.
 fn error_of(refusal: ScriptError) -> RecordError
     ensures bad_script { (result ≡ error.BadScript) ↔ (refusal ≡ refused.BadScript) }
-    ensures no_other { ¬ (result ≡ error.NotWritten) }
+    ensures no_other { ¬ (result ≡ error.TooLong) }
 {
     match refusal {
         ScriptError::BadScript => RecordError::BadScript,

@@ -1,7 +1,7 @@
 //! The calls of a script that was played, as a recording.
 
-ghost use Rattle.std.specs.Prelude.{◌≡◌, IfOk, map};
-ghost use Rattle.canon_script.specs.Script.{item_view};
+ghost use Rattle.std.specs.Prelude.{◌≡◌, ◌↔◌, IfOk, map};
+ghost use Rattle.canon_script.specs.Script.{call_item, call_item_view, item_view};
 ghost use Rattle.canon_recording.specs.Recordings.{calls_in, served_ask, served_asks};
 ghost use Rattle.canon_replay_cli.specs.Taken.{IsTakenCall, TakesCalls, asked_of_served, breaks_law, orders_address, reallocs_in};
 
@@ -39,9 +39,20 @@ pub(crate) fn recording_of(
 fn recorded_of(alloc: Global, item: Item, played: Record) -> Result<Option<Recorded>, OutOfMemory>
     ensures taken { IfOk result (λ o. IsTakenCall (item_view item) played o) }
 {
-    let Item::Call(call) = item else {
-        return Ok(None);
-    };
+    match item {
+        Item::Call(call) => recorded_call(alloc, call, played),
+        Item::Typed(_) | Item::New(_) | Item::Drop(_) => Ok(None),
+    }
+}
+
+/// The same of a call.
+fn recorded_call(
+    alloc: Global,
+    call: CallItem,
+    played: Record,
+) -> Result<Option<Recorded>, OutOfMemory>
+    ensures taken { IfOk result (λ o. IsTakenCall (call_item (call_item_view call)) played o) }
+{
     let Record {
         events,
         served,
@@ -51,15 +62,17 @@ fn recorded_of(alloc: Global, item: Item, played: Record) -> Result<Option<Recor
     if breaks_law(&call.reallocs, events.as_slice()) {
         return Ok(None);
     }
-    let Answer::Ok(results) = answer else {
-        return Ok(None);
+    let results = match answer {
+        Answer::Ok(results) => results,
+        Answer::Err(_) | Answer::Typecheck | Answer::Skipped => return Ok(None),
     };
     let CallItem { func, params, .. } = call;
+    let served = served_of(alloc, served)?;
     Ok(Some(Recorded {
         export: func,
         params,
         events,
-        served: served_of(alloc, served)?,
+        served,
         results,
     }))
 }
