@@ -34,8 +34,8 @@ use Rattle.canon_model.specs.Shape.{Members, Shape, of_places, product}
 use Rattle.canon_types.specs.Instance.{Instance}
 use Rattle.canon_model.specs.Text.{Encoding}
 use Rattle.canon_model.specs.Tree.{Tree, parts, trees_of}
-use Rattle.canon_value_parts.proofs.Far.{far_other}
-use Rattle.canon_value_parts.proofs.Passing.{handles_instance, handles_then, same_handles, value_same_ledger, ungiven_elsewhere}
+use Rattle.canon_passing.proofs.Far.{far_other}
+use Rattle.canon_passing.proofs.Passing.{handles_instance, handles_then, same_handles, value_same_ledger, ungiven_elsewhere}
 use Rattle.canon_args.proofs.Near.{AreProducts, its_parts}
 use Rattle.canon_args.specs.Params.{AreSmallIn, BlamesIn, InParts, TypedParams}
 use Rattle.canon_lowering.specs.Stages.{Stage}

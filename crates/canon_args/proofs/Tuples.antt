@@ -27,7 +27,7 @@ use Rattle.canon_model.specs.Requests.{requests}
 use Rattle.canon_model.specs.Shape.{Members, of_places, product}
 use Rattle.canon_model.specs.Text.{Encoding}
 use Rattle.canon_model.specs.Tree.{Tree, Trees, parts, trees_of}
-use Rattle.canon_value_parts.specs.Args.{LowersResults}
+use Rattle.canon_passing.specs.Args.{LowersResults}
 use Rattle.canon_lowering.specs.Stages.{Stage}
 
 -- the words of a tuple are those of its members

@@ -15,7 +15,7 @@ use Rattle.canon_model.specs.Layout.{members_flat}
 use Rattle.canon_model.specs.Shape.{Members}
 use Rattle.canon_model.specs.Text.{Encoding}
 use Rattle.canon_model.specs.Tree.{Tree, Trees, parts, trees_of}
-use Rattle.canon_value_parts.specs.Args.{LowersParams}
+use Rattle.canon_passing.specs.Args.{LowersParams}
 
 -- the trees of the members, where the tuple has these
 abbrev pub InParts : (Tree → Type 0) → Trees → Type 0

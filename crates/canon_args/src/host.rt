@@ -11,7 +11,7 @@ ghost use Rattle.canon_model.specs.Layout.{members_flat, size};
 ghost use Rattle.canon_model.specs.Shape.{of_places, product};
 ghost use Rattle.canon_types.specs.Table.{HasTuple, tuple_members};
 ghost use Rattle.canon_types.specs.declared.types.InterfaceType.TheVariants.{Tuple};
-ghost use Rattle.canon_value_parts.specs.Args.{args_words};
+ghost use Rattle.canon_passing.specs.Args.{args_words};
 
 use crate::passed::lift_passed;
 use canon_context::{Fault, LiftContext, LowerContext};

@@ -8,13 +8,13 @@ ghost use Rattle.canon_model.specs.Layout.{members_flat};
 ghost use Rattle.canon_model.specs.Shape.{of_places, product};
 ghost use Rattle.canon_types.specs.Table.{HasTuple, tuple_members};
 ghost use Rattle.canon_types.specs.declared.types.InterfaceType.TheVariants.{Tuple};
-ghost use Rattle.canon_value_parts.specs.Args.{args_words};
+ghost use Rattle.canon_passing.specs.Args.{args_words};
 
 use canon_context::{Fault, LowerContext};
 use canon_lower::Lower;
 use canon_memory::{Guest, ValRaw};
+use canon_passing::ask_tuple;
 use canon_types::{InterfaceType, MAX_FLAT_PARAMS, TypeTupleIndex};
-use canon_value_parts::ask_tuple;
 
 /// Lowers the parameters of a function, whose types are those of the tuple, into words (CanonicalABI.md, "lower_flat_values"): in a row
 /// up to MAX_FLAT_PARAMS words, else as a tuple into a block that the guest is asked for, and one word that points to it. Answers the

@@ -23,7 +23,7 @@ use Rattle.canon_typed.specs.Trees.{IsTreeOf}
 use Rattle.canon_types.specs.Instance.{Instance}
 use Rattle.canon_types.specs.Table.{shape_of}
 use Rattle.canon_types.specs.declared.types.InterfaceType.TheVariants.{Tuple}
-use Rattle.canon_value_parts.specs.Args.{args_words}
+use Rattle.canon_passing.specs.Args.{args_words}
 
 -- in a row, or by a pointer
 passed_apart : {P : Type 0} (R : Reading P) → IsApart R → (b : Bool) → AreApart (reading_by b R)

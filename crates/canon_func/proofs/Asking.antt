@@ -1,14 +1,14 @@
 -- A guest that runs: how it is started, served and left.
 use Rattle.std.proofs.Common.{Err, List, None, Ok, Option, Result, Some, [], ap, arith, inl, inr, length, refl, subst, sym, ℕ, ◌++◌, ◌<◌, ◌∙◌, ◌∷◌, ◌≡◌, ◌≤◌}
 use Rattle.std.proofs.lemmas.List.{append-nil}
-use Rattle.std.specs.Prelude.{IsSome, slice_get, take, slice_index, slice_index_or}
+use Rattle.std.specs.Prelude.{slice_get, take, slice_index, slice_index_or}
 use Rattle.std.specs.Option.{option_and_then}
 use Rattle.canon_memory.specs.declared.event.Event.{Event}
 use Rattle.canon_memory.specs.declared.event.Event.TheVariants as event
 use Rattle.canon_memory.specs.declared.guest.Step.{Step}
 use Rattle.canon_memory.specs.declared.guest.Step.TheVariants as step
 use Rattle.canon_memory.specs.Guest.{Goes, Moment, Seen, moment}
-use Rattle.canon_memory.specs.Journal.{AddsEvents, trap_event}
+use Rattle.canon_memory.specs.Journal.{trap_event}
 use Rattle.canon_ledger.specs.Ledger.{Did, Done, LedgerState}
 use Rattle.canon_ledger.specs.declared.fault.ResourceFault.{ResourceFault}
 use Rattle.canon_ledger.specs.declared.fault.ResourceFault.TheVariants as resource

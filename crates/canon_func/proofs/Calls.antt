@@ -1,6 +1,6 @@
 -- What a call did, from what its steps did.
 use Rattle.std.proofs.Common.{Err, inl, inr, List, None, Ok, Result, [], ap, append_assoc, arith, length, refl, subst, sym, true, ℕ, ◌++◌, ◌∷◌, ◌∙◌, ◌≡◌, ◌≤◌}
-use Rattle.std.specs.Prelude.{IsSome, false}
+use Rattle.std.specs.Prelude.{false}
 use Rattle.std.proofs.lemmas.List.{append-nil}
 use Rattle.canon_model.specs.Flat.{max_params}
 use Rattle.canon_model.specs.Homes.{ParamsHome, PointsTo, host_texts}

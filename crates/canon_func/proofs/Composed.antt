@@ -1,6 +1,6 @@
 -- One step of a call after another.
 use Rattle.std.proofs.Common.{Err, List, None, Ok, Result, Some, Vec, Global, [], ap, append_assoc, arith, inl, inr, length, refl, subst, sym, ℕ, ◌++◌, ◌∙◌, ◌∷◌, ◌≡◌}
-use Rattle.std.specs.Prelude.{IfErr, IsSome, false}
+use Rattle.std.specs.Prelude.{IfErr, false}
 use Rattle.std.proofs.lemmas.List.{append-nil}
 use Rattle.canon_model.specs.Homes.{host_texts}
 use Rattle.canon_memory.specs.declared.error.GuestFault.{GuestFault}

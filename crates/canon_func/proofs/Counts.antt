@@ -1,5 +1,5 @@
 -- How many values and words a callee takes, and the first refusal.
-use Rattle.std.proofs.Common.{Bool, None, Option, Some, ap, arith, false, refl, sym, true, ℕ, ⊎_elim, ◌&&◌, ◌==◌, ◌∙◌, ◌∷◌, ◌≡◌, ◌≤◌, ◌<◌}
+use Rattle.std.proofs.Common.{Bool, None, Option, Some, ap, arith, false, refl, sym, true, ℕ, ⊎_elim, ◌&&◌, ◌==◌, ◌∙◌, ◌≡◌, ◌≤◌, ◌<◌}
 use Rattle.std.specs.Prelude.{nat_eq, slice_get, unwrap_or, ◌≢◌}
 use Rattle.std.specs.Option.{SomeIff}
 use Rattle.std.proofs.lemmas.Bool.{cases_lt, le-leb, lt-leb}

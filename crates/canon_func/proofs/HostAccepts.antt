@@ -13,7 +13,7 @@ use Rattle.canon_context.specs.declared.component.Import.TheVariants as import
 use Rattle.canon_context.specs.declared.fault.Fault.{Fault}
 use Rattle.canon_context.specs.declared.fault.Fault.TheVariants as fault
 use Rattle.canon_context.specs.declared.host.HostStop.TheVariants as stop
-use Rattle.canon_value_parts.specs.Args.{IsArea, IsNoArea}
+use Rattle.canon_passing.specs.Args.{IsArea, IsNoArea}
 use Rattle.canon_host.specs.HostSide.{Answering, HostSide}
 use Rattle.canon_host.specs.declared.asked.Asked.{Asked}
 use Rattle.canon_func.specs.AskForms.{AskForm}

@@ -1,25 +1,25 @@
 -- What lowering the results of a function of the host did, by how it ended.
-use Rattle.std.proofs.Common.{Bool, Err, false, List, None, Ok, Option, Result, Some, [], arith, inl, inr, length, refl, subst, sym, ℕ, ⊎_elim, ◌++◌, ◌+◌, ◌<◌, ◌∙◌, ◌≡◌, ◌≤◌, ◌⊎◌}
+use Rattle.std.proofs.Common.{Bool, Err, false, List, None, Ok, Option, Result, Some, [], arith, inl, inr, length, refl, subst, sym, ℕ, ⊎_elim, ◌+◌, ◌<◌, ◌∙◌, ◌≡◌, ◌≤◌, ◌⊎◌}
 use Rattle.std.proofs.lemmas.Bool.{cases_lt, le-leb, lt-leb}
 use Rattle.std.specs.Prelude.{IfErr, if◌then◌else◌, nat_le, take}
 use Rattle.canon_model.specs.Flat.{max_results}
 use Rattle.canon_model.specs.Layout.{members_flat}
 use Rattle.canon_model.specs.Shape.{Members}
-use Rattle.canon_memory.specs.declared.event.Event.{Event}
 use Rattle.canon_memory.specs.Guest.{Goes, Moment}
 use Rattle.canon_ledger.specs.Ledger.{LedgerState}
 use Rattle.canon_ledger.specs.declared.fault.ResourceFault.TheVariants as resource
 use Rattle.canon_lowering.specs.Lowering.{AllLawful, Answer, CauseOf, Ending, Trap, UnlessShort, done, events_of, marks_of, misaligned, out_of_bounds, refused, short, trapped}
 use Rattle.canon_context.specs.Core.{Parts, guest_of, moment_of, stage_of}
-use Rattle.canon_context.specs.Lowers.{ending_of, fault_ending}
+use Rattle.canon_context.specs.Lowers.{fault_ending}
 use Rattle.canon_context.specs.Quiet.{have_handle}
 use Rattle.canon_context.specs.declared.fault.Fault.{Fault}
 use Rattle.canon_context.specs.declared.fault.Fault.TheVariants as fault
 use Rattle.canon_context.specs.declared.host.HostStop.{HostStop}
 use Rattle.canon_context.specs.declared.host.HostStop.TheVariants as stop
 use Rattle.canon_resources.specs.Parts.{PassedResource}
-use Rattle.canon_value_parts.specs.Args.{IsNoArea, LowersResults}
-use Rattle.canon_value_parts.specs.Resources.{EndsAs, UsesLedger, all_passes}
+use Rattle.canon_passing.specs.Args.{IsNoArea, LowersResults}
+use Rattle.canon_passing.specs.Passed.{EndsAs, UsesLedger}
+use Rattle.canon_value_parts.specs.Resources.{all_passes}
 use Rattle.canon_val.specs.Value.{HaveTrees}
 use Rattle.canon_model.specs.Memory.{cap}
 use Rattle.canon_val.specs.declared.val.Val.{Val}

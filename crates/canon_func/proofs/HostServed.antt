@@ -9,7 +9,6 @@ use Rattle.canon_model.specs.Memory.{low}
 use Rattle.canon_model.specs.Shape.{Members, of_places, product}
 use Rattle.canon_memory.specs.declared.event.Event.{Event}
 use Rattle.canon_memory.specs.Guest.{Goes, GuestIn, IsUnheld, Seen, moment}
-use Rattle.canon_memory.specs.Journal.{AddsEvents}
 use Rattle.canon_ledger.specs.Books.{DidSurely}
 use Rattle.canon_ledger.specs.Ledger.{LedgerState, enter, leave}
 use Rattle.canon_ledger.specs.declared.fault.ResourceFault.{ResourceFault}
@@ -22,7 +21,7 @@ use Rattle.canon_context.specs.declared.component.Export.{Export}
 use Rattle.canon_context.specs.declared.host.HostStop.{HostStop}
 use Rattle.canon_context.specs.declared.host.HostStop.TheVariants as stop
 use Rattle.canon_types.specs.Table.{result_members}
-use Rattle.canon_value_parts.specs.Args.{args_words}
+use Rattle.canon_passing.specs.Args.{args_words}
 use Rattle.canon_host.specs.Asked.{AreEnough, row_words}
 use Rattle.canon_host.specs.Forms.{in_view}
 use Rattle.canon_host.specs.HostSide.{Answering, LoggedEntry, HostSide, host_side}

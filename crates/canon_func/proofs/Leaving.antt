@@ -1,6 +1,6 @@
 -- A scope that ended is empty, and stays so while own handles are lifted.
-use Rattle.std.proofs.Common.{Bool, Err, List, None, Ok, Option, Some, [], ap, refl, subst, sym, true, ℕ, ◌&&◌, ◌-◌, ◌<◌, ◌==◌, ◌∙◌, ◌∷◌, ◌≡◌}
-use Rattle.std.specs.Prelude.{false, if◌then◌else◌, not}
+use Rattle.std.proofs.Common.{Bool, Err, List, None, Ok, Option, Some, [], ap, refl, subst, sym, true, ℕ, ◌==◌, ◌∙◌, ◌∷◌, ◌≡◌}
+use Rattle.std.specs.Prelude.{false, not}
 use Rattle.canon_handles.specs.Step.{refuse_if}
 use Rattle.canon_ledger.specs.Handles.{Handles, OpenScope, StepAnswer, can_leave, exit_scope, opened, scope_at, top_scope}
 use Rattle.canon_ledger.specs.Ledger.{LedgerState, plainly}

@@ -1,8 +1,7 @@
 -- What lowering the parameters did.
 use Rattle.std.proofs.Common.{Bool, Err, List, None, Ok, Option, Result, Some, [], ap, inl, inr, length, map, refl, subst, sym, ℕ, ◌++◌, ◌∙◌, ◌≡◌, ◌≤◌, ◌⊎◌}
-use Rattle.std.specs.Prelude.{IsSome, drop, false, slice_get, take}
+use Rattle.std.specs.Prelude.{drop, false, slice_get, take}
 use Rattle.std.proofs.Math.Seq.{take-append_seam}
-use Rattle.std.proofs.lemmas.Bool.{false≢true}
 use Rattle.canon_model.specs.Homes.{host_texts}
 use Rattle.canon_model.specs.Flat.{max_params}
 use Rattle.canon_model.specs.Memory.{Block}
@@ -22,11 +21,12 @@ use Rattle.canon_lowering.specs.Attempt.{Aim, Attempt, LowersArgs, args_in}
 use Rattle.canon_lowering.specs.Lowering.{Answer, CauseOf, Ending, Trap, UnlessShort, done, events_of, marks_of, refused, short}
 use Rattle.canon_lowering.specs.Stages.{GoesBy, Stage, bare, moment_at}
 use Rattle.canon_context.specs.Core.{Parts}
-use Rattle.canon_value_parts.specs.Args.{LowersParams}
+use Rattle.canon_passing.specs.Args.{LowersParams}
 use Rattle.canon_value_parts.specs.Fails.{AreSmall, BlamesMembers}
 use Rattle.canon_context.specs.Lowers.{fault_ending}
 use Rattle.canon_context.specs.Quiet.{have_block, have_handle}
-use Rattle.canon_value_parts.specs.Resources.{Crosses, EndsAs, UsesLedger, all_passes, told_fault}
+use Rattle.canon_passing.specs.Passed.{Crosses, EndsAs, UsesLedger, told_fault}
+use Rattle.canon_value_parts.specs.Resources.{all_passes}
 use Rattle.canon_context.specs.Faults.{stop_of}
 use Rattle.canon_val.specs.Value.{HaveTrees}
 use Rattle.canon_context.specs.declared.fault.Fault.{Fault}

@@ -7,7 +7,7 @@ use Rattle.canon_model.specs.Memory.{Memory, ptr}
 use Rattle.canon_model.specs.Reach.{is_good}
 use Rattle.canon_model.specs.Shape.{Cases, Members, Shape, bare, borrow, fixed, flags, list, member, no_cases, no_members, of_places, own, payload, product, scalar, string, variant}
 use Rattle.canon_types.specs.Depth.{case_borrows, has_borrow, member_borrows}
-use Rattle.canon_value_parts.proofs.Steps.{no_first, no_later}
+use Rattle.canon_passing.proofs.Shapes.{no_first, no_later}
 
 abbrev pub AreOwned : List Leaf → Type 0
 AreOwned [] = ⊤

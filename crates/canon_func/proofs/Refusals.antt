@@ -1,6 +1,6 @@
 -- What a call did whose parameters weren't lowered.
 use Rattle.std.proofs.Common.{Err, inl, inr, List, None, Option, Some, [], ap, arith, length, refl, subst, sym, ℕ, ◌++◌, ◌%◌, ◌+◌, ◌∷◌, ◌∙◌, ◌≡◌, ◌≤◌}
-use Rattle.std.specs.Prelude.{IsSome, false, slice_index}
+use Rattle.std.specs.Prelude.{false, slice_index}
 use Rattle.std.proofs.lemmas.List.{append-nil}
 use Rattle.canon_model.specs.Homes.{host_texts}
 use Rattle.canon_model.specs.Requests.{Call, Request, host_asks, params_requests}
@@ -13,7 +13,7 @@ use Rattle.canon_ledger.specs.declared.fault.ResourceFault.TheVariants as resour
 use Rattle.canon_resources.specs.Parts.{LeavesStop, refusal_of}
 use Rattle.canon_lowering.specs.Attempt.{LowersArgs}
 use Rattle.canon_lowering.specs.Lowering.{Accepted, AllLawful, Answer, BeginsWith, Calm, CauseOf, Ending, Meets, Trap, done, refused, short, events_of, marks_of}
-use Rattle.canon_value_parts.specs.Resources.{told_fault}
+use Rattle.canon_passing.specs.Passed.{told_fault}
 use Rattle.canon_context.specs.Faults.{stop_of}
 use Rattle.canon_context.specs.Lowers.{fault_ending}
 use Rattle.canon_context.specs.declared.fault.Fault.{Fault}

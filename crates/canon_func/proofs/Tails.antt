@@ -1,6 +1,6 @@
 -- What comes after the turns of a call, and a call from it.
 use Rattle.std.proofs.Common.{Err, List, None, Ok, Option, Result, [], ap, append_assoc, arith, inl, inr, length, refl, subst, sym, ℕ, ◌++◌, ◌+◌, ◌∙◌, ◌∷◌, ◌≡◌, ◌≤◌}
-use Rattle.std.specs.Prelude.{IfErr, IfOk, IsOkUnless, IsSome, OnOk, ◌≢◌}
+use Rattle.std.specs.Prelude.{IfErr, IfOk, IsOkUnless, OnOk, ◌≢◌}
 use Rattle.canon_memory.specs.declared.event.Event.{Event}
 use Rattle.canon_memory.specs.declared.event.Event.TheVariants as event
 use Rattle.canon_memory.specs.Guest.{Moment, Seen}

@@ -1,5 +1,5 @@
 -- What lowering a Rust tuple of parameters did.
-use Rattle.std.proofs.Common.{Err, Global, List, Ok, Result, Some, Vec, [], ap, inl, inr, length, refl, subst, sym, ℕ, ◌++◌, ◌≡◌, ◌⊎◌}
+use Rattle.std.proofs.Common.{Err, Global, List, Ok, Result, Vec, [], ap, inl, inr, length, refl, subst, sym, ℕ, ◌≡◌, ◌⊎◌}
 use Rattle.std.specs.Prelude.{false}
 use Rattle.canon_args.specs.Params.{AreSmallIn, BlamesIn, InParts, TypedParams}
 use Rattle.canon_context.proofs.Moves.{GuestLaws, moved_by}
@@ -13,17 +13,16 @@ use Rattle.canon_lower_parts.specs.Blames.{IsElsewhere, IsLargeFault}
 use Rattle.canon_lower_parts.specs.Lowers.{EndsBy}
 use Rattle.canon_lowering.specs.Attempt.{LowersArgs}
 use Rattle.canon_lowering.specs.Lowering.{Ending, done, events_of}
-use Rattle.canon_memory.specs.declared.event.Event.{Event}
 use Rattle.canon_model.specs.Homes.{host_texts}
 use Rattle.canon_model.specs.Flat.{max_params}
 use Rattle.canon_model.specs.Shape.{Members}
 use Rattle.canon_model.specs.Text.{Encoding}
 use Rattle.canon_model.specs.Tree.{Tree}
 use Rattle.canon_value_parts.proofs.Crossing.{value_told_by}
-use Rattle.canon_value_parts.specs.Args.{LowersParams}
-use Rattle.canon_value_parts.specs.Resources.{told_fault}
+use Rattle.canon_passing.specs.Args.{LowersParams}
+use Rattle.canon_passing.specs.Passed.{told_fault}
 use Rattle.canon_context.specs.Faults.{stop_of}
-use Rattle.canon_func.proofs.Lowered.{args_done, args_refused, ended_moves, refused_moves}
+use Rattle.canon_func.proofs.Lowered.{args_done, args_refused, ended_moves}
 use Rattle.canon_func.specs.Call.{Adding, AsksByTypes, OnAnswered, words_within}
 use Rattle.canon_func.specs.Steps.{EndsFor}
 use Rattle.canon_func.specs.Typed.{tuple_args}

@@ -9,7 +9,6 @@ use Rattle.canon_args.specs.Results.{LowersTuple}
 use Rattle.canon_model.specs.Flat.{max_params, max_results}
 use Rattle.canon_model.specs.Layout.{flat, members_flat}
 use Rattle.canon_model.specs.Tree.{Tree}
-use Rattle.canon_memory.specs.declared.event.Event.{Event}
 use Rattle.canon_memory.specs.Guest.{Goes, Moment, Seen}
 use Rattle.canon_ledger.specs.Ledger.{LedgerState}
 use Rattle.canon_ledger.specs.declared.fault.ResourceFault.TheVariants as resource
@@ -28,7 +27,7 @@ use Rattle.canon_context.specs.Quiet.{have_block}
 use Rattle.canon_context.specs.declared.component.Export.{Export}
 use Rattle.canon_context.specs.declared.fault.Fault.{Fault}
 use Rattle.canon_context.specs.declared.fault.Fault.TheVariants as fault
-use Rattle.canon_value_parts.specs.Args.{args_words}
+use Rattle.canon_passing.specs.Args.{args_words}
 use Rattle.canon_host.specs.Forms.{IsOfOthers, RustTypes, TypedAnswering}
 use Rattle.canon_host.specs.HostSide.{LoggedEntry, Giving}
 use Rattle.canon_host.specs.Imports.{Declines, steps_of_types}

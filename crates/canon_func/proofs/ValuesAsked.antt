@@ -10,7 +10,6 @@ use Rattle.canon_model.specs.Text.{Encoding}
 use Rattle.canon_model.specs.Tree.{Trees}
 use Rattle.canon_model.proofs.Faults.{fault_excludes}
 use Rattle.canon_model.proofs.Reached.{reach_is_the_cost}
-use Rattle.canon_memory.specs.declared.event.Event.{Event}
 use Rattle.canon_memory.specs.Guest.{Moment, Seen}
 use Rattle.canon_ledger.specs.Ledger.{LedgerState}
 use Rattle.canon_ledger.specs.declared.fault.ResourceFault.TheVariants as resource
@@ -27,10 +26,11 @@ use Rattle.canon_context.specs.declared.component.Export.{Export}
 use Rattle.canon_context.specs.declared.fault.Fault.{Fault}
 use Rattle.canon_context.specs.declared.fault.Fault.TheVariants as fault
 use Rattle.canon_value_parts.proofs.Values.{failure_excludes}
-use Rattle.canon_value_parts.specs.Args.{args_words}
+use Rattle.canon_passing.specs.Args.{args_words}
 use Rattle.canon_value_parts.specs.Fails.{AreSmall, BlamesMembers, Failure, IsTypeFailure, MemberFails, field_name, mismatch, payload_expected, payload_not_expected, unknown_case, unknown_flag, wrong_length}
 use Rattle.canon_value_parts.specs.Lifts.{LiftsParams}
-use Rattle.canon_value_parts.specs.Resources.{EndsAs, all_passes, told_fault}
+use Rattle.canon_passing.specs.Passed.{EndsAs, told_fault}
+use Rattle.canon_value_parts.specs.Resources.{all_passes}
 use Rattle.canon_context.specs.Faults.{stop_of}
 use Rattle.canon_val.specs.Value.{HaveTrees}
 use Rattle.canon_val.specs.declared.val.Val.{Val}

@@ -22,7 +22,7 @@ use Rattle.canon_model.specs.Tree.{Trees, parts}
 use Rattle.canon_typed.specs.Trees.{IsTreeOf}
 use Rattle.canon_types.specs.Table.{shape_of}
 use Rattle.canon_types.specs.declared.types.InterfaceType.TheVariants.{Tuple}
-use Rattle.canon_value_parts.specs.Args.{args_words}
+use Rattle.canon_passing.specs.Args.{args_words}
 
 -- Words enough were given. The shapes of a table's tuples are those of their members, as `ComponentTypes::tuple` finds them.
 pub record HasEnoughWords (callee : Callee) (asked : Asked) (words : List ℕ) : Type 0 where

@@ -21,7 +21,7 @@ use Rattle.canon_lowering.specs.Lowering.{Answer, Ending, Trap}
 use Rattle.canon_lowering.specs.Storing.{narrow}
 use Rattle.canon_context.specs.Quiet.{have_block}
 use Rattle.canon_context.specs.declared.fault.Fault.{Fault}
-use Rattle.canon_value_parts.specs.Args.{args_words}
+use Rattle.canon_passing.specs.Args.{args_words}
 use Rattle.canon_host.specs.Forms.{RustTypes}
 use Rattle.canon_host.specs.declared.asked.Asked.{Asked}
 use Rattle.canon_func.specs.AskValues.{asked_origin, asked_params, asked_results}

@@ -20,10 +20,11 @@ use Rattle.canon_context.specs.Component.{encoding_in}
 use Rattle.canon_context.specs.Lifter.{Origin}
 use Rattle.canon_context.specs.Quiet.{have_block, have_handle}
 use Rattle.canon_context.specs.declared.fault.Fault.{Fault}
-use Rattle.canon_value_parts.specs.Args.{args_words}
+use Rattle.canon_passing.specs.Args.{args_words}
 use Rattle.canon_value_parts.specs.Fails.{AreSmall, BlamesMembers}
 use Rattle.canon_value_parts.specs.Lifts.{LiftsParams}
-use Rattle.canon_value_parts.specs.Resources.{Crosses, all_passes}
+use Rattle.canon_passing.specs.Passed.{Crosses}
+use Rattle.canon_value_parts.specs.Resources.{all_passes}
 use Rattle.canon_val.specs.Value.{HaveTrees}
 use Rattle.canon_val.specs.declared.val.Val.{Val}
 use Rattle.canon_host.specs.declared.asked.Asked.{Asked}

@@ -1,6 +1,6 @@
 -- What a call did. Of a call that entered the guest this is said over what its parameters and its results are (`Arguments` and `ReturnedValues`);
 -- at the end stands what it says of dynamic values.
-use Rattle.std.specs.Prelude.{Bool, Err, IfErr, IfOk, IsOkUnless, IsSome, List, None, Ok, OnOk, Option, Result, Some, [], false, if◌then◌else◌, length, map, nat_le, not, slice_get, slice_index, true, ℕ, ⊤, ◌%◌, ◌&&◌, ◌++◌, ◌+◌, ◌<◌, ◌==◌, ◌∷◌, ◌≡◌, ◌≢◌, ◌≤◌, ◌⊎◌}
+use Rattle.std.specs.Prelude.{Bool, Err, IfErr, IfOk, IsOkUnless, List, None, Ok, OnOk, Option, Result, Some, [], false, if◌then◌else◌, length, map, nat_le, not, slice_get, slice_index, true, ℕ, ⊤, ◌%◌, ◌&&◌, ◌++◌, ◌+◌, ◌<◌, ◌==◌, ◌∷◌, ◌≡◌, ◌≢◌, ◌≤◌, ◌⊎◌}
 use Rattle.canon_model.specs.Cost.{members_cost}
 use Rattle.canon_model.specs.Flat.{RepArgs, RepResults, max_params, max_results}
 use Rattle.canon_model.specs.Homes.{ParamsHome, PointsTo, host_texts}
@@ -26,7 +26,7 @@ use Rattle.canon_ledger.specs.Ledger.{Done, LedgerState, enter, leave, validate_
 use Rattle.canon_ledger.specs.declared.fault.ResourceFault.{ResourceFault}
 use Rattle.canon_resources.specs.Held.{Any}
 use Rattle.canon_resources.specs.Parts.{LeavesLift, LeavesStop, LeavesTake, Part, lift_parts, lower_parts, refusal_of}
-use Rattle.canon_value_parts.specs.Args.{AsksTuple}
+use Rattle.canon_passing.specs.Args.{AsksTuple}
 use Rattle.canon_value_parts.specs.Fails.{AreSmall, BlamesMembers}
 use Rattle.canon_value_parts.specs.Lifts.{AreResults}
 use Rattle.canon_context.specs.Lowers.{fault_ending}

@@ -1,5 +1,5 @@
 -- The steps of a call.
-use Rattle.std.specs.Prelude.{Err, IfErr, IfOk, IsOkUnless, IsSome, List, Option, take, None, Ok, OnOk, Result, Some, Vec, [], false, length, ℕ, ⊤, ◌++◌, ◌∷◌, ◌≡◌, ◌≢◌, ◌⊎◌, ◌<◌, ◌≤◌}
+use Rattle.std.specs.Prelude.{Err, IfErr, IfOk, IsOkUnless, List, Option, take, None, Ok, OnOk, Result, Some, Vec, [], false, length, ℕ, ⊤, ◌++◌, ◌∷◌, ◌≡◌, ◌≢◌, ◌⊎◌, ◌<◌, ◌≤◌}
 use Rattle.std.specs.declared.alloc.Global.{Global}
 use Rattle.canon_model.specs.Homes.{host_texts}
 use Rattle.canon_model.specs.Flat.{max_params}
@@ -18,15 +18,16 @@ use Rattle.canon_lowering.specs.Lowering.{AllLawful, Answer, Ending, Trap, done,
 use Rattle.canon_value_parts.specs.Fails.{AreSmall, BlamesMembers}
 use Rattle.canon_ledger.specs.Ledger.{LedgerState, leave}
 use Rattle.canon_resources.specs.Parts.{LeavesStop, LeavesTake, refusal_of}
-use Rattle.canon_value_parts.specs.Args.{LowersParams}
+use Rattle.canon_passing.specs.Args.{LowersParams}
 use Rattle.canon_value_parts.specs.Lifts.{LiftsResults}
-use Rattle.canon_value_parts.specs.Resources.{Crosses, QuietBut, all_passes, told_fault}
+use Rattle.canon_passing.specs.Passed.{Crosses, QuietBut, told_fault}
+use Rattle.canon_value_parts.specs.Resources.{all_passes}
 use Rattle.canon_context.specs.Faults.{stop_of}
 use Rattle.canon_types.specs.Table.{tuple_members}
 use Rattle.canon_context.specs.Asks.{SameButHandles}
 use Rattle.canon_context.specs.Core.{Parts, SameButLedger, component_types, encoding_by, stage_of}
 use Rattle.canon_context.specs.Lifter.{Origin}
-use Rattle.canon_context.specs.Lowers.{ending_of, fault_ending}
+use Rattle.canon_context.specs.Lowers.{fault_ending}
 use Rattle.canon_context.specs.Quiet.{have_block, have_handle}
 use Rattle.canon_context.specs.Told.{Exactly, LiftBlames}
 use Rattle.canon_context.specs.declared.fault.Fault.{Fault}

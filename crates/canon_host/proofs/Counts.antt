@@ -1,13 +1,13 @@
 -- How many values and words a tuple takes.
-use Rattle.std.proofs.Common.{List, None, Option, Some, arith, le-leb, length, max, nat_le, refl, sym, ℕ, ⊎_elim, ◌+◌, ◌∙◌, ◌∷◌, ◌≡◌, ◌≤◌, ◌<◌}
+use Rattle.std.proofs.Common.{List, None, Option, Some, arith, le-leb, length, max, nat_le, refl, sym, ℕ, ⊎_elim, ◌+◌, ◌∙◌, ◌≡◌, ◌≤◌, ◌<◌}
 use Rattle.std.specs.Prelude.{SomeIff, unwrap_or}
 use Rattle.std.proofs.Math.Nat.{le-max_left, le-max_right}
 use Rattle.std.proofs.lemmas.Bool.{cases_lt, cond-false, cond-true, lt-leb}
 use Rattle.canon_model.specs.Flat.{max_params, max_results}
 use Rattle.canon_model.specs.Layout.{flat, members_flat}
 use Rattle.canon_model.specs.Shape.{Members, of_places, product}
-use Rattle.canon_value_parts.proofs.Far.{far_words, value_near_words}
-use Rattle.canon_value_parts.specs.Args.{args_words}
+use Rattle.canon_passing.proofs.Far.{far_words, value_near_words}
+use Rattle.canon_passing.specs.Args.{args_words}
 use Rattle.canon_host.specs.Asked.{AreEnough, pointer_words, row_words, storage_words}
 
 pub product_flat : (ms : Members) → flat (product of_places ms) ≡ members_flat ms

@@ -7,7 +7,6 @@ use Rattle.std.specs.declared.alloc.Global.{Global}
 use Rattle.canon_context.specs.Asks.{SameButHandles}
 use Rattle.canon_context.specs.Core.{Parts, SameButLedger, component_types, encoding_by, guest_of, stage_of}
 use Rattle.canon_context.specs.Host.{Closure, Gave, HostSteps}
-use Rattle.canon_context.specs.Lowers.{ending_of}
 use Rattle.canon_context.specs.Quiet.{have_block, have_handle}
 use Rattle.canon_context.specs.declared.fault.Fault.{Fault}
 use Rattle.canon_context.specs.declared.fault.Fault.TheVariants as fault
@@ -28,9 +27,10 @@ use Rattle.canon_model.specs.Text.{Encoding}
 use Rattle.canon_model.specs.Tree.{Trees}
 use Rattle.canon_types.specs.Table.{param_members, result_members}
 use Rattle.canon_types.specs.declared.types.TypeFunc.{TypeFunc}
-use Rattle.canon_value_parts.specs.Args.{LowersResults}
+use Rattle.canon_passing.specs.Args.{LowersResults}
 use Rattle.canon_value_parts.specs.Fails.{AreSmall, BlamesMembers}
-use Rattle.canon_value_parts.specs.Resources.{Crosses, QuietBut, all_passes}
+use Rattle.canon_passing.specs.Passed.{Crosses, QuietBut}
+use Rattle.canon_value_parts.specs.Resources.{all_passes}
 use Rattle.canon_val.specs.Value.{HaveTrees}
 use Rattle.canon_val.specs.declared.val.Val.{Val}
 use Rattle.canon_val.specs.declared.val.Val.TheVariants as val

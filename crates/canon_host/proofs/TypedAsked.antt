@@ -17,7 +17,7 @@ use Rattle.canon_types.specs.Instance.{Instance}
 use Rattle.canon_types.specs.Table.{param_members}
 use Rattle.canon_types.specs.declared.types.InterfaceType.{InterfaceType}
 use Rattle.canon_types.specs.declared.types.InterfaceType.TheVariants.{Tuple}
-use Rattle.canon_value_parts.specs.Args.{args_words}
+use Rattle.canon_passing.specs.Args.{args_words}
 
 -- what is left is of no account
 pub its_lifted : {P : Type 0} (reading : Reading P) (Means : P → Tree → Type 0) (price : Tree → ℕ) (t : Tree) (end after : LedgerState) (fuel left : ℕ) (result : Result P Fault)

@@ -6,7 +6,7 @@ use Rattle.canon_model.specs.Shape.{Members}
 use Rattle.canon_types.specs.Table.{HasTuple, TypeTable, param_members, result_members}
 use Rattle.canon_context.specs.Component.{HasOptions}
 use Rattle.canon_context.specs.declared.component.Component.{Component}
-use Rattle.canon_value_parts.specs.Args.{args_words}
+use Rattle.canon_passing.specs.Args.{args_words}
 use Rattle.canon_host.specs.declared.asked.Asked.{Asked}
 
 -- it is a function of the component, under options of it

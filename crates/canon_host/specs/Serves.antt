@@ -6,7 +6,6 @@ use Rattle.canon_context.specs.Asks.{SameButHandles}
 use Rattle.canon_context.specs.Core.{Parts, SameButLedger, component_types, encoding_by, stage_of}
 use Rattle.canon_context.specs.Host.{Closure, Gave, HostSteps}
 use Rattle.canon_context.specs.Lifter.{origin_in}
-use Rattle.canon_context.specs.Lowers.{ending_of}
 use Rattle.canon_context.specs.Quiet.{have_block, have_handle}
 use Rattle.canon_context.specs.declared.fault.Fault.{Fault}
 use Rattle.canon_context.specs.declared.fault.Fault.TheVariants as fault
@@ -27,10 +26,11 @@ use Rattle.canon_model.specs.Memory.{Block}
 use Rattle.canon_model.specs.Shape.{member_count, of_places, product}
 use Rattle.canon_types.specs.Table.{TypeTable, param_members, result_members}
 use Rattle.canon_types.specs.declared.types.TypeFunc.{TypeFunc}
-use Rattle.canon_value_parts.specs.Args.{IsArea, IsNoArea, LowersResults, args_words}
+use Rattle.canon_passing.specs.Args.{IsArea, IsNoArea, LowersResults, args_words}
 use Rattle.canon_value_parts.specs.Fails.{AreSmall, BlamesMembers}
 use Rattle.canon_value_parts.specs.Lifts.{LiftsParams}
-use Rattle.canon_value_parts.specs.Resources.{Crosses, QuietBut, all_passes}
+use Rattle.canon_passing.specs.Passed.{Crosses, QuietBut}
+use Rattle.canon_value_parts.specs.Resources.{all_passes}
 use Rattle.canon_val.specs.Value.{HaveTrees}
 use Rattle.canon_val.specs.declared.val.Val.{Val}
 use Rattle.canon_val.specs.declared.val.Val.TheVariants as val

@@ -27,7 +27,7 @@ use Rattle.canon_types.specs.Table.{param_members, result_members}
 use Rattle.canon_types.specs.declared.types.InterfaceType.{InterfaceType}
 use Rattle.canon_types.specs.declared.types.InterfaceType.TheVariants.{Tuple}
 use Rattle.canon_types.specs.declared.types.TypeFunc.{TypeFunc}
-use Rattle.canon_value_parts.specs.Args.{args_words}
+use Rattle.canon_passing.specs.Args.{args_words}
 
 -- the tuples of the parameters and of the results are those of Rust types
 pub record FitRustTypes (FitParams FitResults : Instance → InterfaceType → Type 0) (i : Instance) (func : TypeFunc) : Type 0 where

@@ -8,7 +8,7 @@ ghost use Rattle.canon_model.specs.Shape.{member_count};
 ghost use Rattle.canon_types.specs.Table.{HasFunc, HasTuple, param_members, result_members, tuple_members};
 ghost use Rattle.canon_context.specs.Component.{HasOptions};
 ghost use Rattle.canon_context.specs.Core.{component_types};
-ghost use Rattle.canon_value_parts.specs.Args.{args_words};
+ghost use Rattle.canon_passing.specs.Args.{args_words};
 ghost use Rattle.canon_host.specs.Asked.{HasRoomFor, IsAsked, asked_words, pointer_words, row_words, storage_words};
 
 use canon_abi::{MAX_FLAT_PARAMS, MAX_FLAT_RESULTS};

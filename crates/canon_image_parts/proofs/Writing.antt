@@ -31,7 +31,8 @@ use Rattle.canon_plan.proofs.Lookups.{copies_count, drop_all, members_from-all}
 use Rattle.canon_plan.proofs.ScalarTypes.{scalar_shape}
 use Rattle.canon_value_parts.proofs.Scalars.{scalar_places}
 use Rattle.canon_value_parts.proofs.Steps.{blames_first, blames_itself, blames_later}
-use Rattle.canon_value_parts.proofs.StoreSteps.{heads, least_low}
+use Rattle.canon_passing.proofs.Shapes.{least_low}
+use Rattle.canon_value_parts.proofs.StoreSteps.{heads}
 use Rattle.canon_value_parts.proofs.WalkCases.{tag_fits}
 use Rattle.canon_value_parts.proofs.Walks.{copies_fail, copies_have, copies_names}
 use Rattle.canon_model.proofs.NumberBytes.{le_bytes_low}

@@ -7,7 +7,7 @@ ghost use Rattle.canon_lower_parts.specs.Gives.{row_gives};
 ghost use Rattle.canon_lower_parts.specs.Stores.{TypedMembersStore, TypedStores};
 ghost use Rattle.canon_lower_parts.specs.Tuples.{member_type, members_after, types_from, types_of_tuple};
 ghost use Rattle.canon_lower_parts.specs.Words.{TypedLowers, TypedMembersLower};
-ghost use Rattle.canon_value_parts.specs.Words.{WordsStay};
+ghost use Rattle.canon_passing.specs.Words.{WordsStay};
 ghost use Rattle.canon_model.specs.Layout.{begins, ends, flat, members_end, members_flat};
 ghost use Rattle.canon_model.specs.Shape.{Shape};
 ghost use Rattle.canon_model.specs.Tree.{Trees};

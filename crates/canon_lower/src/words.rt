@@ -7,7 +7,7 @@ ghost use Rattle.canon_lower_parts.specs.Gives.{payload_gives};
 ghost use Rattle.canon_typed.specs.Meaning.{CaseMeans};
 ghost use Rattle.canon_typed.specs.Types.{IsPayloadOf};
 ghost use Rattle.canon_lower_parts.specs.Words.{IsCaseWords, TypedLowers};
-ghost use Rattle.canon_value_parts.specs.Words.{WordsStay};
+ghost use Rattle.canon_passing.specs.Words.{WordsStay};
 ghost use Rattle.canon_model.specs.Layout.{flat, members_flat};
 ghost use Rattle.canon_model.specs.Shape.{Shape};
 ghost use Rattle.canon_types.specs.Table.{Knows, KnowsPayload, all_shapes, payload_in, shape_of};

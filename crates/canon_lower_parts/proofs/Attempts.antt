@@ -9,10 +9,10 @@ use Rattle.canon_context.specs.declared.fault.Fault.TheVariants as fault
 use Rattle.canon_resources.proofs.Leaves.{leaves_stop_first, leaves_stop_then, leaves_then, stops_at_once}
 use Rattle.canon_resources.specs.Parts.{LeavesStop, LeavesTake, Part}
 use Rattle.canon_ledger.specs.Ledger.{LedgerState}
-use Rattle.canon_value_parts.proofs.Passing.{handles_then, no_stop}
+use Rattle.canon_passing.proofs.Passing.{handles_then, no_stop}
 use Rattle.canon_lower_parts.specs.Blames.{IsElsewhere}
 use Rattle.canon_lower_parts.specs.Lowers.{EndsBy, HandlesCross, TypedAttempt}
-use Rattle.canon_value_parts.specs.Resources.{ledger_fault}
+use Rattle.canon_passing.specs.Passed.{ledger_fault}
 use Rattle.canon_context.specs.Faults.{stop_of}
 use Rattle.canon_lowering.proofs.Attempts.{attempt_other}
 use Rattle.canon_lowering.proofs.Lowerings.{NotDone}

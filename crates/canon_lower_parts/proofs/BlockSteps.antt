@@ -27,7 +27,7 @@ use Rattle.canon_model.specs.Text.{Encoding}
 use Rattle.canon_model.specs.Tree.{Tree, Trees, items, tree_count, trees_of}
 use Rattle.canon_lower_parts.proofs.Attempts.{Cause, cause_of, cross_stopped, ends_done, ends_early, lower_not_false}
 use Rattle.canon_lower_parts.proofs.TooLarge.{block_small}
-use Rattle.canon_value_parts.proofs.Passing.{handles_then, same_handles, value_same_ledger, ungiven_elsewhere}
+use Rattle.canon_passing.proofs.Passing.{handles_then, same_handles, value_same_ledger, ungiven_elsewhere}
 use Rattle.canon_lower_parts.specs.Blames.{HasLarge, HaveLarge, IsElsewhere, SomeTree}
 use Rattle.canon_lower_parts.specs.Lowers.{HandlesCross}
 use Rattle.canon_lower_parts.specs.Places.{BlockAsked, IsGivenBlock, IsNoBlock, IsPairPut, TypedPlaces}

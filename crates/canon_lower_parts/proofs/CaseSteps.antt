@@ -20,7 +20,7 @@ use Rattle.canon_lower_parts.specs.Blames.{HasLarge, HaveLarge}
 use Rattle.canon_lower_parts.specs.CasePuts.{IsCasePut, PayloadTrees, unless_unit}
 use Rattle.canon_lower_parts.specs.Cases.{payload_members}
 use Rattle.canon_lower_parts.specs.Stores.{TypedMembersStore, TypedStores}
-use Rattle.canon_value_parts.proofs.Cases.{case_quiet}
+use Rattle.canon_passing.proofs.Shapes.{case_quiet}
 
 -- ---- of cases
 

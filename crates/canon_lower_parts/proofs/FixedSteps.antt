@@ -18,7 +18,7 @@ use Rattle.canon_types.specs.declared.types.InterfaceType.TheVariants as ty
 use Rattle.canon_typed.specs.Meaning.{EachMeans, RowMeans}
 use Rattle.canon_typed.specs.Types.{IsFixedOf}
 use Rattle.canon_lower_parts.proofs.Items.{lower_each_count, row_trees}
-use Rattle.canon_value_parts.proofs.Walks.{copies_quiet}
+use Rattle.canon_passing.proofs.Shapes.{copies_quiet}
 use Rattle.canon_lower_parts.proofs.Attempts.{cause_as, small_as}
 use Rattle.canon_lower_parts.proofs.TooLarge.{fixed_large}
 use Rattle.canon_lower_parts.specs.Blames.{HasLarge, HaveLarge}

@@ -35,7 +35,7 @@ use Rattle.canon_types.specs.declared.types.InterfaceType.{InterfaceType}
 use Rattle.canon_types.specs.declared.types.InterfaceType.TheVariants as ty
 use Rattle.canon_typed.specs.Meaning.{IsHandle}
 use Rattle.canon_typed.specs.Types.{IsHandleType}
-use Rattle.canon_value_parts.proofs.HandleSteps.{handle_flat, handle_size}
+use Rattle.canon_passing.proofs.Shapes.{handle_flat, handle_size}
 use Rattle.canon_lowering.specs.Stages.{holding}
 
 -- ---- given

@@ -18,7 +18,6 @@ use Rattle.canon_resources.specs.declared.host.ResourceState.TheVariants as stat
 use Rattle.canon_types.specs.Instance.{Instance}
 use Rattle.canon_types.specs.Resource.{resource_type_at}
 use Rattle.canon_types.specs.declared.resource.ResourceType.{ResourceType}
-use Rattle.canon_types.specs.declared.types.InterfaceType.TheVariants as ty
 
 -- an index of the host's table in a generation
 abbrev index_in : ℕ → ℕ → GivenIndex

@@ -21,7 +21,7 @@ use Rattle.canon_typed.specs.Meaning.{EachMeans, ListMeans}
 use Rattle.canon_typed.specs.Types.{IsListOf}
 use Rattle.canon_lower_parts.proofs.Items.{lower_each_count, lower_list_trees, row_some, some_row}
 use Rattle.canon_lower_parts.proofs.BlockSteps.{AsItems, lower_list_broken, lower_list_placed, lower_list_refused, list_put, placed_stops}
-use Rattle.canon_value_parts.proofs.Passing.{handles_instance, same_handles}
+use Rattle.canon_passing.proofs.Passing.{handles_instance, same_handles}
 use Rattle.canon_lower_parts.specs.Blames.{IsTooLarge}
 use Rattle.canon_lower_parts.specs.Gives.{item_shape}
 use Rattle.canon_lower_parts.specs.Lists.{IsElementOf}

@@ -19,7 +19,7 @@ use Rattle.canon_types.specs.declared.types.InterfaceType.TheVariants as ty
 use Rattle.canon_types.specs.declared.types.TypeMap.{TypeMap}
 use Rattle.canon_typed.specs.Meaning.{EachMeans, ListMeans}
 use Rattle.canon_typed.specs.Types.{IsMapOf}
-use Rattle.canon_value_parts.proofs.Passing.{handles_instance, same_handles}
+use Rattle.canon_passing.proofs.Passing.{handles_instance, same_handles}
 use Rattle.canon_lower_parts.proofs.ListSteps.{list_filled, list_stopped, lower_list_ungiven}
 use Rattle.canon_lower_parts.proofs.PairSteps.{second_place}
 use Rattle.canon_lower_parts.specs.Gives.{item_shape}

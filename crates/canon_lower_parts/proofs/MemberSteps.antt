@@ -23,8 +23,8 @@ use Rattle.canon_model.specs.Tree.{Tree, Trees, no_trees, trees_of}
 use Rattle.canon_typed.specs.Meaning.{FirstAnd, NoTrees, ProductMeans}
 use Rattle.canon_lower_parts.proofs.Attempts.{Cause, IsSmall, cause_as, cause_first, cause_then, cross_stop, cross_then, ends_done, ends_early, lower_ends_more, none_first, none_later, small_as, small_then}
 use Rattle.canon_lower_parts.proofs.TooLarge.{first_large, product_large}
-use Rattle.canon_value_parts.proofs.Passing.{handles_encoding, handles_then}
-use Rattle.canon_value_parts.proofs.Steps.{no_first, no_later}
+use Rattle.canon_passing.proofs.Passing.{handles_encoding, handles_then}
+use Rattle.canon_passing.proofs.Shapes.{no_first, no_later}
 use Rattle.canon_lower_parts.specs.Blames.{HasLarge, HaveLarge}
 use Rattle.canon_lower_parts.specs.Stores.{TypedMembersStore, TypedStores}
 

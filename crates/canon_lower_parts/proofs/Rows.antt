@@ -22,7 +22,7 @@ use Rattle.canon_types.specs.Instance.{Instance}
 use Rattle.canon_types.specs.Table.{shape_of}
 use Rattle.canon_types.specs.declared.types.InterfaceType.{InterfaceType}
 use Rattle.canon_typed.specs.Meaning.{EachMeans}
-use Rattle.canon_value_parts.proofs.Passing.{handles_then}
+use Rattle.canon_passing.proofs.Passing.{handles_then}
 use Rattle.canon_lower_parts.proofs.MemberSteps.{members_end, members_more, members_nothing}
 use Rattle.canon_lower_parts.specs.Stores.{TypedMembersStore, TypedStores}
 

@@ -13,7 +13,7 @@ use Rattle.canon_model.specs.Memory.{num}
 use Rattle.canon_model.specs.Rep.{IsLeast, ScalarIs}
 use Rattle.canon_model.specs.Shape.{Scalar, Shape, scalar}
 use Rattle.canon_model.specs.Tree.{Tree}
-use Rattle.canon_value_parts.proofs.StoreSteps.{least_low, scalar_bytes}
+use Rattle.canon_passing.proofs.Shapes.{least_low, scalar_bytes}
 use Rattle.canon_lower_parts.specs.Scalars.{IsWordOfScalar}
 use Rattle.canon_lower_parts.specs.Stores.{IsPut, TypedStores}
 

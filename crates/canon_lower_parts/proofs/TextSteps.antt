@@ -23,7 +23,7 @@ use Rattle.canon_types.specs.declared.types.InterfaceType.TheVariants as ty
 use Rattle.canon_typed.specs.Meaning.{TextMeans}
 use Rattle.canon_lower_parts.proofs.Attempts.{cross_stopped, lower_not_false}
 use Rattle.canon_lower_parts.proofs.BlockSteps.{placed_stops, text_put}
-use Rattle.canon_value_parts.proofs.Passing.{ledger_unless, same_handles, value_same_ledger}
+use Rattle.canon_passing.proofs.Passing.{ledger_unless, same_handles, value_same_ledger}
 use Rattle.canon_lower_parts.proofs.TooLarge.{lower_text_small}
 use Rattle.canon_lower_parts.specs.Blames.{HasLarge, IsElsewhere}
 use Rattle.canon_lower_parts.specs.Places.{IsPairPut, IsPlacedPut, TypedPlaces, without_value}

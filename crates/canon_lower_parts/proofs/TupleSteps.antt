@@ -19,7 +19,7 @@ use Rattle.canon_types.specs.Table.{TypeTable, shape_of}
 use Rattle.canon_types.specs.declared.types.InterfaceType.{InterfaceType}
 use Rattle.canon_typed.specs.Meaning.{FirstAnd, NoTrees, ProductMeans}
 use Rattle.canon_typed.specs.Types.{AreOf, IsTupleOf}
-use Rattle.canon_value_parts.proofs.Passing.{handles_instance, handles_types}
+use Rattle.canon_passing.proofs.Passing.{handles_instance, handles_types}
 
 -- ---- the first member, and the others
 

@@ -8,7 +8,7 @@ use Rattle.canon_context.specs.Quiet.{cases_have_block, has_block}
 use Rattle.canon_context.specs.declared.fault.Fault.{Fault}
 use Rattle.canon_resources.specs.Parts.{Part}
 use Rattle.canon_lower_parts.proofs.Attempts.{AttemptKept, typed_map, typed_none, typed_other}
-use Rattle.canon_value_parts.proofs.Steps.{no_first, no_later}
+use Rattle.canon_passing.proofs.Shapes.{no_first, no_later}
 use Rattle.canon_lower_parts.proofs.TooLarge.{bare_small, case_large}
 use Rattle.canon_lower_parts.specs.Blames.{HasLarge}
 use Rattle.canon_lower_parts.specs.Cases.{HasCase}

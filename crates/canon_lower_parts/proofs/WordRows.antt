@@ -12,7 +12,7 @@ use Rattle.canon_lower_parts.proofs.Items.{lower_each_count, row_trees}
 use Rattle.canon_lower_parts.proofs.WordTuples.{MembersDone, done_end, done_more, done_none, done_room, done_stop}
 use Rattle.canon_lower_parts.specs.Blames.{HasLarge, HaveLarge}
 use Rattle.canon_lower_parts.specs.Words.{TypedLowers, TypedMembersLower}
-use Rattle.canon_value_parts.specs.Words.{WordsStay}
+use Rattle.canon_passing.specs.Words.{WordsStay}
 use Rattle.canon_lowering.proofs.AimedWords.{fixed_words}
 use Rattle.canon_lowering.proofs.Copying.{copies_flat}
 use Rattle.canon_lowering.specs.Attempt.{members_words, value_words}
@@ -30,7 +30,7 @@ use Rattle.canon_types.specs.Instance.{Instance}
 use Rattle.canon_types.specs.Table.{shape_of}
 use Rattle.canon_types.specs.declared.types.InterfaceType.{InterfaceType}
 use Rattle.canon_typed.specs.Meaning.{EachMeans, RowMeans}
-use Rattle.canon_value_parts.proofs.Walks.{copies_quiet}
+use Rattle.canon_passing.proofs.Shapes.{copies_quiet}
 
 -- ---- a row
 

@@ -11,8 +11,8 @@ use Rattle.canon_context.specs.Quiet.{has_block, have_block}
 use Rattle.canon_context.specs.declared.fault.Fault.{Fault}
 use Rattle.canon_resources.specs.Parts.{Part}
 use Rattle.canon_lower_parts.proofs.Attempts.{AttemptKept, typed_map, typed_none, typed_stop, typed_then}
-use Rattle.canon_value_parts.proofs.Passing.{handles_encoding}
-use Rattle.canon_value_parts.proofs.Steps.{no_first, no_later}
+use Rattle.canon_passing.proofs.Passing.{handles_encoding}
+use Rattle.canon_passing.proofs.Shapes.{no_first, no_later}
 use Rattle.canon_lower_parts.proofs.TooLarge.{first_large, product_large}
 use Rattle.canon_lower_parts.specs.Blames.{HasLarge, HaveLarge}
 use Rattle.canon_lower_parts.specs.Lowers.{TypedAttempt}

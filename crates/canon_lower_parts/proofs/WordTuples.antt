@@ -5,15 +5,15 @@ use Rattle.canon_context.specs.Asks.{SameButHandles}
 use Rattle.canon_context.specs.Core.{Parts, component_types}
 use Rattle.canon_context.specs.declared.fault.Fault.{Fault}
 use Rattle.canon_resources.specs.Parts.{Part}
-use Rattle.canon_value_parts.proofs.Passing.{handles_instance, handles_then, handles_types}
+use Rattle.canon_passing.proofs.Passing.{handles_instance, handles_then, handles_types}
 use Rattle.canon_lower_parts.proofs.TupleSteps.{no_tuple_gives}
 use Rattle.canon_lower_parts.proofs.TupleTypes.{IsNextType, next_of, none_after, tuple_seen}
 use Rattle.canon_lower_parts.proofs.WordSteps.{members_more, members_none, lower_members_stop, product_lowers}
-use Rattle.canon_value_parts.proofs.WordSteps.{first_stay, stays_then}
+use Rattle.canon_passing.proofs.Words.{first_stay, stays_then}
 use Rattle.canon_lower_parts.specs.Gives.{product_gives, row_gives}
 use Rattle.canon_lower_parts.specs.Tuples.{member_type, members_after, types_from}
 use Rattle.canon_lower_parts.specs.Words.{TypedLowers, TypedMembersLower}
-use Rattle.canon_value_parts.specs.Words.{WordsStay}
+use Rattle.canon_passing.specs.Words.{WordsStay}
 use Rattle.canon_memory.specs.Guest.{GuestIn, Seen}
 use Rattle.canon_memory.specs.declared.event.Event.{Event}
 use Rattle.canon_model.specs.Fits.{Fits}

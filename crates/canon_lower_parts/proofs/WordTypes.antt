@@ -1,7 +1,7 @@
 -- What a look-up gives of a type that is a Rust type's.
 use Rattle.std.proofs.Common.{◌≡◌, ◌≤◌, ◌+◌, ◌∙◌, All, None, Option, Some, [], ap, arith, false, refl, subst, true, Bool, ℕ}
 use Rattle.canon_lower_parts.proofs.WordCases.{only, variant_flat}
-use Rattle.canon_value_parts.proofs.WordCases.{payload_words}
+use Rattle.canon_passing.proofs.Shapes.{payload_words}
 use Rattle.canon_lower_parts.specs.Cases.{HasCase, payload_members}
 use Rattle.canon_model.specs.Layout.{flat, members_flat}
 use Rattle.canon_model.specs.Shape.{Shape, bare, case_for, no_cases, of_option, of_result, option_of, payload, result_of}

@@ -17,7 +17,7 @@ use Rattle.canon_resources.specs.declared.host.ResourceState.TheVariants as stat
 use Rattle.canon_types.specs.Instance.{Instance}
 use Rattle.canon_types.specs.Resource.{resource_type_at}
 use Rattle.canon_types.specs.declared.resource.ResourceType.{ResourceType}
-use Rattle.canon_value_parts.specs.Resources.{number_given}
+use Rattle.canon_passing.specs.Passed.{number_given}
 
 -- of a resource, where its type is a handle's
 abbrev pub handle_gives : Instance → Shape → Any → List (List Part)

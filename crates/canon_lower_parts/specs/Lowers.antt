@@ -8,7 +8,7 @@ use Rattle.canon_context.specs.declared.fault.Fault.TheVariants as fault
 use Rattle.canon_lower_parts.specs.Blames.{IsElsewhere}
 use Rattle.canon_resources.specs.Parts.{LeavesStop, LeavesTake, Part}
 use Rattle.canon_ledger.specs.Ledger.{LedgerState}
-use Rattle.canon_value_parts.specs.Resources.{ledger_fault}
+use Rattle.canon_passing.specs.Passed.{ledger_fault}
 use Rattle.canon_context.specs.Faults.{stop_of}
 use Rattle.canon_lowering.specs.Attempt.{Aim, Attempt}
 use Rattle.canon_lowering.specs.Lowering.{Ending, refused}

@@ -5,7 +5,7 @@ ghost use Rattle.canon_context.specs.Core.{component_types};
 ghost use Rattle.canon_lower_parts.specs.Scalars.{IsWordOfScalar};
 ghost use Rattle.canon_lower_parts.specs.Stores.{TypedStores};
 ghost use Rattle.canon_lower_parts.specs.Words.{IsCaseWords, TypedLowers};
-ghost use Rattle.canon_value_parts.specs.Words.{WordsStay};
+ghost use Rattle.canon_passing.specs.Words.{WordsStay};
 ghost use Rattle.canon_model.specs.Flat.{AreZero};
 ghost use Rattle.canon_model.specs.Layout.{flat, size};
 ghost use Rattle.canon_types.specs.Table.{Knows, shape_of};

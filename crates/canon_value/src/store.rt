@@ -9,7 +9,8 @@ ghost use Rattle.canon_context.specs.Core.{component_types, encoding_by, stage_o
 ghost use Rattle.canon_value_parts.specs.Fails.{BlamesValue, IsSmall};
 ghost use Rattle.canon_context.specs.Lowers.{ending_of};
 ghost use Rattle.canon_context.specs.Quiet.{has_block, has_handle};
-ghost use Rattle.canon_value_parts.specs.Resources.{Crosses, QuietBut, passes};
+ghost use Rattle.canon_passing.specs.Passed.{Crosses, QuietBut};
+ghost use Rattle.canon_value_parts.specs.Resources.{passes};
 ghost use Rattle.canon_context.specs.Asks.{SameButHandles};
 ghost use Rattle.canon_val.specs.Value.{HasTree};
 

@@ -13,13 +13,11 @@ use Rattle.canon_model.specs.Tree.{Trees, no_trees, tree}
 use Rattle.canon_types.specs.Depth.{deepest, deepest_case}
 use Rattle.canon_plan.specs.NoHandle.{HaveNoHandle, cases_have_no_handle, has_no_handle}
 use Rattle.canon_value_parts.specs.Fails.{CaseFails, Failure, IsOtherCase, MemberFails}
-use Rattle.canon_context.specs.Quiet.{cases_have_block, has_block, have_block}
 use Rattle.canon_val.specs.Value.{CaseHas, IsCase, IsFirst, all_places, case_names, places, result_case, result_payload, unboxed, HaveTreesAs}
 use Rattle.canon_val.specs.declared.val.Val.{Val, out-Val, the_lemmas}
 use Rattle.canon_val.specs.declared.val.Val.TheOpen.{Val-F as F}
 use Rattle.canon_val.specs.declared.val.Val.TheVariants as val
 use Rattle.canon_plan.proofs.Lookups.{both}
-use Rattle.canon_value_parts.proofs.Steps.{no_first, no_later}
 
 -- ---- the payload of a case, as members
 
@@ -82,13 +80,6 @@ case_shallow (bare name cs) zero = omega arith
 case_shallow (bare name cs) (suc i) = case_shallow cs i
 case_shallow (payload name s cs) zero = omega arith
 case_shallow (payload name s cs) (suc i) = omega (arith, case_shallow cs i)
-
-pub case_quiet : (cs : Cases) (i : ℕ) → cases_have_block cs ≡ false → have_block (case_members cs i) ≡ false
-case_quiet no_cases i e = refl
-case_quiet (bare name cs) zero e = refl
-case_quiet (bare name cs) (suc i) e = case_quiet cs i e
-case_quiet (payload name s cs) zero e = rw (no_first (has_block s) (cases_have_block cs) e) refl
-case_quiet (payload name s cs) (suc i) e = case_quiet cs i (no_later (has_block s) (cases_have_block cs) e)
 
 -- ---- values of the four kinds
 

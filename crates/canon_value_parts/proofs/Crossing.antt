@@ -9,9 +9,9 @@ use Rattle.canon_resources.specs.Parts.{LeavesStop, PassedResource, lower_parts}
 use Rattle.canon_lowering.specs.Lowering.{Ending, refused}
 use Rattle.canon_model.specs.Text.{Encoding}
 use Rattle.canon_types.specs.Instance.{Instance}
-use Rattle.canon_value_parts.proofs.Passing.{Ended}
+use Rattle.canon_passing.proofs.Passing.{Ended}
 use Rattle.canon_value_parts.specs.Fails.{Blames, Failure}
-use Rattle.canon_value_parts.specs.Resources.{Crosses, EndsAs, UsesLedger, ledger_fault, told_fault}
+use Rattle.canon_passing.specs.Passed.{Crosses, EndsAs, UsesLedger, ledger_fault, told_fault}
 use Rattle.canon_context.specs.Faults.{stop_of}
 
 -- want of the ledger's memory, inside

@@ -23,11 +23,12 @@ use Rattle.canon_types.specs.declared.types.InterfaceType.TheVariants as ty
 use Rattle.canon_types.specs.declared.types.TypeFlags.{TypeFlags}
 use Rattle.canon_context.specs.Core.{Parts, component_types, encoding_by, stage_of}
 use Rattle.canon_value_parts.specs.Flags.{AreSetInWords, SetsBit, SomeUnknown, flag_names}
-use Rattle.canon_value_parts.proofs.Passing.{flags_none, passes_none, passes_stopped}
+use Rattle.canon_passing.proofs.Passing.{passes_none, passes_stopped}
 use Rattle.canon_value_parts.specs.Resources.{passes}
 use Rattle.canon_value_parts.specs.Stores.{StoresTo}
 use Rattle.canon_val.specs.Value.{HasTree}
-use Rattle.canon_value_parts.specs.Words.{LowersTo, WordsStay}
+use Rattle.canon_passing.specs.Words.{WordsStay}
+use Rattle.canon_value_parts.specs.Words.{LowersTo}
 use Rattle.canon_context.specs.declared.fault.Fault.TheVariants as fault
 use Rattle.canon_value_parts.specs.declared.spot.Spot.{Spot}
 use Rattle.canon_val.specs.declared.val.Val.TheVariants as val
@@ -38,6 +39,11 @@ use Rattle.canon_context.proofs.Moves.{GuestLaws}
 use Rattle.canon_value_parts.proofs.Sizes.{flags_small}
 use Rattle.canon_context.proofs.Cores.{written_whole}
 use Rattle.canon_lowering.specs.Stages.{Stage}
+
+-- ---- a value that passes nothing
+
+pub flags_none : (names : List Name) (set : Vec (String Global) Global) → passes (val.Flags set) (flags names) ≡ []
+flags_none names set = search (rules, the_lemmas)
 
 -- how many bytes flags take
 pub flags_bytes : (t u : TypeTable) (i : ℕ) (f : TypeFlags) → u ≡ t → IsDefined u (ty.Flags i) (flags_type f) → HasLayout f.abi (shape_of u (ty.Flags i)) → f.abi.size32 ≡ flags_size (length (flag_names t i))

@@ -19,7 +19,7 @@ use Rattle.canon_model.specs.Memory.{low, num}
 use Rattle.canon_model.specs.Shape.{Name}
 use Rattle.canon_value_parts.specs.Flags.{AreSetInWords, SetsBit, SomeUnknown}
 use Rattle.canon_val.specs.Value.{Occurs}
-use Rattle.canon_value_parts.specs.Words.{WordsWritten}
+use Rattle.canon_passing.specs.Words.{WordsWritten}
 use Rattle.canon_value_parts.proofs.FlagBits.{Gains, digit_gains, digits, digits_none, digits_same}
 use Rattle.canon_value_parts.proofs.FlagDigits.{byte_inside, num_digits, word_inside, words_digits}
 use Rattle.canon_value_parts.proofs.FlagNames.{Differ, IsMarked, marked_all, marked_more, marked_none}

@@ -31,9 +31,11 @@ use Rattle.canon_types.specs.declared.types.InterfaceType.{InterfaceType}
 use Rattle.canon_value_parts.proofs.ResourcesOf.{resources_resource}
 use Rattle.canon_value_parts.specs.Lifts.{IsOfWords, LiftsTo}
 use Rattle.canon_value_parts.specs.Loads.{IsLoaded}
-use Rattle.canon_value_parts.specs.Resources.{LiftsHandles, TakesHandle, resources, told_fault}
+use Rattle.canon_passing.specs.Passed.{LiftsHandles, told_fault}
+use Rattle.canon_value_parts.specs.Resources.{TakesHandle, resources}
 use Rattle.canon_val.specs.declared.val.Val.{Val}
 use Rattle.canon_val.specs.declared.val.Val.TheVariants as val
+use Rattle.canon_passing.proofs.Shapes.{handle_flat, handle_size}
 
 -- ---- types
 
@@ -57,16 +59,6 @@ handle_no_scalar type h is scalar = no_scalar h.owned h.resource (subst IsScalar
 
 pub handle_shape : (t : TypeTable) (type : InterfaceType) (h : HandleType) → type ≡ type_of_handle h → shape_of t type ≡ shaped_handle h.owned h.resource
 handle_shape t type h is = ap (λ (x : InterfaceType). shape_of t x) is ∙ shaped t h.owned h.resource
-
-handle_size : (owned : Bool) (r : ℕ) → size false (shaped_handle owned r) ≡ 4
-unfolding size
-handle_size true r = refl
-handle_size false r = refl
-
-handle_flat : (owned : Bool) (r : ℕ) → flat (shaped_handle owned r) ≡ 1
-unfolding flat
-handle_flat true r = refl
-handle_flat false r = refl
 
 pub handle_bytes : (t : TypeTable) (type : InterfaceType) (h : HandleType) → type ≡ type_of_handle h → size false (shape_of t type) ≡ 4
 handle_bytes t type h is = ap (size false) (handle_shape t type h is) ∙ handle_size h.owned h.resource

@@ -5,7 +5,6 @@ use Rattle.std.proofs.lemmas.List.{get_or-set_other, get_or-set_same, length-set
 use Rattle.canon_context.proofs.Cores.{written_whole}
 use Rattle.canon_context.proofs.Moves.{GuestLaws}
 use Rattle.canon_context.specs.Core.{Parts, encoding_by, stage_of}
-use Rattle.canon_context.specs.Lowers.{fault_ending}
 use Rattle.canon_context.specs.declared.fault.Fault.{Fault}
 use Rattle.canon_context.specs.declared.fault.Fault.TheVariants as fault
 use Rattle.canon_ledger.specs.Ledger.{LedgerState}
@@ -21,14 +20,13 @@ use Rattle.canon_lowering.specs.Storing.{narrow}
 use Rattle.canon_memory.specs.Memory.{written_over}
 use Rattle.canon_memory.specs.Realloc.{block}
 use Rattle.canon_model.specs.Homes.{host_texts}
-use Rattle.canon_model.specs.Layout.{flat, size}
 use Rattle.canon_model.specs.Memory.{cap, low, num}
 use Rattle.canon_model.specs.Shape.{borrow, own}
 use Rattle.canon_model.specs.Text.{Encoding}
 use Rattle.canon_plan.specs.Plan.{shaped_handle}
 use Rattle.canon_resources.specs.Held.{Any}
 use Rattle.canon_types.specs.Instance.{Instance}
-use Rattle.canon_value_parts.proofs.Passing.{Ended, Took}
+use Rattle.canon_passing.proofs.Passing.{Ended, Took}
 use Rattle.canon_value_parts.specs.Fails.{IsSmall}
 use Rattle.canon_value_parts.specs.Resources.{passes}
 use Rattle.canon_value_parts.specs.Stores.{StoresTo}
@@ -38,6 +36,7 @@ use Rattle.canon_value_parts.specs.declared.spot.Spot.{Spot}
 use Rattle.canon_val.specs.declared.val.Val.{Val, the_lemmas}
 use Rattle.canon_lowering.specs.Stages.{holding}
 use Rattle.canon_val.specs.declared.val.Val.TheVariants as val
+use Rattle.canon_passing.proofs.Shapes.{handle_flat}
 
 -- ---- of the value
 
@@ -57,17 +56,6 @@ resource_passes false r x = borrow_passes r x
 handle_small : (enc : Encoding) (owned : Bool) (r : ℕ) (v : Val) → IsSmall enc (shaped_handle owned r) v
 handle_small enc true r v = record { texts = λ n k f. f.1; lists = λ n k f. f.1 }
 handle_small enc false r v = record { texts = λ n k f. f.1; lists = λ n k f. f.1 }
-
--- how many bytes and words it takes
-pub handle_size : (owned : Bool) (r : ℕ) → size false (shaped_handle owned r) ≡ 4
-unfolding size
-handle_size true r = refl
-handle_size false r = refl
-
-pub handle_flat : (owned : Bool) (r : ℕ) → flat (shaped_handle owned r) ≡ 1
-unfolding flat
-handle_flat true r = refl
-handle_flat false r = refl
 
 took_as : (types : Instance) (l n : LedgerState) (owned : Bool) (r : ℕ) (x : Any) (h k : ℕ) → k ≡ h → Took types l n (passed owned r x ∷ []) (h ∷ []) → Took types l n (passes (val.Resource x) (shaped_handle owned r)) (k ∷ [])
 took_as types l n owned r x h k e took =

@@ -49,7 +49,6 @@ pub mod LeavesAt
 pub mod Lifted
 pub mod ResourcesOf
 pub mod HandleLifting
-pub mod Passing
 pub mod Crossing
 pub mod HandleSteps
 pub mod LiftedSteps

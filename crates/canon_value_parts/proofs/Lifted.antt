@@ -15,7 +15,8 @@ use Rattle.canon_ledger.specs.declared.fault.ResourceFault.{ResourceFault}
 use Rattle.canon_model.specs.Leaves.{Leaf}
 use Rattle.canon_resources.specs.Held.{Any}
 use Rattle.canon_types.specs.Instance.{Instance}
-use Rattle.canon_value_parts.specs.Resources.{LiftsHandles, all_resources, joined, resources}
+use Rattle.canon_passing.specs.Passed.{LiftsHandles}
+use Rattle.canon_value_parts.specs.Resources.{all_resources, joined, resources}
 use Rattle.canon_context.specs.Faults.{stop_of}
 use Rattle.canon_val.specs.declared.val.Val.{Val}
 

@@ -11,7 +11,7 @@ use Rattle.canon_ledger.specs.Ledger.{LedgerState}
 use Rattle.canon_model.specs.Leaves.{Leaf}
 use Rattle.canon_resources.specs.Held.{Any}
 use Rattle.canon_types.specs.Instance.{Instance}
-use Rattle.canon_value_parts.specs.Resources.{LiftsHandles}
+use Rattle.canon_passing.specs.Passed.{LiftsHandles}
 use Rattle.canon_context.specs.Faults.{stop_of}
 
 pub lifted_after : {T : Type 0} (its : T → List Any) (i : Instance) (l n : LedgerState) (leaves : List Leaf) (r : Result T Fault) → LiftsHandles its i l n leaves r → IsAfterSteps l n

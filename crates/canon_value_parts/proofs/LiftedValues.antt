@@ -9,7 +9,7 @@ use Rattle.canon_model.specs.Tree.{Tree, Trees, bits, case_number, items, no_tre
 use Rattle.canon_resources.specs.Held.{Any}
 use Rattle.canon_value_parts.specs.Elements.{by_turns}
 use Rattle.canon_val.specs.Equal as equal
-use Rattle.canon_val.specs.Equal.{Data, Datas, data_of, no_data, pair_data, row, value}
+use Rattle.canon_val.specs.Equal.{Data, data_of, no_data, pair_data, row, value}
 use Rattle.canon_value_parts.specs.Laws.{OneValue}
 use Rattle.canon_value_parts.specs.Resources.{all_resources, joined, resources}
 use Rattle.canon_val.specs.Value.{AreLiftedFrom, CaseHas, EachHas, HasTree, HaveTrees, IsCase, IsFixedListValue, IsFlags, IsItems, IsLiftedFrom}

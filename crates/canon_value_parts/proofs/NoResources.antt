@@ -11,7 +11,7 @@ use Rattle.canon_val.specs.declared.val.Val.{Val}
 use Rattle.canon_plan.proofs.Lookups.{both}
 use Rattle.canon_value_parts.proofs.LiftedValues.{both_resources, fixed_resources, items_resources, turned}
 use Rattle.canon_value_parts.proofs.ResourcesOf.{case_resources, flags_have_none, pair_resources, product_resources, scalar_has_none, text_has_none}
-use Rattle.canon_value_parts.proofs.Steps.{no_first, no_later}
+use Rattle.canon_passing.proofs.Shapes.{no_first, no_later}
 
 -- ---- types that reach no handle
 

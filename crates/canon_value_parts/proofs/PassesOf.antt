@@ -15,7 +15,7 @@ use Rattle.canon_resources.specs.Parts.{PassedResource, passed}
 use Rattle.canon_lowering.specs.Copies.{case_members, copies, pairs_of}
 use Rattle.canon_model.specs.Layout.{member_shape}
 use Rattle.canon_model.specs.Shape as shape
-use Rattle.canon_model.specs.Shape.{Cases, Name, Scalar, Shape, VariantKind, bare, borrow, fixed, flags, list, map_of, member, member_count, no_cases, no_members, of_cases, of_fields, of_items, of_names, of_option, of_pairs, of_places, of_result, own, payload, product, scalar, string, variant}
+use Rattle.canon_model.specs.Shape.{Cases, Name, Scalar, Shape, VariantKind, bare, borrow, fixed, flags, list, member, member_count, no_cases, no_members, of_cases, of_fields, of_items, of_names, of_option, of_pairs, of_places, of_result, own, payload, product, scalar, string, variant}
 use Rattle.canon_plan.proofs.ScalarTypes.{scalar_shape}
 use Rattle.canon_plan.specs.Element.{IsKnown, first_of, list_shape, row_of, second_of}
 use Rattle.canon_plan.specs.Plan.{LiesAs, members_from, typed_handle}
@@ -40,7 +40,7 @@ use Rattle.canon_val.specs.declared.val.Val.TheOpen.{Val-F, Val-F as F}
 use Rattle.canon_val.specs.declared.val.Val.TheShapes.{former-Val-Map-0-at-2, former-Val-Record-0-at-2}
 use Rattle.canon_val.specs.declared.val.Val.TheVariants as val
 use Rattle.canon_value_parts.specs.declared.view.View.TheVariants as view
-use Rattle.canon_value_parts.proofs.Steps.{no_first, no_later}
+use Rattle.canon_passing.proofs.Shapes.{no_first, no_later}
 
 -- what a value passes, by the shape that is wanted
 abbrev Passing : Type 0

@@ -14,7 +14,7 @@ use Rattle.canon_string.specs.Texts.{IsTextOf, PutsText}
 use Rattle.canon_value_parts.specs.Fails.{Blames, FailsAt}
 use Rattle.canon_value_parts.specs.Stores.{PlacesTo}
 use Rattle.canon_context.specs.declared.fault.Fault.TheVariants as fault
-use Rattle.canon_value_parts.proofs.Passing.{ledger_unless, passes_none, passes_stopped, same_handles, value_same_ledger}
+use Rattle.canon_passing.proofs.Passing.{ledger_unless, passes_none, passes_stopped, same_handles, value_same_ledger}
 use Rattle.canon_value_parts.proofs.PassesOf.{text_none}
 use Rattle.canon_value_parts.specs.Resources.{passes}
 use Rattle.canon_val.specs.Value.{HasTree}

@@ -20,8 +20,9 @@ use Rattle.canon_context.specs.declared.fault.Fault.{Fault}
 use Rattle.canon_context.specs.declared.fault.Fault.TheVariants as fault
 use Rattle.canon_val.specs.declared.val.Val.{Val}
 use Rattle.canon_value_parts.proofs.Listing.{IsListOf}
-use Rattle.canon_value_parts.proofs.Passing.{IsOwn, handles_then, own_elsewhere, own_ends, passes_as, passes_from, passes_stopped, same_handles, value_same_ledger, ungiven_elsewhere}
-use Rattle.canon_value_parts.specs.Resources.{LowersHandles, all_passes, passes}
+use Rattle.canon_passing.proofs.Passing.{IsOwn, handles_then, own_elsewhere, own_ends, passes_as, passes_from, passes_stopped, same_handles, value_same_ledger, ungiven_elsewhere}
+use Rattle.canon_passing.specs.Passed.{LowersHandles}
+use Rattle.canon_value_parts.specs.Resources.{all_passes, passes}
 use Rattle.canon_context.proofs.Moves.{GuestLaws}
 use Rattle.canon_value_parts.proofs.Sizes.{small_by}
 use Rattle.canon_context.proofs.Cores.{not_done, same_encoding}

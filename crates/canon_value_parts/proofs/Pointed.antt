@@ -3,14 +3,12 @@ use Rattle.std.proofs.Common.{◌≡◌, ◌≤◌, ◌<◌, ◌+◌, ◌%◌, �
 use Rattle.std.proofs.lemmas.Bool.{and_from, cond-false, cond-true, lt-leb}
 use Rattle.std.specs.Prelude.{slice_index}
 use Rattle.std.specs.declared.alloc.Global.{Global}
-use Rattle.canon_abi.specs.Abi.{HasLayout}
-use Rattle.canon_abi.specs.declared.abi.CanonicalAbiInfo.{CanonicalAbiInfo}
 use Rattle.canon_model.specs.Flat.{RepValues}
-use Rattle.canon_model.specs.Layout.{align, members_align, members_flat, size}
+use Rattle.canon_model.specs.Layout.{members_align, members_flat, size}
 use Rattle.canon_model.specs.Memory.{Inside, low}
 use Rattle.canon_model.specs.Rep.{MembersStored}
 use Rattle.canon_model.specs.Reach.{MemberFault, ValuesFault, members_reach, values_reach}
-use Rattle.canon_model.specs.Shape.{Members, Shape, of_places, product}
+use Rattle.canon_model.specs.Shape.{Members, of_places, product}
 use Rattle.canon_model.specs.Text.{Encoding}
 use Rattle.canon_model.proofs.Unique.{one_tree}
 use Rattle.canon_lowering.specs.Storing.{narrow}
@@ -22,14 +20,6 @@ use Rattle.canon_context.specs.declared.fault.Fault.{Fault}
 use Rattle.canon_context.specs.declared.fault.Fault.TheVariants as fault
 use Rattle.canon_val.specs.declared.val.Val.{Val}
 use Rattle.canon_context.proofs.Told.{blamed_by}
-
--- the numbers of a tuple
-pub tuple_align : (abi : CanonicalAbiInfo) (s : Shape) (ms : Members) → HasLayout abi s → s ≡ product of_places ms → abi.align32 ≡ members_align false ms
-unfolding align
-tuple_align abi s ms h e = (h.align false) ∙ ap (align false) e
-
-pub tuple_size : (abi : CanonicalAbiInfo) (s : Shape) (ms : Members) → HasLayout abi s → s ≡ product of_places ms → abi.size32 ≡ size false (product of_places ms)
-tuple_size abi s ms h e = (h.size false) ∙ ap (size false) e
 
 module _ (enc : Encoding) (bytes ws : List ℕ) (most : ℕ) (ms : Members) (p before : ℕ) (is : p ≡ low (slice_index ws 0)) (far : most < members_flat ms) where
   abbrev IsBlamed : Fault → Type 0

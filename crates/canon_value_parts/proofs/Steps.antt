@@ -1,5 +1,5 @@
 -- Places, blame from one place to another, and types that reach no text and no list.
-use Rattle.std.proofs.Common.{◌≡◌, ◌+◌, ◌∙◌, List, None, Option, String, Vec, [], ◌∷◌, ap, arith, inl, map, refl, rules, sym, ℕ, ◌||◌, Bool, false, true, ◌<◌, ◌^◌, length, subst}
+use Rattle.std.proofs.Common.{◌≡◌, ◌+◌, ◌∙◌, List, None, Option, String, Vec, [], ◌∷◌, ap, arith, inl, map, refl, rules, sym, ℕ, Bool, false, true, ◌<◌, ◌^◌, length, subst}
 use Rattle.std.specs.declared.alloc.Global.{Global}
 use Rattle.canon_ledger.specs.declared.fault.ResourceFault.{ResourceFault}
 use Rattle.canon_model.specs.Shape.{Name, ProductKind, of_fields, of_places, of_items, of_pairs, Members, Shape, borrow, fixed, flags, list, own, product, scalar, string, variant}
@@ -14,7 +14,7 @@ use Rattle.canon_val.specs.declared.val.Val.TheShapes.{former-Val-Record-0-at-2}
 use Rattle.canon_val.specs.declared.val.Val.TheVariants as val
 use Rattle.canon_lowering.specs.Copies.{copies}
 use Rattle.canon_lowering.specs.Lowering.{Ending, refused}
-use Rattle.canon_value_parts.specs.Resources.{ledger_fault}
+use Rattle.canon_passing.specs.Passed.{ledger_fault}
 use Rattle.canon_value_parts.specs.Viewed.{BlamesItself, HasMembers}
 use Rattle.canon_plan.specs.Plan.{LiesAs}
 use Rattle.canon_model.specs.Text.{Encoding}
@@ -109,14 +109,6 @@ blames_first enc F G start fault.OutOfMemory h b = b
 blames_first enc F G start (fault.Resource e) h b = b
 
 -- ---- types that reach no text and no list
-
-pub no_first : (a b : Bool) → (a || b) ≡ false → a ≡ false
-no_first false b h = refl
-no_first true b h = cc
-
-pub no_later : (a b : Bool) → (a || b) ≡ false → b ≡ false
-no_later false b h = h
-no_later true b h = cc
 
 -- a type doesn't both reach one and reach none
 pub blocks_none : (a : Bool) → a ≡ true → a ≡ false → ⊥

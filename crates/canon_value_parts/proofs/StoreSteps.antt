@@ -1,11 +1,9 @@
 -- Steps of storing, over plain variables.
-use Rattle.std.proofs.Common.{◌≡◌, ◌≤◌, ◌<◌, ◌+◌, ◌%◌, ◌^◌, Err, List, Ok, Result, ◌∷◌, ap₂, arith, false, inl, inr, length, refl, subst, sym, ℕ}
+use Rattle.std.proofs.Common.{◌≡◌, ◌≤◌, ◌<◌, ◌+◌, ◌^◌, Err, List, Ok, Result, ◌∷◌, ap₂, arith, false, inl, inr, length, refl, subst, sym, ℕ}
 use Rattle.canon_lowering.proofs.Attempts.{FirstAnd}
-use Rattle.canon_model.specs.Flat.{IsLeastWord, flat_bits}
-use Rattle.canon_model.specs.Layout.{scalar_size, size}
-use Rattle.canon_model.specs.Rep.{IsLeast, ScalarIs}
-use Rattle.canon_model.specs.Shape.{Members, Name, ProductKind, Scalar, Shape, bool, char, f32, f64, member, member_count, product, s16, s32, s64, s8, u16, u32, u64, u8}
-use Rattle.canon_model.specs.Tree.{Tree, Trees}
+use Rattle.canon_model.specs.Layout.{size}
+use Rattle.canon_model.specs.Shape.{Members, Name, ProductKind, Shape, member, member_count, product}
+use Rattle.canon_model.specs.Tree.{Trees}
 use Rattle.canon_types.specs.Table.{TypeTable, shape_of}
 use Rattle.canon_types.specs.declared.types.InterfaceType.{InterfaceType}
 use Rattle.canon_plan.specs.NoHandle.{IsScalarType}
@@ -19,38 +17,9 @@ use Rattle.canon_value_parts.proofs.Sizes.{member_small, product_small}
 use Rattle.canon_value_parts.proofs.Steps.{blames_later, places_product}
 use Rattle.canon_plan.proofs.ScalarTypes.{scalar_shape}
 use Rattle.canon_model.specs.Text.{Encoding}
+use Rattle.canon_passing.proofs.Shapes.{scalar_bytes}
 
--- ---- a scalar's word, cut to the scalar's bytes
-
-pub least_low : (k : Scalar) (w : ℕ) (t : Tree) → ScalarIs k (w % 2 ^ flat_bits k) t → IsLeastWord k w → ScalarIs k (w % 256 ^ scalar_size k) t × IsLeast k (w % 256 ^ scalar_size k)
-least_low bool w t is least =
-    let same : w % 2 ^ 32 ≡ w % 256 ^ 1 = omega (arith, least) in
-    (subst (λ (n : ℕ). ScalarIs bool n t) same is, omega (arith, least))
-least_low s8 w t is least = (is, tt)
-least_low u8 w t is least = (is, tt)
-least_low s16 w t is least = (is, tt)
-least_low u16 w t is least = (is, tt)
-least_low s32 w t is least = (is, tt)
-least_low u32 w t is least = (is, tt)
-least_low s64 w t is least = (is, tt)
-least_low u64 w t is least = (is, tt)
-least_low f32 w t is least = (is, tt)
-least_low f64 w t is least = (is, tt)
-least_low char w t is least = (is, tt)
-
-pub scalar_bytes : (k : Scalar) → scalar_size k ≤ 8
-scalar_bytes bool = omega arith
-scalar_bytes s8 = omega arith
-scalar_bytes u8 = omega arith
-scalar_bytes s16 = omega arith
-scalar_bytes u16 = omega arith
-scalar_bytes s32 = omega arith
-scalar_bytes u32 = omega arith
-scalar_bytes s64 = omega arith
-scalar_bytes u64 = omega arith
-scalar_bytes f32 = omega arith
-scalar_bytes f64 = omega arith
-scalar_bytes char = omega arith
+-- ---- scalars
 
 pub scalar_type_bytes : (t : TypeTable) (type : InterfaceType) → IsScalarType type → size false (shape_of t type) ≤ 8
 unfolding size

@@ -21,7 +21,7 @@ use Rattle.canon_context.specs.Core.{Parts, encoding_by, stage_of}
 use Rattle.canon_value_parts.specs.Fails.{FailsAt, MemberFails}
 use Rattle.canon_context.specs.Lowers.{ending_of}
 use Rattle.canon_value_parts.specs.Resources.{all_passes, passes}
-use Rattle.canon_value_parts.proofs.Passing.{passes_as}
+use Rattle.canon_passing.proofs.Passing.{passes_as}
 use Rattle.canon_value_parts.specs.Stores.{PlacesCounted, PartsStoreTo, StoresTo}
 use Rattle.canon_val.specs.Value.{CaseHas, HasTree, HaveTrees, IsCase, all_places, member_names, places}
 use Rattle.canon_value_parts.specs.View.{HaveKnownTypes, viewed_names, viewed_shapes, viewed_values}
@@ -30,7 +30,8 @@ use Rattle.canon_value_parts.specs.declared.case_view.Case.{Case}
 use Rattle.canon_context.specs.declared.fault.Fault.{Fault}
 use Rattle.canon_val.specs.declared.val.Val.{Val}
 use Rattle.canon_value_parts.proofs.Sizes.{case_small}
-use Rattle.canon_value_parts.proofs.Cases.{case_back, case_fails, case_has, case_is, case_places, case_quiet, case_shallow, has_case, one_case}
+use Rattle.canon_passing.proofs.Shapes.{case_quiet}
+use Rattle.canon_value_parts.proofs.Cases.{case_back, case_fails, case_has, case_is, case_places, case_shallow, has_case, one_case}
 use Rattle.canon_context.proofs.Moves.{GuestLaws}
 use Rattle.canon_value_parts.proofs.Steps.{blames_later}
 use Rattle.canon_context.proofs.Cores.{written_whole}

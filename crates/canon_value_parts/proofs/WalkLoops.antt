@@ -17,7 +17,7 @@ use Rattle.canon_context.specs.declared.fault.Fault.TheVariants as fault
 use Rattle.canon_value_parts.specs.declared.members.Member.{Member}
 use Rattle.canon_val.specs.declared.val.Val.{Val}
 use Rattle.canon_plan.proofs.Lookups.{drop_all, member_room, members_from-all}
-use Rattle.canon_value_parts.proofs.Passing.{handles_then, handles_types}
+use Rattle.canon_passing.proofs.Passing.{handles_then, handles_types}
 use Rattle.canon_context.proofs.Moves.{GuestLaws}
 use Rattle.canon_value_parts.proofs.Walks.{parts_cons, parts_named, parts_none, parts_stop}
 

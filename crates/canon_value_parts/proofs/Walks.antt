@@ -9,7 +9,7 @@ use Rattle.canon_lowering.proofs.Attempts.{attempt_as, attempt_none, attempt_ref
 use Rattle.canon_lowering.proofs.Lowerings.{NotDone, lowering_within, when_not}
 use Rattle.canon_lowering.specs.Attempt.{Attempt, LowersValue, StoresMembers, StoresValue, members_at}
 use Rattle.canon_lowering.specs.Copies.{copies}
-use Rattle.canon_lowering.specs.Lowering.{Ending, done, refused}
+use Rattle.canon_lowering.specs.Lowering.{Ending, done}
 use Rattle.canon_lowering.specs.Steps.{Writes}
 use Rattle.canon_lowering.specs.Storing.{IsPair, narrow}
 use Rattle.canon_model.specs.Homes.{host_texts}
@@ -41,16 +41,18 @@ use Rattle.canon_val.specs.declared.val.Val.TheVariants as val
 use Rattle.canon_value_parts.proofs.Contents.{each_count, fixed_values, list_trees, places_fixed}
 use Rattle.canon_value_parts.proofs.Sizes.{fixed_small, none_small, scalar_small}
 use Rattle.canon_context.proofs.Moves.{GuestLaws}
-use Rattle.canon_value_parts.proofs.Steps.{blocks_none, no_first, no_later, blames_first, blames_later}
+use Rattle.canon_passing.proofs.Shapes.{no_first, no_later, least_low, copies_quiet}
+use Rattle.canon_value_parts.proofs.Steps.{blocks_none, blames_first, blames_later}
 use Rattle.canon_plan.proofs.Lookups.{copies_count}
 use Rattle.canon_value_parts.proofs.Scalars.{scalar_places}
 use Rattle.canon_plan.proofs.ScalarTypes.{scalar_shape}
 use Rattle.canon_context.proofs.Cores.{not_done, written_whole}
 use Rattle.canon_model.specs.Leaves.{leaves}
 use Rattle.canon_types.specs.Instance.{Instance}
-use Rattle.canon_value_parts.proofs.Passing.{IsOwn, handles_encoding, handles_instance, handles_then, own_elsewhere, own_ends, passes_as, passes_none, passes_stop, passes_stopped, passes_then}
-use Rattle.canon_value_parts.specs.Resources.{LowersHandles, all_passes, passes}
-use Rattle.canon_value_parts.proofs.StoreSteps.{MemberNamed, value_count_members, fields_count, heads, least_low, named_join, named_split, product_counts}
+use Rattle.canon_passing.proofs.Passing.{IsOwn, handles_encoding, handles_instance, handles_then, own_elsewhere, own_ends, passes_as, passes_none, passes_stop, passes_stopped, passes_then}
+use Rattle.canon_passing.specs.Passed.{LowersHandles}
+use Rattle.canon_value_parts.specs.Resources.{all_passes, passes}
+use Rattle.canon_value_parts.proofs.StoreSteps.{MemberNamed, value_count_members, fields_count, heads, named_join, named_split, product_counts}
 use Rattle.canon_value_parts.proofs.Values.{product_names, product_values}
 use Rattle.canon_lowering.specs.Stages.{Stage, holding}
 
@@ -85,10 +87,6 @@ copies_no_handle (suc n) s h = rw h (copies_no_handle n s h)
 pub copies_deepest : (n : ℕ) (s : Shape) → deepest (copies n s) ≤ depth s
 copies_deepest zero s = omega arith
 copies_deepest (suc n) s = omega (arith, copies_deepest n s)
-
-pub copies_quiet : (n : ℕ) (s : Shape) → has_block s ≡ false → have_block (copies n s) ≡ false
-copies_quiet zero s e = refl
-copies_quiet (suc n) s e = rw e (copies_quiet n s e)
 
 pub copies_names : (n : ℕ) (s : Shape) (vs : List Val) → length vs ≡ n → no_names vs ≡ member_names (copies n s)
 copies_names zero s [] e = refl

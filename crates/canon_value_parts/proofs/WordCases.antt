@@ -1,7 +1,6 @@
 -- Lowering a case to words: its number, the words of its payload, and zeros behind them.
-use Rattle.std.proofs.Common.{◌≡◌, ◌≤◌, ◌<◌, ◌+◌, ◌^◌, ◌∙◌, ◌∷◌, [], Bool, Err, List, Ok, Result, ap, arith, false, inl, inr, length, refl, set, subst, suc, sym, zero, ℕ}
-use Rattle.std.specs.Prelude.{◌⊎◌, slice_index}
-use Rattle.std.proofs.lemmas.Bool.{cases_order}
+use Rattle.std.proofs.Common.{◌≡◌, ◌≤◌, ◌<◌, ◌+◌, ◌^◌, ◌∙◌, ◌∷◌, [], Bool, Err, List, Ok, Result, ap, arith, false, length, refl, set, subst, sym, ℕ}
+use Rattle.std.specs.Prelude.{slice_index}
 use Rattle.std.proofs.lemmas.List.{get_or_past, get_or-set_other, get_or-set_same, length-set}
 use Rattle.canon_lowering.proofs.AimedCases.{variant_words}
 use Rattle.canon_lowering.proofs.AimedWords.{members_flat_kept}
@@ -14,26 +13,27 @@ use Rattle.canon_lowering.specs.Copies.{case_members}
 use Rattle.canon_lowering.specs.Lowering.{Ending, done}
 use Rattle.canon_model.specs.Flat.{AreZero, SameWords}
 use Rattle.canon_model.specs.Layout.{cases_flat, flat, members_flat}
-use Rattle.canon_model.specs.Shape.{Cases, Members, Name, Shape, VariantKind, bare, case_count, no_cases, payload, variant}
+use Rattle.canon_model.specs.Shape.{Cases, Members, Name, Shape, VariantKind, case_count, payload, variant}
 use Rattle.canon_model.specs.Text.{Encoding}
 use Rattle.canon_model.specs.Tree.{Trees}
 use Rattle.canon_types.specs.Table.{TypeTable}
 use Rattle.canon_context.specs.Core.{Parts, encoding_by, stage_of}
 use Rattle.canon_value_parts.specs.Fails.{FailsAt}
 use Rattle.canon_context.specs.Lowers.{fault_ending}
-use Rattle.canon_value_parts.proofs.Passing.{passes_as}
+use Rattle.canon_passing.proofs.Passing.{passes_as}
 use Rattle.canon_value_parts.specs.Resources.{all_passes, passes}
 use Rattle.canon_value_parts.specs.Stores.{PlacesCounted, FieldsCount}
 use Rattle.canon_val.specs.Value.{HasTree, IsCase, member_names, places}
 use Rattle.canon_model.specs.Memory.{cap}
 use Rattle.canon_value_parts.specs.View.{viewed_names, viewed_shapes, viewed_values}
 use Rattle.canon_value_parts.specs.Viewed.{IsCaseSeen}
-use Rattle.canon_value_parts.specs.Words.{Clears, LowersTo, PartsLowerTo, behind_tag}
+use Rattle.canon_passing.specs.Words.{Clears}
+use Rattle.canon_value_parts.specs.Words.{LowersTo, PartsLowerTo, behind_tag}
 use Rattle.canon_value_parts.specs.declared.case_view.Case.{Case}
 use Rattle.canon_context.specs.declared.fault.Fault.{Fault}
 use Rattle.canon_value_parts.specs.declared.spot.Spot.{Spot}
 use Rattle.canon_val.specs.declared.val.Val.{Val}
-use Rattle.canon_value_parts.proofs.Cases.{case_quiet}
+use Rattle.canon_passing.proofs.Shapes.{case_quiet, payload_words}
 use Rattle.canon_context.proofs.Moves.{GuestLaws}
 use Rattle.canon_context.proofs.Cores.{not_done}
 use Rattle.canon_value_parts.proofs.StoreSteps.{MemberNamed, value_count_members}
@@ -55,15 +55,6 @@ members_moved wide a b enc ms ws vs i j Have e fits same h = attempt_as wide a b
   home = λ pointer ts xs ys have g. members_homes_moved wide pointer (host_texts enc) ws vs ms i j ts xs ys (fits ts have) same g;
   handles = λ ts have. refl;
 }) h
-
--- a payload has no more words than the longest
-pub payload_words : (cs : Cases) (i : ℕ) → members_flat (case_members cs i) ≤ cases_flat cs
-unfolding flat
-payload_words no_cases i = omega arith
-payload_words (bare name cs) zero = omega arith
-payload_words (bare name cs) (suc i) = payload_words cs i
-payload_words (payload name s cs) zero = omega arith
-payload_words (payload name s cs) (suc i) = omega (arith, payload_words cs i)
 
 variant_flat : (k : VariantKind) (cs : Cases) → flat (variant k cs) ≡ 1 + cases_flat cs
 unfolding flat
@@ -171,22 +162,3 @@ module _ {T G : Type 0} (L : GuestLaws G) (options : ℕ) where
 -- the words of a case and of its payload are within the type's
 pub value_case_room : (t : TypeTable) (s : Shape) (v : Val) (c : Case) → IsCaseSeen t s v c → 1 + members_flat (viewed_shapes t c.payload) ≤ flat s
 value_case_room t s v c h = omega (arith, ap members_flat h.shapes, ap flat h.shape, variant_flat h.kind h.cases, payload_words h.cases c.tag)
-
--- ---- words become 0 one after another
-
-pub clears_none : (i : ℕ) (dst : List ℕ) → Clears i i dst dst
-clears_none i dst = record { written = record { stays = record { same_length = refl; before = λ p l. refl }; behind = λ p l. refl }; zeros = λ j l u. absurd (omega (arith, l, u)) }
-
-pub clears_one : (i k w : ℕ) (dst now : List ℕ) → i ≤ k → k < length now → w ≡ 0 → Clears i k dst now → Clears i (k + 1) dst (set now k w)
-clears_one i k w dst now later inside none h = record {
-  written = record {
-    stays = record { same_length = length-set now k w ∙ h.written.stays.same_length; before = λ p l. get_or-set_other now k p w 0 (omega (arith, l, later)) ∙ h.written.stays.before p l };
-    behind = λ p l. get_or-set_other now k p w 0 (omega (arith, l)) ∙ h.written.behind p (omega (arith, l));
-  };
-  zeros = λ j l u. at j l u (cases_order j k);
-}
-  where
-    at : (j : ℕ) → i ≤ j → j < k + 1 → (j ≡ k) ⊎ ((j < k) ⊎ (k < j)) → slice_index (set now k w) j < 1
-    at j l u (inl e) = omega (arith, ap (slice_index (set now k w)) e, get_or-set_same now k w 0 inside, none)
-    at j l u (inr (inl lt)) = omega (arith, get_or-set_other now k j w 0 (omega (arith, lt)), h.zeros j l lt)
-    at j l u (inr (inr lt)) = absurd (omega (arith, lt, u))

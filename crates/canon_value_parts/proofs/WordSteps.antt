@@ -9,9 +9,10 @@ use Rattle.canon_model.specs.Memory.{cap}
 use Rattle.canon_val.specs.declared.val.Val.{Val}
 use Rattle.canon_value_parts.proofs.Contents.{each_count}
 use Rattle.canon_lowering.proofs.Parameters.{args_near}
-use Rattle.canon_value_parts.proofs.Walks.{copies_names, copies_quiet, fixed_back, fixed_counted, fixed_is, product_back, product_is}
+use Rattle.canon_passing.proofs.Shapes.{copies_quiet, no_first, no_later}
+use Rattle.canon_value_parts.proofs.Walks.{copies_names, fixed_back, fixed_counted, fixed_is, product_back, product_is}
 use Rattle.canon_plan.proofs.Lookups.{copies_count}
-use Rattle.canon_value_parts.proofs.Steps.{blocks_none, no_first, no_later, blames_first}
+use Rattle.canon_value_parts.proofs.Steps.{blocks_none, blames_first}
 use Rattle.canon_value_parts.specs.Viewed.{HasMembers}
 use Rattle.canon_plan.specs.Plan.{LiesAs}
 use Rattle.canon_model.specs.Requests.{requests}
@@ -24,7 +25,7 @@ use Rattle.canon_lowering.proofs.Attempts.{attempt_as, attempt_none, attempt_oth
 use Rattle.canon_lowering.proofs.AimedWords.{fixed_words, members_words_cons, members_words_stop, product_words, scalar_words, words_moved}
 use Rattle.std.proofs.lemmas.List.{get_or-set_other, get_or-set_same, length-set}
 use Rattle.std.specs.Prelude.{slice_index}
-use Rattle.canon_lowering.specs.Lowering.{Ending, done, refused}
+use Rattle.canon_lowering.specs.Lowering.{Ending, done}
 use Rattle.canon_model.specs.Flat.{SameWords, IsLeastWord, flat_bits, max_params}
 use Rattle.canon_model.specs.Layout.{flat, members_flat}
 use Rattle.canon_model.specs.Text.{Encoding}
@@ -35,7 +36,8 @@ use Rattle.canon_value_parts.specs.Fails.{Blames, FailsAt, MemberFails}
 use Rattle.canon_context.specs.Lowers.{ending_of, fault_ending}
 use Rattle.canon_context.specs.Quiet.{has_block, have_block}
 use Rattle.canon_value_parts.specs.Stores.{PlacesTo, FieldsCount}
-use Rattle.canon_value_parts.specs.Words.{IsWordOf, LowersTo, PartsLowerTo, WordsStay, WordsPassed, inside, place_after}
+use Rattle.canon_passing.specs.Words.{WordsStay}
+use Rattle.canon_value_parts.specs.Words.{IsWordOf, LowersTo, PartsLowerTo, WordsPassed, inside, place_after}
 use Rattle.canon_value_parts.specs.declared.blocks.Placed.{Placed}
 use Rattle.canon_context.specs.declared.fault.Fault.{Fault}
 use Rattle.canon_context.specs.declared.fault.Fault.TheVariants as fault
@@ -47,9 +49,11 @@ use Rattle.canon_plan.proofs.ScalarTypes.{scalar_shape}
 use Rattle.canon_context.proofs.Cores.{not_done}
 use Rattle.canon_model.specs.Leaves.{leaves}
 use Rattle.canon_types.specs.Instance.{Instance}
-use Rattle.canon_value_parts.proofs.Passing.{IsOwn, handles_encoding, handles_instance, handles_then, own_elsewhere, own_ends, passes_as, passes_none, passes_stop, passes_stopped, passes_then}
-use Rattle.canon_value_parts.specs.Resources.{LowersHandles, all_passes, passes}
+use Rattle.canon_passing.proofs.Passing.{IsOwn, handles_encoding, handles_instance, handles_then, own_elsewhere, own_ends, passes_as, passes_none, passes_stop, passes_stopped, passes_then}
+use Rattle.canon_passing.specs.Passed.{LowersHandles}
+use Rattle.canon_value_parts.specs.Resources.{all_passes, passes}
 use Rattle.canon_value_parts.proofs.StoreSteps.{MemberNamed, heads, named_join, named_split, fields_count, product_counts, value_count_members}
+use Rattle.canon_passing.proofs.Words.{first_stay, stays_then}
 
 -- ---- a value's lists of fixed length are as long as its type says
 
@@ -86,13 +90,6 @@ mutual
 
 stays_none : (i : ℕ) (dst : List ℕ) → WordsStay i dst dst
 stays_none i dst = record { same_length = refl; before = λ p l. refl }
-
-pub stays_then : (i j : ℕ) (dst dst2 dst3 : List ℕ) → i ≤ j → WordsStay i dst dst2 → WordsStay j dst2 dst3 → WordsStay i dst dst3
-stays_then i j dst dst2 dst3 later h k = record { same_length = k.same_length ∙ h.same_length; before = λ p l. k.before p (omega (arith, l, later)) ∙ h.before p l }
-
--- the first words stay where the rest are written
-pub first_stay : (i j n : ℕ) (dst dst2 : List ℕ) → j ≡ i + n → WordsStay j dst dst2 → SameWords dst i dst2 i n
-first_stay i j n dst dst2 e h p q l u is = let same : p ≡ q = omega (arith, is) in ap (slice_index dst) same ∙ sym (h.before q (omega (arith, u, is, e)))
 
 -- ---- counting
 

@@ -1,15 +1,13 @@
 -- The laws of values and trees. Each is proved as the contract of a function in src/laws.rt.
-use Rattle.std.specs.Prelude.{◌≡◌, ◌⊎◌, ◌↔◌, IsTrue, ℕ, List, length, map}
+use Rattle.std.specs.Prelude.{◌≡◌, ℕ, List, length, map}
 use Rattle.canon_model.specs.Same.{CarriedTrees}
 use Rattle.canon_model.specs.Shape.{Members, member_count}
 use Rattle.canon_model.specs.Tree.{Trees}
-use Rattle.canon_resources.specs.Held.{Any}
 use Rattle.canon_val.specs.Equal.{data_of}
 use Rattle.canon_value_parts.specs.Fails.{Failure, IsTypeFailure, MemberFails}
 use Rattle.canon_value_parts.specs.Resources.{all_resources}
 use Rattle.canon_val.specs.Value.{AreLiftedFrom, AreSame, HaveTrees}
 use Rattle.canon_val.specs.declared.val.Val.{Val}
-use Rattle.canon_val.specs.declared.val.Val.TheVariants as val
 
 -- Values have one list of trees, but for how many bytes spell a text and which handles stand for resources, and trees are those
 -- of one list of values, whichever its resources are. Lifted values are values, and all that are lifted from the same trees, with

@@ -19,7 +19,8 @@ use Rattle.canon_context.specs.Told.{Exactly, LiftBlames, ToldAt}
 use Rattle.canon_ledger.specs.Ledger.{LedgerState}
 use Rattle.canon_lowering.specs.Storing.{narrow}
 use Rattle.canon_value_parts.specs.Plan.{parts_of, whole_tree}
-use Rattle.canon_value_parts.specs.Resources.{LiftsHandles, all_resources, resources}
+use Rattle.canon_passing.specs.Passed.{LiftsHandles}
+use Rattle.canon_value_parts.specs.Resources.{all_resources, resources}
 use Rattle.canon_val.specs.Value.{HasScalar, IsLiftedFrom, AreLiftedFrom}
 use Rattle.canon_context.specs.declared.fault.Fault.{Fault}
 use Rattle.canon_val.specs.declared.val.Val.{Val}

@@ -13,7 +13,8 @@ use Rattle.canon_model.specs.Rep.{MembersStored, RepMem}
 use Rattle.canon_model.specs.Shape.{Members, Shape}
 use Rattle.canon_model.specs.Text.{Encoding}
 use Rattle.canon_model.specs.Tree.{Tree, Trees}
-use Rattle.canon_value_parts.specs.Resources.{LiftsHandles, resources}
+use Rattle.canon_passing.specs.Passed.{LiftsHandles}
+use Rattle.canon_value_parts.specs.Resources.{resources}
 use Rattle.canon_val.specs.Value.{IsLiftedFrom, AreLiftedFrom}
 use Rattle.canon_val.specs.declared.val.Val.{Val}
 

@@ -10,7 +10,8 @@ use Rattle.canon_context.specs.Core.{Parts, encoding_by, stage_of}
 use Rattle.canon_value_parts.specs.Fails.{AreSmall, Blames, Failure, FailsAt, MemberFails, NoneTooLarge}
 use Rattle.canon_context.specs.Lowers.{ending_of}
 use Rattle.canon_context.specs.Quiet.{Quiet, has_block, have_block}
-use Rattle.canon_value_parts.specs.Resources.{LowersHandles, all_passes, passes}
+use Rattle.canon_passing.specs.Passed.{LowersHandles}
+use Rattle.canon_value_parts.specs.Resources.{all_passes, passes}
 use Rattle.canon_val.specs.Value.{HasTree, HaveTrees, all_places, member_names, places}
 use Rattle.canon_model.specs.Memory.{cap}
 use Rattle.canon_value_parts.specs.declared.blocks.Placed.{Placed}

@@ -1,11 +1,11 @@
 -- How words are written one after another: each value's from its first word on, and its fault, if it fails, at its place.
 -- A core goes from one to another.
-use Rattle.std.specs.Prelude.{◌≡◌, ◌≤◌, ◌+◌, ◌<◌, ◌%◌, ◌^◌, Err, IfOk, List, Ok, Result, Some, length, slice_index, ℕ, false}
+use Rattle.std.specs.Prelude.{◌≡◌, ◌+◌, ◌%◌, ◌^◌, Err, IfOk, List, Ok, Result, Some, ℕ, false}
 use Rattle.canon_lowering.specs.Attempt.{LowersMembers, LowersValue}
 use Rattle.canon_memory.specs.Guest.{GuestIn, Seen}
 use Rattle.canon_memory.specs.declared.event.Event.{Event}
 use Rattle.canon_model.specs.Homes.{host_texts}
-use Rattle.canon_model.specs.Flat.{AreZero, IsLeastWord, flat_bits}
+use Rattle.canon_model.specs.Flat.{IsLeastWord, flat_bits}
 use Rattle.canon_model.specs.Layout.{flat, members_flat}
 use Rattle.canon_model.specs.Rep.{ScalarIs}
 use Rattle.canon_model.specs.Shape.{Members, Name, Scalar, Shape}
@@ -17,13 +17,15 @@ use Rattle.canon_value_parts.specs.Fails.{FailsAt, IsOtherScalar}
 use Rattle.canon_context.specs.Lowers.{ending_of}
 use Rattle.canon_context.specs.Quiet.{Quiet, has_block, have_block}
 use Rattle.canon_context.specs.Asks.{SameButHandles}
-use Rattle.canon_value_parts.specs.Resources.{LowersHandles, all_passes, passes}
+use Rattle.canon_passing.specs.Passed.{LowersHandles}
+use Rattle.canon_value_parts.specs.Resources.{all_passes, passes}
 use Rattle.canon_value_parts.specs.Stores.{PlacesCounted, FieldsCount}
 use Rattle.canon_val.specs.Value.{HasScalar, HasTree, HaveTrees, member_names, places}
 use Rattle.canon_model.specs.Memory.{cap}
 use Rattle.canon_context.specs.declared.fault.Fault.{Fault}
 use Rattle.canon_value_parts.specs.declared.spot.Spot.{Spot}
 use Rattle.canon_val.specs.declared.val.Val.{Val}
+use Rattle.canon_passing.specs.Words.{WordsStay}
 
 -- the first member of a value that has members and stands there
 abbrev pub inside : Spot → Spot
@@ -48,21 +50,6 @@ place_after (Err e) = Err e
 
 abbrev pub WordsPassed : Spot → ℕ → Result Spot Fault → Type 0
 WordsPassed from n result = IfOk result (λ to. to.word ≡ from.word + n)
-
--- the words before word i, and how many there are, stay
-pub record WordsStay (i : ℕ) (dst dst2 : List ℕ) : Type 0 where
-  pub same_length : length dst2 ≡ length dst
-  pub before : (p : ℕ) → p < i → slice_index dst2 p ≡ slice_index dst p
-
--- no words but those from i up to e were written
-pub record WordsWritten (i e : ℕ) (dst dst2 : List ℕ) : Type 0 where
-  pub stays : WordsStay i dst dst2
-  pub behind : (p : ℕ) → e ≤ p → slice_index dst2 p ≡ slice_index dst p
-
--- the words from i up to e become 0, and the others stay
-pub record Clears (i e : ℕ) (dst dst2 : List ℕ) : Type 0 where
-  pub written : WordsWritten i e dst dst2
-  pub zeros : AreZero dst2 i e
 
 module _ {T G : Type 0} (seen : G → Seen) (moves : GuestIn G → List Event → GuestIn G → Type 0) (options : ℕ) (before after : Parts T G) (dst dst2 : List ℕ) (from : Spot) (result : Result Spot Fault) where
   -- a value of the shape s

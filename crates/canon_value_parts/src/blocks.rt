@@ -1,13 +1,12 @@
 //! Blocks of texts and lists, which the guest is asked for.
 
 ghost use Rattle.std.specs.Prelude.{◌≡◌, ◌≤◌, ◌<◌, ◌+◌, ◌*◌, ◌^◌, false, length};
-ghost use Rattle.canon_lowering.specs.Attempt.{args_call, items_call};
+ghost use Rattle.canon_lowering.specs.Attempt.{items_call};
 ghost use Rattle.canon_memory.specs.Realloc.{call};
 ghost use Rattle.canon_model.specs.Laws.{IsAlignment};
 ghost use Rattle.canon_model.specs.Layout.{size};
 ghost use Rattle.canon_model.specs.Shape.{string};
 ghost use Rattle.canon_types.specs.Depth.{element_shape};
-ghost use Rattle.canon_types.specs.Table.{HasTuple, tuple_members};
 ghost use Rattle.canon_context.specs.Core.{encoding_by, component_types};
 ghost use Rattle.canon_plan.specs.Element.{IsKnown, list_shape};
 ghost use Rattle.canon_context.specs.Asks.{AsksFor};
@@ -18,7 +17,6 @@ use canon_context::{Fault, LowerContext, ask};
 use canon_memory::Guest;
 use canon_plan::{Element, element_abi};
 use canon_string::put_text;
-use canon_types::TypeTupleIndex;
 
 /// Where a text or a list stands, its length, and the place of the value after it.
 #[derive(Clone, Copy)]
@@ -69,19 +67,4 @@ pub fn ask_items<T, G: Guest>(
     let _ = length;
     let align = element_abi(cx.types(), element).align32;
     ask(cx, align, bytes)
-}
-
-/// The address of the block of a function's parameters as a tuple, which the guest is asked for (CanonicalABI.md,
-/// "lower_flat_values"). Answers the errors of `LowerContext::realloc`.
-pub fn ask_tuple<T, G: Guest>(
-    cx: &mut LowerContext<'_, T, G>,
-    ty: TypeTupleIndex,
-) -> Result<u64, Fault>
-    requires tuple { HasTuple (component_types cx.old.core.now) ty }
-    ensures asked { AsksFor G.seen G.moves cx.old.core.now cx.new.core.now (args_call false (tuple_members (component_types cx.old.core.now) ty)) result }
-    ensures same_reference { cx.new.core.ghost_name ≡ cx.old.core.ghost_name }
-    ensures same_options { cx.new.options ≡ cx.old.options }
-{
-    let abi = cx.types().tuple(ty).abi;
-    ask(cx, abi.align32, u64::from(abi.size32))
 }

@@ -14,14 +14,16 @@ ghost use Rattle.canon_value_parts.specs.Lifts.{LiftsTo};
 ghost use Rattle.canon_ledger.specs.Ledger.{LedgerState};
 ghost use Rattle.canon_model.specs.Leaves.{flat_leaves, reach_leaves};
 ghost use Rattle.canon_model.specs.Memory.{low};
-ghost use Rattle.canon_value_parts.specs.Resources.{LiftsHandles, resources};
+ghost use Rattle.canon_passing.specs.Passed.{LiftsHandles};
+ghost use Rattle.canon_value_parts.specs.Resources.{resources};
 ghost use Rattle.canon_model.specs.Shape.{Name};
 ghost use Rattle.canon_types.specs.Table.{Knows, shape_of};
 ghost use Rattle.canon_context.specs.Core.{component_types};
 ghost use Rattle.canon_value_parts.specs.Flags.{AreFlags, AreSetInWords, AreUnpaid, HasPlace, MarksHaveRoom, IsFlagsType, SetsBit, SomeUnknown, digit_of, flag_names, marked_number, width_of};
 ghost use Rattle.canon_value_parts.specs.Stores.{StoresTo};
 ghost use Rattle.canon_val.specs.Value.{Occurs};
-ghost use Rattle.canon_value_parts.specs.Words.{LowersTo, WordsWritten};
+ghost use Rattle.canon_passing.specs.Words.{WordsWritten};
+ghost use Rattle.canon_value_parts.specs.Words.{LowersTo};
 ghost use Rattle.canon_val.specs.declared.val.Val.TheVariants as val;
 
 use crate::lists::keep;

@@ -7,7 +7,8 @@ ghost use Rattle.canon_resources.specs.Parts.{LeafLifts, passed};
 ghost use Rattle.canon_plan.specs.Plan.{type_of_handle};
 ghost use Rattle.canon_types.specs.Table.{HasResource, Knows};
 ghost use Rattle.canon_model.specs.Leaves.{leaf};
-ghost use Rattle.canon_value_parts.specs.Resources.{GivesHandle, TakesHandle, told_fault};
+ghost use Rattle.canon_passing.specs.Passed.{GivesHandle, told_fault};
+ghost use Rattle.canon_value_parts.specs.Resources.{TakesHandle};
 
 use canon_context::{Fault, LowerContext, Source};
 use canon_ledger::{Ledger, ResourceFault};

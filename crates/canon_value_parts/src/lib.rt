@@ -15,7 +15,7 @@ mod scalar;
 mod spot;
 mod view;
 
-pub use blocks::{Placed, ask_items, ask_tuple, place_text};
+pub use blocks::{Placed, ask_items, place_text};
 pub use case_view::Case;
 pub use elements::{Elements, element_count, element_of};
 pub use flags::{

@@ -10,7 +10,7 @@ use Rattle.canon_model.specs.Layout.{flat, members_flat, size}
 use Rattle.canon_model.specs.Shape.{Shape, of_places, product}
 use Rattle.canon_types.specs.Table.{TypeTable, shape_of, tuple_members}
 use Rattle.canon_types.specs.declared.types.InterfaceType.TheVariants as ty
-use Rattle.canon_value_parts.proofs.Far.{tuple_shape_of_now}
+use Rattle.canon_passing.proofs.Far.{tuple_shape_of_now}
 use Rattle.canon_args.proofs.host.lower_results.Given.{Over}
 use Rattle.canon_args.proofs.host.lower_results.Goals.{After-is_some}
 use Rattle.canon_args.proofs.host.lower_results.Goals as goal

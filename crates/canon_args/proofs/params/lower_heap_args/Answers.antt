@@ -6,7 +6,7 @@ use Rattle.canon_model.specs.Layout.{size}
 use Rattle.canon_model.specs.Shape.{Shape, of_places, product}
 use Rattle.canon_types.specs.Table.{TypeTable, shape_of, tuple_members}
 use Rattle.canon_types.specs.declared.types.InterfaceType.TheVariants as ty
-use Rattle.canon_value_parts.proofs.Far.{one_word, tuple_shape_of_now}
+use Rattle.canon_passing.proofs.Far.{one_word, tuple_shape_of_now}
 use Rattle.canon_args.proofs.Far.{heap_stored, heap_ungiven, other_words, stored_there}
 use Rattle.canon_args.proofs.Near.{products_of}
 use Rattle.canon_args.specs.Params.{TypedParams}

@@ -6,7 +6,7 @@ use Rattle.canon_model.specs.Layout.{flat}
 use Rattle.canon_model.specs.Shape.{Shape, of_places, product}
 use Rattle.canon_types.specs.Table.{TypeTable, shape_of, tuple_members}
 use Rattle.canon_types.specs.declared.types.InterfaceType.TheVariants as ty
-use Rattle.canon_value_parts.proofs.Far.{tuple_shape_of_now}
+use Rattle.canon_passing.proofs.Far.{tuple_shape_of_now}
 use Rattle.canon_args.proofs.Near.{products_of, stack_lowered}
 use Rattle.canon_args.proofs.params.lower_stack_args.Given.{Over}
 use Rattle.canon_args.proofs.params.lower_stack_args.Goals.{After-tuple-tuple}

@@ -7,7 +7,7 @@ use Rattle.canon_model.specs.Layout.{flat, members_flat}
 use Rattle.canon_model.specs.Shape.{Shape, of_places, product}
 use Rattle.canon_types.specs.Table.{TypeTable, shape_of, tuple_members}
 use Rattle.canon_types.specs.declared.types.InterfaceType.TheVariants as ty
-use Rattle.canon_value_parts.proofs.Far.{tuple_shape_of_now}
+use Rattle.canon_passing.proofs.Far.{tuple_shape_of_now}
 use Rattle.canon_args.proofs.Areas.{few_words, lifts_by, many_words}
 use Rattle.canon_args.proofs.passed.lift_passed.Given.{Over}
 use Rattle.canon_args.proofs.passed.lift_passed.Goals.{After-tuple}

@@ -9,8 +9,7 @@ use Rattle.canon_model.specs.Memory.{low}
 use Rattle.canon_model.specs.Shape.{of_places, product}
 use Rattle.canon_types.specs.Table.{TypeTable, shape_of, tuple_members}
 use Rattle.canon_types.specs.declared.types.InterfaceType.TheVariants as ty
-use Rattle.canon_value_parts.proofs.Far.{tuple_shape_of_now}
-use Rattle.canon_value_parts.proofs.Pointed.{tuple_align, tuple_size}
+use Rattle.canon_passing.proofs.Far.{tuple_shape_of_now, tuple_align, tuple_size}
 use Rattle.canon_args.proofs.Areas.{area_misaligned, area_outside}
 use Rattle.canon_args.proofs.passed.lift_pointed.Given.{Over}
 use Rattle.canon_args.proofs.passed.lift_pointed.Goals.{After-tuple}

@@ -6,8 +6,7 @@ use Rattle.canon_model.specs.Layout.{members_flat, size}
 use Rattle.canon_model.specs.Shape.{of_places, product}
 use Rattle.canon_types.specs.Table.{shape_of, tuple_members}
 use Rattle.canon_types.specs.declared.types.InterfaceType.TheVariants as ty
-use Rattle.canon_value_parts.proofs.Far.{tuple_shape_of_now}
-use Rattle.canon_value_parts.proofs.Pointed.{tuple_size}
+use Rattle.canon_passing.proofs.Far.{tuple_shape_of_now, tuple_size}
 use Rattle.canon_host.proofs.Serving.{told_place}
 use Rattle.canon_host.proofs.conclude.tell_place.Goals as goal
 

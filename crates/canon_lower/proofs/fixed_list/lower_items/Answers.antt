@@ -5,7 +5,7 @@ use Rattle.canon_lower_parts.proofs.Items.{here_at, next_same}
 use Rattle.canon_lower_parts.proofs.WordRows.{row_begin, row_end, lower_row_more, row_room, row_stop}
 use Rattle.canon_types.specs.Instance.{Instance}
 use Rattle.canon_types.specs.Table.{Knows}
-use Rattle.canon_value_parts.proofs.Passing.{handles_instance, handles_types}
+use Rattle.canon_passing.proofs.Passing.{handles_instance, handles_types}
 use Rattle.canon_typed.specs.Typed.{walked_shaped}
 use Rattle.canon_lower.proofs.fixed_list.lower_items.Goals as goal
 

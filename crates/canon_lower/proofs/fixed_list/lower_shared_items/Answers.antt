@@ -4,7 +4,7 @@ use Rattle.canon_lower_parts.proofs.WordRows.{row_begin, row_end, lower_row_more
 use Rattle.canon_plan.proofs.Lookups.{drop_at}
 use Rattle.canon_types.specs.Instance.{Instance}
 use Rattle.canon_types.specs.Table.{Knows}
-use Rattle.canon_value_parts.proofs.Passing.{handles_instance, handles_types}
+use Rattle.canon_passing.proofs.Passing.{handles_instance, handles_types}
 use Rattle.canon_typed.specs.Typed.{walked_shaped}
 use Rattle.canon_lower.proofs.fixed_list.lower_shared_items.Goals as goal
 

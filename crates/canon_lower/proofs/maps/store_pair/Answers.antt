@@ -7,7 +7,7 @@ use Rattle.canon_types.specs.Table.{shape_of}
 use Rattle.canon_lower_parts.proofs.PairSteps.{first_inside, pair_stops, pair_stores, second_inside}
 use Rattle.canon_lower_parts.proofs.Stood.{value_stood}
 use Rattle.canon_lower_parts.specs.Stores.{TypedStores}
-use Rattle.canon_value_parts.proofs.Passing.{handles_instance}
+use Rattle.canon_passing.proofs.Passing.{handles_instance}
 use Rattle.canon_lower.proofs.maps.store_pair.Goals as goal
 
 pub linear_lower_to_memory-requires-clause-room : goal.linear_lower_to_memory-requires-clause-room

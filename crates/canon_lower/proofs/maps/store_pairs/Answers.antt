@@ -5,7 +5,7 @@ use Rattle.canon_context.specs.Core.{component_types}
 use Rattle.canon_model.specs.Layout.{size}
 use Rattle.canon_types.specs.Instance.{Instance}
 use Rattle.canon_typed.specs.Meaning.{PairMeans}
-use Rattle.canon_value_parts.proofs.Passing.{handles_instance}
+use Rattle.canon_passing.proofs.Passing.{handles_instance}
 use Rattle.canon_lower_parts.proofs.Items.{left_below, left_next}
 use Rattle.canon_lower_parts.proofs.MapSteps.{one_inside, pair_stood}
 use Rattle.canon_lower_parts.proofs.Rows.{RowIsStored, row_begin, row_broken, row_ended, row_go_on}

@@ -2,7 +2,7 @@ use Rattle.std.proofs.Common.{Ok}
 use Rattle.canon_context.proofs.Moves.{GuestLaws}
 use Rattle.canon_context.specs.Core.{component_types}
 use Rattle.canon_lower_parts.proofs.WordSteps.{moved_lowers}
-use Rattle.canon_value_parts.proofs.WordSteps.{first_stay}
+use Rattle.canon_passing.proofs.Words.{first_stay}
 use Rattle.canon_model.specs.Layout.{flat}
 use Rattle.canon_types.specs.Table.{shape_of}
 use Rattle.canon_typed.specs.Typed.{walked_shaped}

@@ -1,6 +1,6 @@
 use Rattle.std.proofs.Common.{arith, subst, ℕ}
 use Rattle.canon_model.specs.Flat.{AreZero}
-use Rattle.canon_value_parts.proofs.WordCases.{clears_none, clears_one}
+use Rattle.canon_passing.proofs.Words.{clears_none, clears_one}
 use Rattle.canon_lower_parts.proofs.words.clear_from.Goals as goal
 
 pub loop-k-init : goal.loop-k-init

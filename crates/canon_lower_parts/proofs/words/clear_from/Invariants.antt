@@ -1,5 +1,5 @@
 -- The words before this one are 0, from the first on.
-use Rattle.canon_value_parts.specs.Words.{Clears}
+use Rattle.canon_passing.specs.Words.{Clears}
 use Rattle.canon_lower_parts.proofs.words.clear_from.Given as goal
 
 abbrev pub invariant-loop-k : goal.invariant-loop-k

@@ -4,7 +4,7 @@ use Rattle.canon_context.specs.Quiet.{have_block, have_handle}
 use Rattle.canon_types.specs.Table.{tuple_members}
 use Rattle.canon_value_parts.proofs.Crossing.{crossed, quiet_but, told_blames}
 use Rattle.canon_value_parts.proofs.PassesOf.{no_row_passes}
-use Rattle.canon_value_parts.specs.Args.{LowersResults}
+use Rattle.canon_passing.specs.Args.{LowersResults}
 use Rattle.canon_value_parts.specs.Fails.{MemberFails}
 use Rattle.canon_value_parts.specs.Resources.{all_passes}
 use Rattle.canon_val.specs.Value.{HaveTrees}

@@ -3,7 +3,7 @@ use Rattle.canon_model.specs.Shape.{of_places, product}
 use Rattle.canon_types.specs.Table.{shape_of, tuple_members}
 use Rattle.canon_types.specs.declared.types.InterfaceType.TheVariants as ty
 use Rattle.canon_context.specs.Core.{Parts, component_types}
-use Rattle.canon_value_parts.proofs.Far.{tuple_shape_of_now}
+use Rattle.canon_passing.proofs.Far.{tuple_shape_of_now}
 use Rattle.canon_value_parts.proofs.Givens.{more_than_one, one_or_none}
 use Rattle.canon_value.proofs.given.lower_results_by_size.Given.{Over}
 use Rattle.canon_value.proofs.given.lower_results_by_size.Goals.{After-tuple}

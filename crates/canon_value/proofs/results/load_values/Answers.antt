@@ -15,10 +15,12 @@ use Rattle.canon_context.specs.declared.fault.Fault.TheVariants as fault
 use Rattle.canon_model.specs.Leaves.{Leaf}
 use Rattle.canon_value_parts.proofs.LeavesAt.{far_lifted}
 use Rattle.canon_value_parts.proofs.Lifted.{stops_before}
-use Rattle.canon_value_parts.specs.Resources.{LiftsHandles, all_resources}
+use Rattle.canon_passing.specs.Passed.{LiftsHandles}
+use Rattle.canon_value_parts.specs.Resources.{all_resources}
 use Rattle.canon_val.specs.declared.val.Val.{Val}
 use Rattle.std.specs.declared.alloc.Global.{Global}
-use Rattle.canon_value_parts.proofs.Pointed.{far_err, far_ok, misaligned_blamed, tuple_align, tuple_size}
+use Rattle.canon_passing.proofs.Far.{tuple_align, tuple_size}
+use Rattle.canon_value_parts.proofs.Pointed.{far_err, far_ok, misaligned_blamed}
 use Rattle.canon_value.proofs.results.load_values.Goals.{After-load_members, After-tuple-tuple}
 use Rattle.canon_value.proofs.results.load_values.Goals as goal
 

@@ -1,5 +1,5 @@
 use Rattle.std.proofs.Common.{◌≡◌, ◌≤◌, ◌<◌, ◌+◌, slice_index, ℕ}
-use Rattle.canon_value_parts.specs.Words.{WordsWritten}
+use Rattle.canon_passing.specs.Words.{WordsWritten}
 use Rattle.canon_value_parts.proofs.flags.clear_words.Given as goal
 
 -- the words so far are zero

@@ -2,7 +2,7 @@ use Rattle.std.proofs.Common.{◌∙◌, ap, arith, refl, subst, sym, ℕ}
 use Rattle.canon_types.specs.declared.types.InterfaceType.TheVariants as ty
 use Rattle.canon_types.specs.Table.{TypeTable, shape_of}
 use Rattle.canon_value_parts.specs.Flags.{flag_names}
-use Rattle.canon_value_parts.specs.Words.{WordsWritten}
+use Rattle.canon_passing.specs.Words.{WordsWritten}
 use Rattle.canon_value_parts.proofs.FlagNames.{flags_are}
 use Rattle.canon_value_parts.proofs.FlagSteps.{flags_lower, flags_not_lowered, flags_words_count, flat_flags}
 use Rattle.canon_context.proofs.Moves.{GuestLaws}

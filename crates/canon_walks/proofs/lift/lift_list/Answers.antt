@@ -1,7 +1,8 @@
 use Rattle.std.proofs.Common.{◌<◌, ◌+◌, List, Vec, subst}
 use Rattle.canon_model.specs.Leaves.{Leaf}
 use Rattle.canon_value_parts.proofs.LeavesAt.{list_flat_leaves}
-use Rattle.canon_value_parts.specs.Resources.{LiftsHandles, all_resources}
+use Rattle.canon_passing.specs.Passed.{LiftsHandles}
+use Rattle.canon_value_parts.specs.Resources.{all_resources}
 use Rattle.std.specs.declared.alloc.Global.{Global}
 use Rattle.canon_lowering.specs.Storing.{narrow}
 use Rattle.canon_model.specs.Reach.{FlatFault, flat_reach}

@@ -7,7 +7,8 @@ use Rattle.canon_types.specs.Table.{tuple_members, types_of}
 use Rattle.canon_value_parts.proofs.LeavesAt.{near_leaves}
 use Rattle.canon_value_parts.proofs.LiftSteps.{results_err, results_ok}
 use Rattle.canon_value_parts.proofs.LiftingParts.{unnamed_lifted}
-use Rattle.canon_value_parts.specs.Resources.{LiftsHandles, all_resources}
+use Rattle.canon_passing.specs.Passed.{LiftsHandles}
+use Rattle.canon_value_parts.specs.Resources.{all_resources}
 use Rattle.canon_val.specs.declared.val.Val.{Val}
 use Rattle.canon_walks.proofs.lift.lift_values_near.Goals as goal
 

@@ -6,7 +6,7 @@ use Rattle.canon_types.specs.Table.{Knows, TypeTable, shape_of}
 use Rattle.canon_model.specs.Shape.{Shape}
 use Rattle.canon_types.specs.declared.types.InterfaceType.{InterfaceType}
 use Rattle.canon_value_parts.proofs.HandleLifting.{handle_shape}
-use Rattle.canon_value_parts.proofs.HandleSteps.{handle_flat}
+use Rattle.canon_passing.proofs.Shapes.{handle_flat}
 use Rattle.canon_val.specs.declared.val.Val.{Val}
 use Rattle.canon_val.specs.declared.val.Val.TheVariants as val
 use Rattle.canon_context.specs.Core.{component_types, encoding_by}
@@ -17,7 +17,7 @@ use Rattle.canon_value_parts.specs.declared.spot.Spot.{Spot}
 use Rattle.canon_val.specs.declared.val.Val.{the_lemmas}
 use Rattle.canon_context.proofs.Moves.{GuestLaws}
 use Rattle.canon_value_parts.proofs.Steps.{blames_itself, blocks_none}
-use Rattle.canon_value_parts.proofs.Passing.{handles_types}
+use Rattle.canon_passing.proofs.Passing.{handles_types}
 use Rattle.canon_value_parts.proofs.PassesOf.{case_passes, members_passes}
 use Rattle.canon_value_parts.proofs.Listing.{row}
 use Rattle.canon_value_parts.proofs.Viewing.{lies_depth, lies_words, names_count}

@@ -1,6 +1,6 @@
 use Rattle.std.proofs.Common.{arith, subst, ℕ}
-use Rattle.canon_value_parts.specs.Words.{Clears}
-use Rattle.canon_value_parts.proofs.WordCases.{clears_none, clears_one}
+use Rattle.canon_passing.specs.Words.{Clears}
+use Rattle.canon_passing.proofs.Words.{clears_none, clears_one}
 use Rattle.canon_walks.proofs.lower.clear_to.Goals as goal
 
 pub loop-k-init : goal.loop-k-init

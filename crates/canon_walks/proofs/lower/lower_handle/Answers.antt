@@ -7,7 +7,7 @@ use Rattle.canon_value_parts.specs.Words.{LowersTo}
 use Rattle.canon_val.specs.declared.val.Val.TheVariants as val
 use Rattle.canon_context.proofs.Moves.{GuestLaws}
 use Rattle.canon_value_parts.proofs.HandleSteps.{handle_lowered, handle_not_lowered}
-use Rattle.canon_value_parts.proofs.Passing.{Ended}
+use Rattle.canon_passing.proofs.Passing.{Ended}
 use Rattle.canon_walks.proofs.lower.lower_handle.Goals as goal
 
 pub returns-in-Ok-clause-lowers : goal.returns-in-Ok-clause-lowers

@@ -9,7 +9,7 @@ use Rattle.canon_types.specs.Depth.{deepest, depth, element_shape}
 use Rattle.canon_types.specs.Table.{Knows, TypeTable, shape_of}
 use Rattle.canon_types.specs.declared.types.InterfaceType.{InterfaceType}
 use Rattle.canon_value_parts.proofs.HandleLifting.{handle_shape}
-use Rattle.canon_value_parts.proofs.HandleSteps.{handle_size}
+use Rattle.canon_passing.proofs.Shapes.{handle_size}
 use Rattle.canon_val.specs.declared.val.Val.{Val}
 use Rattle.canon_val.specs.declared.val.Val.TheVariants as val
 use Rattle.canon_context.specs.Core.{Parts, component_types, encoding_by}
@@ -23,7 +23,7 @@ use Rattle.canon_context.specs.declared.fault.Fault.{Fault}
 use Rattle.canon_value_parts.specs.View.{IsMember, viewed_names, viewed_shapes, viewed_values}
 use Rattle.canon_val.specs.declared.val.Val.{the_lemmas}
 use Rattle.canon_context.proofs.Cores.{same_types}
-use Rattle.canon_value_parts.proofs.Passing.{handles_types}
+use Rattle.canon_passing.proofs.Passing.{handles_types}
 use Rattle.canon_value_parts.proofs.PassesOf.{case_passes, listed_passes, members_passes}
 use Rattle.canon_value_parts.proofs.Viewing.{lies_depth, lies_room, names_count, values_count}
 use Rattle.canon_value_parts.proofs.WalkCases.{value_case_stored, case_wants, written_length}

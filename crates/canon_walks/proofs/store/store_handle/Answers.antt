@@ -10,7 +10,7 @@ use Rattle.canon_value_parts.specs.Stores.{StoresTo}
 use Rattle.canon_val.specs.declared.val.Val.TheVariants as val
 use Rattle.canon_context.proofs.Moves.{GuestLaws}
 use Rattle.canon_value_parts.proofs.HandleSteps.{handle_not_stored, handle_stored}
-use Rattle.canon_value_parts.proofs.Passing.{Ended}
+use Rattle.canon_passing.proofs.Passing.{Ended}
 use Rattle.canon_walks.proofs.store.store_handle.Goals as goal
 
 pub returns-in-Ok-clause-stores : goal.returns-in-Ok-clause-stores

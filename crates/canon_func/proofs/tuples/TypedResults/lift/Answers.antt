@@ -5,7 +5,7 @@ use Rattle.canon_model.specs.Shape.{Members, of_places, product}
 use Rattle.canon_types.specs.Depth.{member_borrows}
 use Rattle.canon_types.specs.Table.{TypeTable, shape_of, tuple_members}
 use Rattle.canon_types.specs.declared.types.InterfaceType.TheVariants as ty
-use Rattle.canon_value_parts.proofs.Far.{tuple_shape_of_now}
+use Rattle.canon_passing.proofs.Far.{tuple_shape_of_now}
 use Rattle.canon_func.proofs.Returned.{call_members_are, no_borrow}
 use Rattle.canon_func.proofs.TupleLifted.{LiftsAs, tuple_lifted, tuple_unlifted}
 use Rattle.canon_func.specs.Stores.{export_callee}

@@ -6,7 +6,7 @@ use Rattle.canon_model.specs.Layout.{size}
 use Rattle.canon_types.specs.Table.{shape_of}
 use Rattle.canon_lower_parts.proofs.Items.{here_at, next_same}
 use Rattle.canon_lower_parts.proofs.Rows.{item_stood, row_broken, row_end, row_go_on}
-use Rattle.canon_value_parts.proofs.Passing.{handles_instance}
+use Rattle.canon_passing.proofs.Passing.{handles_instance}
 use Rattle.canon_lower.proofs.lower.Lower.linear_store_list_to_memory.Goals as goal
 use Rattle.canon_plan.proofs.Lookups.{item_size}
 

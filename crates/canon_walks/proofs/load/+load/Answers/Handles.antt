@@ -34,7 +34,8 @@ use Rattle.canon_value_parts.proofs.HandleLifting.{handle_blamed, handle_bytes, 
 use Rattle.canon_value_parts.proofs.LeavesAt.{items_leaves, no_members_left, scalar_leaves, stored_leaves, text_leaves}
 use Rattle.canon_value_parts.proofs.Lifted.{lifts_nothing, no_refusal, parts_of_leaves, put_together, refused_after, refused_before, stops_before, taking_ends, taking_goes_on, taking_stops_first, taking_stops_here}
 use Rattle.canon_value_parts.proofs.ResourcesOf.{scalar_has_none, text_has_none}
-use Rattle.canon_value_parts.specs.Resources.{LiftsHandles, all_resources, resources}
+use Rattle.canon_passing.specs.Passed.{LiftsHandles}
+use Rattle.canon_value_parts.specs.Resources.{all_resources, resources}
 use Rattle.canon_context.specs.Faults.{stop_of}
 use Rattle.canon_walks.proofs.load.+load.Goals as goal
 

@@ -7,8 +7,8 @@ use Rattle.canon_types.specs.Table.{shape_of, tuple_members}
 use Rattle.canon_types.specs.declared.types.InterfaceType.TheVariants as ty
 use Rattle.canon_context.specs.Core.{component_types}
 use Rattle.canon_context.specs.Asks.{AsksFor}
-use Rattle.canon_value_parts.proofs.Far.{tuple_call, tuple_shape_of_now}
-use Rattle.canon_value_parts.proofs.blocks.ask_tuple.Goals as goal
+use Rattle.canon_passing.proofs.Far.{tuple_call, tuple_shape_of_now}
+use Rattle.canon_passing.proofs.tuple.ask_tuple.Goals as goal
 
 pub returns-clause-asked : goal.returns-clause-asked
 returns-clause-asked g c =

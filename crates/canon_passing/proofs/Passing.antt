@@ -1,25 +1,22 @@
 -- What is passed through the ledger on the way, one thing after another.
-use Rattle.std.proofs.Common.{◌≡◌, ◌++◌, ◌∙◌, Err, List, None, Ok, Option, Result, String, Vec, [], ◌∷◌, ap, inl, inr, map, refl, rules, subst, subst₂, sym, ℕ, ◌⊎◌}
-use Rattle.std.proofs.lemmas.List.{map-append}
-use Rattle.canon_context.specs.Asks.{SameBut, SameButHandles}
+use Rattle.std.specs.Prelude.{List, Option, ℕ, ◌≡◌, ◌⊎◌, ◌++◌, Err, None, Ok, Result, [], ◌∷◌, map}
+use Rattle.canon_context.specs.declared.fault.Fault.{Fault}
+use Rattle.canon_lowering.specs.Lowering.{Ending, refused, Reallocated}
+use Rattle.canon_lowering.specs.Stages.{Stage}
 use Rattle.canon_context.specs.Core.{Parts, encoding_by, component_types}
 use Rattle.canon_context.specs.Lowers.{fault_ending}
-use Rattle.canon_context.specs.declared.fault.Fault.{Fault}
-use Rattle.canon_context.specs.declared.fault.Fault.TheVariants as fault
+use Rattle.canon_resources.specs.Parts.{LeavesStop, LeavesTake, PassedResource, lower_parts, refusal_of, LeafMoves, Part}
 use Rattle.canon_ledger.specs.Ledger.{LedgerState}
 use Rattle.canon_ledger.specs.declared.fault.ResourceFault.{ResourceFault}
-use Rattle.canon_resources.proofs.Leaves.{leaves_one, leaves_stop_first, leaves_stop_one, leaves_stop_then, leaves_then, stops_at_once}
-use Rattle.canon_resources.specs.Parts.{LeafMoves, LeavesStop, LeavesTake, Part, PassedResource, lower_parts, refusal_of}
-use Rattle.canon_lowering.specs.Lowering.{Ending, Reallocated, refused}
-use Rattle.canon_model.specs.Requests.{Call}
 use Rattle.canon_types.specs.Instance.{Instance}
-use Rattle.canon_model.specs.Shape.{Name, flags}
-use Rattle.canon_value_parts.specs.Resources.{LowersHandles, ledger_fault, passes}
 use Rattle.canon_context.specs.Faults.{stop_of}
-use Rattle.canon_val.specs.declared.val.Val.{the_lemmas}
-use Rattle.canon_val.specs.declared.val.Val.TheVariants as val
-use Rattle.std.specs.declared.alloc.Global.{Global}
-use Rattle.canon_lowering.specs.Stages.{Stage}
+use Rattle.canon_context.specs.Asks.{SameButHandles, SameBut}
+use Rattle.std.proofs.Common.{◌∙◌, ap, inl, inr, refl, subst, subst₂, sym}
+use Rattle.std.proofs.lemmas.List.{map-append}
+use Rattle.canon_resources.proofs.Leaves.{leaves_one, leaves_stop_first, leaves_stop_one, leaves_stop_then, leaves_then, stops_at_once}
+use Rattle.canon_model.specs.Requests.{Call}
+use Rattle.canon_passing.specs.Passed.{ledger_fault, LowersHandles}
+use Rattle.canon_context.specs.declared.fault.Fault.TheVariants as fault
 
 -- ---- cores one after another, whose ledgers may differ
 
@@ -163,11 +160,6 @@ module _ (types : Instance) where
 pub passes_from : {T G X : Type 0} → (a b : Parts T G) (n : LedgerState) (ps : List PassedResource) (hs : List ℕ) (r : Result X Fault) → SameBut a b → LowersHandles b.component.types b.ledger n ps hs r
     → LowersHandles a.component.types a.ledger n ps hs r
 passes_from a b n ps hs r same h = subst₂ (λ (i : Instance) (l : LedgerState). LowersHandles i l n ps hs r) (handles_instance a b (same_handles a b same)) (value_same_ledger a b same) h
-
--- ---- a value that passes nothing
-
-pub flags_none : (names : List Name) (set : Vec (String Global) Global) → passes (val.Flags set) (flags names) ≡ []
-flags_none names set = search (rules, the_lemmas)
 
 -- ---- one resource
 

@@ -1,0 +1,4 @@
+pub mod Far
+pub mod Passing
+pub mod Shapes
+pub mod Words
