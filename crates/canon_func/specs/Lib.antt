@@ -5,6 +5,7 @@ pub mod AskTypes
 pub mod AskValues
 pub mod Asks
 pub mod Call
+pub mod Called
 pub mod Drop
 pub mod HostAsks
 pub mod Laws

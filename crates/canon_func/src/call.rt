@@ -32,12 +32,9 @@ pub(crate) fn call_core<T, G: Guest, I: Imports<T, G>, P: Params, R: Results>(
     requires inside { IsInside core.old.component export.now }
     requires params { P.fit params.old core.old.component export.now }
     requires results { R.fit core.old.component export.now }
-    ensures call { Adding (moment_of G.seen core.old) (moment_of G.seen core.new)
-        (λ events. OnAnswered result (G.moves (guest_of core.old) events (guest_of core.new)))
-        (λ events. IsCallOf (P.args params.old (export_callee core.old.component export.now)) (R.returns (export_callee core.old.component export.now) export.now.options core.old.id)
-        (LivesUntil G.seen G.moves (guest_of core.old) (guest_of core.new) result) G.leaves (I.gives (I.plan imports.old))
-        (export_callee core.old.component export.now) (allowed core.old.fuel turns) (moment_of G.seen core.old) (moment_of G.seen core.new)
-        (host_side core.old (I.log imports.old) (I.refusals imports.old)) (host_side core.new (I.log imports.new) (I.refusals imports.new)) (map_ok R.out result) events) }
+    ensures call { CallsIn G.seen G.moves G.leaves I.plan I.gives I.log I.refusals (P.args params.old (export_callee core.old.component export.now))
+        (R.returns (export_callee core.old.component export.now) export.now.options core.old.id) (export_callee core.old.component export.now) turns
+        core.old imports.old core.new imports.new result (map_ok R.out result) }
     ensures late { IfErr result IsLate }
     ensures counted { IfOk result (R.counted (export_callee core.old.component export.now)) }
     ensures same { SameButHost core.old core.new }

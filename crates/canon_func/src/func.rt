@@ -1,12 +1,11 @@
 //! A function that a component exports, and how it is called: `Func`.
 
-ghost use Rattle.std.specs.Prelude.{◌≡◌, ◌↔◌, Err, Ok, Some, IfOk, IfSome, IsNone, IsTrue, OnErr, OnOk, length, slice_get, true};
+ghost use Rattle.std.specs.Prelude.{◌≡◌, Err, Ok, Some, IfOk, IfSome, IsNone, OnErr, OnOk, length, slice_get, true};
 ghost use Rattle.canon_types.specs.Table.{IsOver};
 ghost use Rattle.canon_context.specs.Component.{IsInside};
-ghost use Rattle.canon_context.specs.Core.{guest_of, moment_of, component_types};
-ghost use Rattle.canon_host.specs.HostSide.{host_side};
-ghost use Rattle.canon_func.specs.Asks.{allowed};
-ghost use Rattle.canon_func.specs.Call.{Adding, IsCall, LivesUntil, OnAnswered, call_refusal, entry_refusal, refused_by};
+ghost use Rattle.canon_context.specs.Core.{component_types};
+ghost use Rattle.canon_func.specs.Call.{call_refusal, entry_refusal, refused_by};
+ghost use Rattle.canon_func.specs.Called.{CallOf};
 ghost use Rattle.canon_func.specs.Steps.{SameButHost};
 ghost use Rattle.canon_func.specs.Stores.{IsOwned, Named, callee_of, type_of};
 ghost use Rattle.canon_func.specs.Typed.{FitsParams, FitsResults};
@@ -166,11 +165,7 @@ impl Func {
         ensures unchanged { IfSome (refused_by result) (λ e. store.new ≡ store.old) }
 
         // From then on.
-        ensures call { IsNone (refused_by result) → Adding (moment_of G.seen store.old.core) (moment_of G.seen store.new.core)
-            (λ events. OnAnswered result (G.moves (guest_of store.old.core) events (guest_of store.new.core)))
-            (λ events. IsCall (LivesUntil G.seen G.moves (guest_of store.old.core) (guest_of store.new.core) result) G.leaves (I.gives (I.plan store.old.imports))
-            (callee_of store.old self.now) (allowed store.old.core.fuel store.old.turns) params.now (moment_of G.seen store.old.core) (moment_of G.seen store.new.core)
-            (host_side store.old.core (I.log store.old.imports) (I.refusals store.old.imports)) (host_side store.new.core (I.log store.new.imports) (I.refusals store.new.imports)) result results.new events) }
+        ensures call { IsNone (refused_by result) → CallOf G.seen G.moves G.leaves I.plan I.gives I.log I.refusals store.old self.now params.now result results.new store.new }
         ensures trapped { IsNone (refused_by result) → OnErr result (store.new.trapped ≡ true) }
 
         // What it leaves.

@@ -2,10 +2,7 @@
 
 ghost use Rattle.std.specs.Prelude.{◌≡◌, ◌<◌, ◌↔◌, length, false, IfErr, IfOk, IsTrue, IfSome, IsSome};
 ghost use Rattle.canon_context.specs.Component.{IsInside};
-ghost use Rattle.canon_context.specs.Core.{guest_of, moment_of};
-ghost use Rattle.canon_host.specs.HostSide.{host_side};
-ghost use Rattle.canon_func.specs.Asks.{allowed};
-ghost use Rattle.canon_func.specs.Call.{Adding, IsCallOf, LivesUntil, OnAnswered};
+ghost use Rattle.canon_func.specs.Called.{CallsIn};
 ghost use Rattle.canon_func.specs.Steps.{IsLate, SameButHost, map_ok};
 ghost use Rattle.canon_func.specs.Stores.{IsOwned, StoreView, export_callee};
 
@@ -165,12 +162,9 @@ impl<T, G: Guest, I: Imports<T, G>> Store<T, G, I> {
         requires inside { IsInside self.old.core.component export.now }
         requires params { P.fit params.old self.old.core.component export.now }
         requires results { R.fit self.old.core.component export.now }
-        ensures call { Adding (moment_of G.seen self.old.core) (moment_of G.seen self.new.core)
-            (λ events. OnAnswered result (G.moves (guest_of self.old.core) events (guest_of self.new.core)))
-            (λ events. IsCallOf (P.args params.old (export_callee self.old.core.component export.now)) (R.returns (export_callee self.old.core.component export.now) export.now.options self.old.core.id)
-            (LivesUntil G.seen G.moves (guest_of self.old.core) (guest_of self.new.core) result) G.leaves (I.gives (I.plan self.old.imports)) (export_callee self.old.core.component export.now)
-            (allowed self.old.core.fuel self.old.turns) (moment_of G.seen self.old.core) (moment_of G.seen self.new.core)
-            (host_side self.old.core (I.log self.old.imports) (I.refusals self.old.imports)) (host_side self.new.core (I.log self.new.imports) (I.refusals self.new.imports)) (map_ok R.out result) events) }
+        ensures call { CallsIn G.seen G.moves G.leaves I.plan I.gives I.log I.refusals (P.args params.old (export_callee self.old.core.component export.now))
+            (R.returns (export_callee self.old.core.component export.now) export.now.options self.old.core.id) (export_callee self.old.core.component export.now) self.old.turns
+            self.old.core self.old.imports self.new.core self.new.imports result (map_ok R.out result) }
         ensures late { IfErr result IsLate }
         ensures counted { IfOk result (R.counted (export_callee self.old.core.component export.now)) }
         ensures same { SameButHost self.old.core self.new.core }

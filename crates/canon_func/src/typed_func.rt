@@ -1,10 +1,8 @@
 //! A function with Rust types for its parameters and its results: `TypedFunc`.
 
 ghost use Rattle.std.specs.Prelude.{◌≡◌, Err, Ok, IfSome, IsNone, OnErr, OnOk, true};
-ghost use Rattle.canon_context.specs.Core.{guest_of, moment_of};
-ghost use Rattle.canon_host.specs.HostSide.{host_side};
-ghost use Rattle.canon_func.specs.Asks.{allowed};
-ghost use Rattle.canon_func.specs.Call.{Adding, IsCallOf, LivesUntil, OnAnswered, entry_refusal, refused_by};
+ghost use Rattle.canon_func.specs.Call.{entry_refusal, refused_by};
+ghost use Rattle.canon_func.specs.Called.{CallsIn};
 ghost use Rattle.canon_func.specs.Steps.{SameButHost};
 ghost use Rattle.canon_func.specs.Stores.{IsOwned, callee_of, type_of};
 ghost use Rattle.canon_func.specs.Typed.{FitsParams, FitsResults, done_by, options_in, params_shape, typed_args, typed_results};
@@ -74,13 +72,10 @@ impl<P: ComponentNamedList + Lower, R: ComponentNamedList + Lift> TypedFunc<P, R
         ensures unchanged { IfSome (refused_by (done_by result)) (λ e. store.new ≡ store.old) }
 
         // From then on.
-        ensures call { IsNone (refused_by (done_by result)) → Adding (moment_of G.seen store.old.core) (moment_of G.seen store.new.core)
-            (λ events. OnAnswered result (G.moves (guest_of store.old.core) events (guest_of store.new.core)))
-            (λ events. IsCallOf (typed_args (P.walks params) (P.gives store.old.core.component.types (params_shape (callee_of store.old self.now.func)) params) (callee_of store.old self.now.func))
-            (typed_results R.reading (options_in store.old self.now.func) store.old.core.id (callee_of store.old self.now.func))
-            (LivesUntil G.seen G.moves (guest_of store.old.core) (guest_of store.new.core) result) G.leaves (I.gives (I.plan store.old.imports)) (callee_of store.old self.now.func)
-            (allowed store.old.core.fuel store.old.turns) (moment_of G.seen store.old.core) (moment_of G.seen store.new.core)
-            (host_side store.old.core (I.log store.old.imports) (I.refusals store.old.imports)) (host_side store.new.core (I.log store.new.imports) (I.refusals store.new.imports)) result events) }
+        ensures call { IsNone (refused_by (done_by result)) → CallsIn G.seen G.moves G.leaves I.plan I.gives I.log I.refusals
+            (typed_args (P.walks params) (P.gives store.old.core.component.types (params_shape (callee_of store.old self.now.func)) params) (callee_of store.old self.now.func))
+            (typed_results R.reading (options_in store.old self.now.func) store.old.core.id (callee_of store.old self.now.func)) (callee_of store.old self.now.func) store.old.turns
+            store.old.core store.old.imports store.new.core store.new.imports result result }
         ensures trapped { IsNone (refused_by (done_by result)) → OnErr result (store.new.trapped ≡ true) }
 
         // What it leaves.

@@ -1,7 +1,7 @@
 -- What became of one call, by what calling its function did.
-use Rattle.std.proofs.Common.{Err, List, None, Ok, Option, Result, Some, ap, arith, drop, false, inl, inr, length, refl, subst, subst₂, suc, sym, take, true, ℕ, ◌++◌, ◌+◌, ◌<◌, ◌^◌, ◌∙◌, ◌≡◌, ◌≢◌, ◌≤◌, ◌⊎◌}
+use Rattle.std.proofs.Common.{Bool, Err, List, None, Ok, Option, Result, Some, [], ap, arith, drop, false, inl, inr, length, refl, subst, subst₂, suc, sym, take, true, ℕ, ◌++◌, ◌+◌, ◌<◌, ◌^◌, ◌∙◌, ◌∷◌, ◌≡◌, ◌≢◌, ◌≤◌, ◌⊎◌}
 use Rattle.std.proofs.Math.Seq.{take-append_seam}
-use Rattle.std.specs.Prelude.{Vec, IfOk, IfSome, IsNone, IsSome, slice_get}
+use Rattle.std.specs.Prelude.{Vec, IfOk, IfSome, IsNone, IsSome, not, slice_get, ◌&&◌, ◌==◌}
 use Rattle.canon_types.specs.Table.{types_of}
 use Rattle.canon_memory.specs.Guest.{Recorded, of_guest}
 use Rattle.canon_memory.specs.declared.event.Event.{Event}
@@ -15,8 +15,10 @@ use Rattle.canon_context.specs.Core.{Parts, component_types, guest_of}
 use Rattle.canon_context.specs.declared.component.Component.{Component}
 use Rattle.canon_context.specs.declared.fault.Fault.TheVariants as fault
 use Rattle.canon_val.specs.declared.val.Val.{Val}
-use Rattle.canon_func.specs.Call.{call_refusal, refused_by}
-use Rattle.canon_func.specs.Stores.{Named, callee_of, type_in, type_of}
+use Rattle.canon_func.specs.Call.{call_refusal, entry_refusal, refused_by}
+use Rattle.canon_func.specs.Stores.{Callee, Named, callee_of, type_in, type_of}
+use Rattle.canon_model.specs.Shape.{member_count}
+use Rattle.canon_types.specs.Refusal.{first_error}
 use Rattle.canon_func.specs.declared.error.Error.{Error}
 use Rattle.canon_func.specs.declared.error.Error.TheVariants as error
 use Rattle.canon_recording_parts.specs.declared.error.ReplayError.{ReplayError}
@@ -35,6 +37,17 @@ use Rattle.canon_replay.proofs.Places.{recorded_same}
 -- slots that were written, all of them
 pub results_written : (items new : List Val) (n : ℕ) → n ≡ length new → take n (new ++ drop (length new) items) ≡ new
 results_written items new n is = ap (λ k. take k (new ++ drop (length new) items)) is ∙ take-append_seam new (drop (length new) items)
+
+-- where the first of some reasons doesn't refuse, the others decide
+behind_first : (b : Bool) (first : Error) (tests : List (Bool × Error)) → first_error ((b, first) ∷ tests) ≡ None → first_error tests ≡ None
+behind_first true first tests h = cc
+behind_first false first tests h = h
+
+-- a call that isn't refused with some parameters and slots isn't refused for being async or for the store
+entered_by : (callee : Callee) (params slots : ℕ) (trapped : Bool) (o : Option Error) → o ≡ call_refusal callee params slots trapped → o ≡ None → entry_refusal callee trapped ≡ None
+entered_by callee params slots trapped o is none =
+    behind_first (not ((params == member_count callee.params) && (slots == member_count callee.results))) error.WrongCount
+    ((callee.async_, error.AsyncLifted) ∷ (trapped, error.CannotEnterComponent) ∷ []) (sym is ∙ none)
 
 -- Ok isn't out of memory
 pub ok_answered : IsNotShort (Ok tt)
@@ -66,6 +79,9 @@ module _ (k : ℕ) (a : Again) (before after : ReplayStore) (ready : IsReady k b
   same_in events m = recorded_same (of_guest (guest_of before.core)) (of_guest (guest_of after.core)) events m.moves
 
   module _ (slots : ℕ) (results : List Val) where
+    entered : CallsAgain (named_export before a.export) a.params.items slots before after (Ok tt) results → entry_refusal (callee_of before (named_export before a.export)) before.trapped ≡ None
+    entered calls = entered_by (callee_of before (named_export before a.export)) (length a.params.items) slots before.trapped None calls.refused refl
+
     pub after_ok : (o : Option Outcome) → 0 < length (call_events g.recorded k) → CallsAgain (named_export before a.export) a.params.items slots before after (Ok tt) results
         → after.core.component ≡ before.core.component → EndsOk k (named_export before a.export) after results a.results.items o → MakesAgain k call before after o
     after_ok None some calls same (passed, one) =
@@ -76,7 +92,7 @@ module _ (k : ℕ) (a : Again) (before after : ReplayStore) (ready : IsReady k b
           record {
             results = results;
             events = adding.events;
-            made = record { is = adding.so; moves = moves };
+            made = record { entered = entered calls; is = adding.so; moves = moves };
             alike = alike;
             kept = record { same_core = calls.same; turns_kept = calls.turns_kept; asks = ap served_asks (ap (λ (v : Vec Served Global). v.items) calls.plan); recorded = same_in adding.events moves; trapped = calls.runs };
             same = subst (λ (c : Component). HaveOneImage (results_shape_in c.types.types (type_in c (slice_get c.exports.items a.export))) results a.results.items) same one;
@@ -96,7 +112,7 @@ module _ (k : ℕ) (a : Again) (before after : ReplayStore) (ready : IsReady k b
         let adding = calls.call refl in
         let moves = adding.moves in
         let kept = same_in adding.events moves in
-        let made : WasMadeAgain call before after (Ok tt) results adding.events = record { is = adding.so; moves = moves } in
+        let made : WasMadeAgain call before after (Ok tt) results adding.events = record { entered = entered calls; is = adding.so; moves = moves } in
         subst (Departs k call before) (sym is)
         (departs k call before after (Ok tt) results adding.events refl kept made ok_answered (fits adding.events moves).0 (λ f. otherwise adding.events kept f why) (follows adding.events moves))
       where
@@ -110,15 +126,19 @@ module _ (k : ℕ) (a : Again) (before after : ReplayStore) (ready : IsReady k b
         → CallsAgain (named_export before a.export) a.params.items slots before after (Err e) results → Departs k call before (outcome_at k h)
     after_err e other slots_are calls = by (refused_by (Err e)) refl
       where
-        entered : IsNone (refused_by (Err e)) → Departs k call before (outcome_at k h)
-        entered none =
-            let adding = calls.call none in
+        was_entered : refused_by (Err e) ≡ None → Departs k call before (outcome_at k h)
+        was_entered none =
+            let adding = calls.call (subst IsNone (sym none) refl) in
             let moved = adding.moves in
             let moves = unless_short (Err e) (JournaledReplays (guest_of before.core) adding.events (guest_of after.core)) answered moved in
-            departs k call before after (Err e) results adding.events refl (same_in adding.events moves) (record { is = adding.so; moves = moved }) answered (fits adding.events moves).0 (λ f. tt) (follows adding.events moves)
+            let made : WasMadeAgain call before after (Err e) results adding.events = record { entered = not_refused; is = adding.so; moves = moved } in
+            departs k call before after (Err e) results adding.events refl (same_in adding.events moves) made answered (fits adding.events moves).0 (λ f. tt) (follows adding.events moves)
           where
             answered : IsNotShort (Err e)
             answered = err_answered e other
+
+            not_refused : entry_refusal (callee_of before (named_export before a.export)) before.trapped ≡ None
+            not_refused = entered_by (callee_of before (named_export before a.export)) (length a.params.items) slots before.trapped (refused_by (Err e)) calls.refused none
 
         refused : (r : Error) → refused_by (Err e) ≡ Some r → Departs k call before (outcome_at k h)
         refused r is = subst (λ (s : ReplayStore). Departs k call before (outcome_at k (guest_in_store s))) (sym stands)
@@ -128,7 +148,7 @@ module _ (k : ℕ) (a : Again) (before after : ReplayStore) (ready : IsReady k b
             stands = subst (λ o. IfSome o (λ x. after ≡ before)) is calls.unchanged
 
         by : (o : Option Error) → refused_by (Err e) ≡ o → Departs k call before (outcome_at k h)
-        by None is = entered (subst IsNone (sym is) refl)
+        by None is = was_entered is
         by (Some r) is = refused r is
 
   -- ---- as the code has it

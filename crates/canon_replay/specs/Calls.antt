@@ -21,7 +21,7 @@ use Rattle.canon_image_parts.specs.Written.{IsImaged}
 use Rattle.canon_host.specs.HostSide.{HostSide, host_side}
 use Rattle.canon_imports.specs.Imports.{entries_of}
 use Rattle.canon_func.specs.Asks.{allowed}
-use Rattle.canon_func.specs.Call.{IsCall, LivesUntil, OnAnswered, call_refusal}
+use Rattle.canon_func.specs.Call.{IsCall, LivesUntil, OnAnswered, call_refusal, entry_refusal}
 use Rattle.canon_func.specs.Steps.{SameButHost}
 use Rattle.canon_func.specs.Stores.{Named, callee_of, type_of}
 use Rattle.canon_func.specs.declared.error.Error.{Error}
@@ -103,9 +103,10 @@ results_shape_of store export = results_shape_in (component_types store.core) (t
 abbrev pub replay_host : ReplayStore → HostSide (Unit {0})
 replay_host store = host_side store.core (Some (entries_of store.imports.lines.items)) store.imports.refusals
 
--- Its function was called with its parameters, which answered so, and left these results; the guest's events were these, by which it moved. Its
--- imports gave the recorded answers.
+-- Its function, which isn't async, was called with its parameters in a store that isn't trapped; it answered so, and left these results; the guest's
+-- events were these, by which it moved. Its imports gave the recorded answers.
 pub record WasMadeAgain (call : MadeCall) (before after : ReplayStore) (result : Result (Unit {0}) Error) (results : List Val) (events : List Event) : Type 0 where
+  pub entered : entry_refusal (callee_of before (named_export before call.export)) before.trapped ≡ None
   pub is : IsCall (LivesUntil journaled_seen JournaledReplays (guest_of before.core) (guest_of after.core) result) (λ m n. n ≡ m) (GivesNext (asks_in_store before)) (callee_of before (named_export before call.export))
       (allowed before.core.fuel before.turns) call.params (moment_of journaled_seen before.core) (moment_of journaled_seen after.core) (replay_host before) (replay_host after) result results events
   pub moves : OnAnswered result (JournaledReplays (guest_of before.core) events (guest_of after.core))

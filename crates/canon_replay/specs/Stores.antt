@@ -41,6 +41,8 @@ pub record IsNewStore (c : Component) (recorded : List (List Event)) (asks : Lis
   pub narrow : store.core.wide ≡ false
   pub handles : store.core.ledger ≡ new_ledger 256 0 0
   pub guest : guest_in_store store ≡ record { recorded = recorded; call = 0; at = 0; stop = None; live = []; traps = 0; shortages = 0 }
+  pub journal : store.core.guest.events ≡ []
+  pub unshort : store.core.guest.shortages ≡ 0
   pub asks_are : asks_in_store store ≡ asks
   pub served : store.imports.lines.items ≡ []
   pub refused : store.imports.refusals ≡ 0

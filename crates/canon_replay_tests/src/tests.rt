@@ -43,6 +43,20 @@ fn component_of(alloc: Global) -> Option<Component> {
     })
 }
 
+/// The same component, whose export is async.
+fn async_component_of(alloc: Global) -> Option<Component> {
+    let mut c = component_of(alloc)?;
+    c.options.get_mut(0)?.async_ = true;
+    Some(c)
+}
+
+/// What replaying that call gives where the export is async, so that it isn't entered.
+fn replays_async(alloc: Global) -> Option<Outcome> {
+    let c = async_component_of(alloc)?;
+    let r = recording_of(alloc, 2, true)?;
+    replayed(alloc, c, r)
+}
+
 /// A memory of zeros.
 fn zeros(alloc: Global) -> Option<Bytes> {
     let bytes = vec![in alloc; 0u8; PAGE].ok()?;
@@ -149,6 +163,12 @@ fn a_call_that_is_as_recorded_is_the_same(rt: HostRuntime) {
 fn another_word_of_the_start_differs_at_the_start(rt: HostRuntime) {
     let outcome = Outcome::Differs { call: 0, event: 0 };
     assert!(&rt; replays_changed(rt.alloc(), 55, 8) == Some(Ok(outcome)));
+}
+
+#[test]
+fn a_call_of_an_async_function_differs_at_event_0(rt: HostRuntime) {
+    let outcome = Outcome::Differs { call: 0, event: 0 };
+    assert!(&rt; replays_async(rt.alloc()) == Some(outcome));
 }
 
 #[test]

@@ -1,5 +1,5 @@
 -- Flags as values: stored and lowered, or refused for a name.
-use Rattle.std.proofs.Common.{◌≡◌, ◌≤◌, ◌<◌, ◌+◌, ◌/◌, ◌%◌, ◌^◌, ◌∙◌, ◌++◌, ◌∷◌, Err, List, None, Ok, String, Vec, [], ap, arith, false, get_or, length, refl, slice_index, subst, sym, ℕ}
+use Rattle.std.proofs.Common.{◌≡◌, ◌≤◌, ◌<◌, ◌+◌, ◌/◌, ◌%◌, ◌^◌, ◌∙◌, ◌++◌, ◌∷◌, Err, List, None, Ok, String, Vec, [], ap, arith, false, get_or, length, refl, slice_index, subst, sym, ℕ, rules}
 use Rattle.std.specs.Int.{div_ceil}
 use Rattle.std.specs.declared.alloc.Global.{Global}
 use Rattle.std.proofs.lemmas.List.{length-map}
@@ -39,6 +39,7 @@ use Rattle.canon_context.proofs.Moves.{GuestLaws}
 use Rattle.canon_value_parts.proofs.Sizes.{flags_small}
 use Rattle.canon_context.proofs.Cores.{written_whole}
 use Rattle.canon_lowering.specs.Stages.{Stage}
+use Rattle.canon_val.specs.declared.val.Val.{the_lemmas}
 
 -- ---- a value that passes nothing
 
