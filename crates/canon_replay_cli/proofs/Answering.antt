@@ -3,7 +3,7 @@ use Rattle.std.proofs.Common.{◌≡◌, ◌≤◌, ◌<◌, ℕ, List, [], ◌+
 use Rattle.std.specs.Prelude.{IfSome}
 use Rattle.std.specs.Io.KnownBytes.{Consumes}
 use Rattle.serde_json.specs.Data.{Data}
-use Rattle.canon_script.specs.Script.{Play, script_of}
+use Rattle.canon_script.specs.Script.{Play}
 use Rattle.canon_cli.specs.Program.{IsInput, IsJson, IsNoJson, IsStatus, OnTold, ReadsNoJson, ReadsTooMuch, max_input}
 use Rattle.canon_cli.specs.declared.status.Status.{Status}
 use Rattle.canon_context.specs.declared.component.Component.{Component}

@@ -1,6 +1,7 @@
 -- Whether calls of a component may be recorded is a matter of its types, its exports and its imports.
 use Rattle.std.proofs.Common.{All, List, None, Option, Some, ap, length, refl, subst, sym, ℕ, ◌<◌, ◌∙◌, ◌≡◌}
-use Rattle.std.specs.Prelude.{false, option_map, slice_get}
+use Rattle.std.specs.Prelude.{Bool, false, if◌then◌else◌, option_map, slice_get, true}
+use Rattle.serde_json.specs.Data.{Data}
 use Rattle.canon_model.specs.Shape.{Members, no_members}
 use Rattle.canon_types.specs.Instance.{Instance}
 use Rattle.canon_types.specs.declared.types.TypeFunc.{TypeFunc}
@@ -13,9 +14,9 @@ use Rattle.canon_func.specs.Stores.{callee_in, params_in, results_in}
 use Rattle.canon_plan.specs.NoHandle.{HaveNoHandle}
 use Rattle.canon_recording.specs.Fits.{IsHost, IsRecordable}
 use Rattle.canon_recording.specs.Recordings.{import_type}
-use Rattle.canon_script.specs.Script.{Play}
+use Rattle.canon_script.specs.Script.{Play, script_of}
 use Rattle.canon_replay_cli.specs.Replays.{IsNoReplayTask, ReplayTask, replay_task_with}
-use Rattle.canon_replay_cli.specs.Scripts.{AreCallItems, IsNoRecordable, IsOfScript}
+use Rattle.canon_replay_cli.specs.Scripts.{AreCallItems, IsNoRecordable, IsOfScript, has_handle_entry, plain_script_of}
 
 same_params : (c d : Component) (o : Option Export) → d.types ≡ c.types → (callee_in c o).params ≡ (callee_in d o).params
 same_params c d None e = refl
@@ -86,3 +87,11 @@ no_replay_script bytes (Some play) o e h = subst IsNoReplayTask (sym e) h
 -- there is one script
 pub one_script : (o : Option Play) (p q : Play) → o ≡ Some p → o ≡ Some q → p ≡ q
 one_script o p q e f = let same : Some p ≡ Some q = sym e ∙ f in cc
+
+-- a script without handles among its types is a script
+pub plain_is_script : (d : Data) (p : Play) → plain_script_of d ≡ Some p → script_of d ≡ Some p
+plain_is_script d p h = go (has_handle_entry d) h
+  where
+    go : (b : Bool) → (if b then None else script_of d) ≡ Some p → script_of d ≡ Some p
+    go true e = let no : None ≡ Some p = e in absurd (cc)
+    go false e = e

@@ -3,12 +3,12 @@ use Rattle.std.specs.Prelude.{ℕ, ◌≡◌, ◌<◌, ◌≤◌, ◌⊎◌, Lis
 use lib.Pointwise.{pointwise}
 use Rattle.std.specs.declared.alloc.Global.{Global}
 use Rattle.serde_json.specs.Data.{Data}
-use Rattle.canon_script.specs.Script.{Play, script_of}
+use Rattle.canon_script.specs.Script.{Play}
 use Rattle.canon_cli.specs.Program.{IsInput, IsJson, IsNoJson, IsStatus, max_input}
 use Rattle.canon_cli.specs.declared.status.Status.{Status}
 use Rattle.canon_replay_cli.specs.Recorded.{IsPlayTooLong, IsPlayRecorded}
 use Rattle.canon_replay_cli.specs.Replays.{IsNoReplayTask, IsReplayText, ReplayTask, replay_task_of}
-use Rattle.canon_replay_cli.specs.Scripts.{IsNoRecordable}
+use Rattle.canon_replay_cli.specs.Scripts.{IsNoRecordable, plain_script_of}
 use Rattle.canon_replay_cli.specs.declared.command.ReplayCommand.{ReplayCommand}
 use Rattle.canon_replay_cli.specs.declared.command.ReplayCommand.TheVariants as command
 
@@ -25,17 +25,17 @@ replay_command_of (word ∷ other ∷ words) = None
 
 -- a JSON value isn't what the command reads
 abbrev pub IsNoTaskOf : ReplayCommand → Data → Type 0
-IsNoTaskOf command.Record tree = IsNoRecordable (script_of tree)
+IsNoTaskOf command.Record tree = IsNoRecordable (plain_script_of tree)
 IsNoTaskOf command.Replay tree = IsNoReplayTask (replay_task_of tree)
 
 -- it was done, and this is to be written
 abbrev pub IsDoneOf : ReplayCommand → Data → List ℕ → Type 0
-IsDoneOf command.Record tree bytes = (play : Play) × (script_of tree ≡ Some play) × IsPlayRecorded play bytes
+IsDoneOf command.Record tree bytes = (play : Play) × (plain_script_of tree ≡ Some play) × IsPlayRecorded play bytes
 IsDoneOf command.Replay tree text = (task : ReplayTask) × (replay_task_of tree ≡ Some task) × IsReplayText task text
 
 -- it was played, and its recording is too long to be written
 abbrev pub IsTooLongOf : ReplayCommand → Data → Type 0
-IsTooLongOf command.Record tree = (play : Play) × (script_of tree ≡ Some play) × IsPlayTooLong play
+IsTooLongOf command.Record tree = (play : Play) × (plain_script_of tree ≡ Some play) × IsPlayTooLong play
 IsTooLongOf command.Replay tree = ⊥
 
 -- what was read is a JSON value of which this is so

@@ -6,9 +6,9 @@ use Rattle.canon_context.specs.declared.component.Component.{Component}
 use Rattle.canon_json.specs.Hex.{bytes_of}
 use Rattle.canon_json.specs.Json.{has_len}
 use Rattle.canon_recording.specs.Fits.{IsRecordable}
-use Rattle.canon_script.specs.Script.{Play, script_of}
+use Rattle.canon_script.specs.Script.{Play}
 use Rattle.canon_replay_cli.specs.Lines.{IsToldOf}
-use Rattle.canon_replay_cli.specs.Scripts.{AreCallItems, IsOfScript, IsRecordableScript}
+use Rattle.canon_replay_cli.specs.Scripts.{AreCallItems, IsOfScript, IsRecordableScript, plain_script_of}
 
 -- a script, and bytes
 pub record ReplayTask : Type 0 where
@@ -23,7 +23,7 @@ abbrev pub replay_task_of : Data → Option ReplayTask
 replay_task_of d =
     if has_len 2 (as_object d)
     then option_and_then (λ bytes. option_map (λ script. replay_task_with script bytes)
-    (option_and_then script_of (get (codes "script") d)))
+    (option_and_then plain_script_of (get (codes "script") d)))
     (option_and_then bytes_of (get (codes "hex") d))
     else None
 

@@ -1,10 +1,34 @@
 -- Scripts whose calls may be recorded.
-use Rattle.std.specs.Prelude.{List, None, Option, Some, [], length, map, ⊤, ◌∷◌, ◌≡◌, ◌≤◌}
+use Rattle.std.specs.Option.{is_some, option_map_or}
+use Rattle.std.specs.Prelude.{Bool, List, None, Option, Some, [], codes, false, if◌then◌else◌, length, map, ⊤, ◌||◌, ◌∷◌, ◌≡◌, ◌≤◌}
+use Rattle.serde_json.specs.Data.{Data, Items, item, no_items}
+use Rattle.serde_json.specs.Find.{get}
+use Rattle.canon_json.specs.Json.{items_of}
 use Rattle.canon_context.specs.declared.component.Component.{Component}
 use Rattle.canon_recording.specs.Fits.{IsRecordable}
-use Rattle.canon_script.specs.Script.{Play, ScriptItem, call_item, drop_item, item_view, new_item, typed_item}
+use Rattle.canon_script.specs.Script.{Play, ScriptItem, call_item, drop_item, item_view, new_item, script_of, typed_item}
 use Rattle.canon_player.specs.Stores.{IsScripted}
 use Rattle.canon_replay_cli.specs.declared.scripted.Scripted.{Scripted}
+
+-- ---- types
+
+-- the entry is a handle of a resource
+abbrev pub is_handle_entry : Data → Bool
+is_handle_entry d = is_some (get (codes "own") d) || is_some (get (codes "borrow") d)
+
+abbrev pub any_handle_entry : Items → Bool
+any_handle_entry no_items = false
+any_handle_entry (item d ds) = is_handle_entry d || any_handle_entry ds
+
+-- one of the entries of a script's types is, whether a function has it or not
+abbrev pub has_handle_entry : Data → Bool
+has_handle_entry d = option_map_or any_handle_entry (items_of (get (codes "types") d)) false
+
+-- the script that a JSON value stands for, where no entry of its types is a handle
+abbrev pub plain_script_of : Data → Option Play
+plain_script_of d = if has_handle_entry d then None else script_of d
+
+-- ---- items
 
 -- it is a call with dynamic values
 abbrev pub IsCallItem : ScriptItem → Type 0

@@ -9,7 +9,7 @@ ghost use Rattle.canon_recording.specs.Recordings.{calls_in};
 ghost use Rattle.canon_script.specs.Script.{Play, item_view, play_of, script_of};
 ghost use Rattle.canon_player.specs.Session.{Session};
 ghost use Rattle.canon_replay_cli.specs.Recorded.{IsPlayRecorded, IsPlayTooLong, IsRecordingOf, IsRecordingTooLong};
-ghost use Rattle.canon_replay_cli.specs.Scripts.{IsNoRecordable};
+ghost use Rattle.canon_replay_cli.specs.Scripts.{IsNoRecordable, plain_script_of};
 ghost use Rattle.canon_replay_cli.specs.declared.record.RecordError.TheVariants as error;
 
 use crate::scripted::Scripted;
@@ -38,9 +38,9 @@ pub enum RecordError {
 /// Plays the script of a JSON value, and gives the bytes of the recording of its calls that answered Ok, up to the first that didn't or whose
 /// guest broke the law of `realloc` by order of the script.
 pub fn record_bytes(alloc: Global, v: &Value) -> Result<Vec<u8>, RecordError>
-    ensures done { IfOk result (λ bytes. (play : Play) × (script_of (view v.now) ≡ Some play) × IsPlayRecorded play bytes.items) }
-    ensures bad_script { result ≡ Err error.BadScript → IsNoRecordable (script_of (view v.now)) }
-    ensures too_long { result ≡ Err error.TooLong → (play : Play) × (script_of (view v.now) ≡ Some play) × IsPlayTooLong play }
+    ensures done { IfOk result (λ bytes. (play : Play) × (plain_script_of (view v.now) ≡ Some play) × IsPlayRecorded play bytes.items) }
+    ensures bad_script { result ≡ Err error.BadScript → IsNoRecordable (plain_script_of (view v.now)) }
+    ensures too_long { result ≡ Err error.TooLong → (play : Play) × (plain_script_of (view v.now) ≡ Some play) × IsPlayTooLong play }
 {
     let scripted = match scripted_of_json(alloc, v) {
         Ok(scripted) => scripted,
