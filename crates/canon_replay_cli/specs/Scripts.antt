@@ -4,6 +4,7 @@ use Rattle.std.specs.Prelude.{Bool, List, None, Option, Some, [], codes, false, 
 use Rattle.serde_json.specs.Data.{Data, Items, item, no_items}
 use Rattle.serde_json.specs.Find.{get}
 use Rattle.canon_json.specs.Json.{items_of}
+use Rattle.canon_context.specs.Component.{IsComponent}
 use Rattle.canon_context.specs.declared.component.Component.{Component}
 use Rattle.canon_recording.specs.Fits.{IsRecordable}
 use Rattle.canon_script.specs.Script.{Play, ScriptItem, call_item, drop_item, item_view, new_item, script_of, typed_item}
@@ -59,6 +60,8 @@ IsNoRecordable (Some play) = ¬ IsRecordableScript play
 
 pub record IsScriptedBy (play : Play) (s : Scripted) : Type 0 where
   pub component : IsOfScript play s.component
+  pub sound : IsComponent s.component
+  pub recordable : IsRecordable s.component
   pub items : map item_view s.items.items ≡ play.items
   pub calls : AreCallItems play.items
   pub told : length play.posts ≤ length play.types.funcs

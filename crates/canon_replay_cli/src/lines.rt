@@ -41,6 +41,8 @@ pub fn replay_lines(alloc: Global, v: &Value) -> Result<String, ScriptError>
 
 /// The lines of the recording of these bytes.
 fn lines_of(alloc: Global, scripted: Scripted, bytes: &[u8]) -> Result<String, ScriptError>
+    requires sound { IsComponent scripted.component }
+    requires recordable { IsRecordable scripted.component }
     ensures lines { IfOk result (λ text. spec.IsToldOf scripted.component scripted.fuel scripted.turns bytes.now (string_bytes text)) }
     ensures memory { IfErr result (λ e. e ≡ refused.OutOfMemory) }
 {

@@ -1,8 +1,5 @@
 //! What is taken of a script whose calls may be recorded.
 
-ghost use Rattle.canon_context.specs.Component.{IsComponent};
-ghost use Rattle.canon_recording.specs.Fits.{IsRecordable};
-
 use canon_script::Item;
 use canon_value::Component;
 
@@ -13,6 +10,4 @@ pub(crate) struct Scripted {
     pub(crate) items: Vec<Item>,
     pub(crate) fuel: u64,
     pub(crate) turns: u64,
-    ghost sound: { IsComponent component },
-    ghost recordable: { IsRecordable component },
 }
