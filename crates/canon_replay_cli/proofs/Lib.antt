@@ -2,4 +2,5 @@ pub mod Answering
 pub mod KeptCalls
 pub mod PlayedRuns
 pub mod Recordable
+pub mod RecordedScripts
 pub mod TakingCalls

@@ -39,4 +39,4 @@ module _ (items : List Item) (records : List Record) where
   }
     where
       longer : (others : List RecordedCall) → recorded_calls next ++ others ≡ recorded_calls calls ++ recorded_call call ∷ others
-      longer others = rw e rw (map_end recorded_call calls call) append_assoc (recorded_calls calls) (recorded_call call ∷ []) others
+      longer others = rw e (rw (map_end recorded_call calls call) (append_assoc (recorded_calls calls) (recorded_call call ∷ []) others))

@@ -24,11 +24,13 @@ pub(crate) fn recording_of(
     let mut calls = Vec::new(alloc);
     let mut records = records.into_iter();
     for item in items {
-        let Some(played) = records.next() else {
-            return Ok(Recording { calls });
+        let played = match records.next() {
+            Some(played) => played,
+            None => return Ok(Recording { calls }),
         };
-        let Some(call) = recorded_of(alloc, item, played)? else {
-            return Ok(Recording { calls });
+        let call = match recorded_of(alloc, item, played)? {
+            Some(call) => call,
+            None => return Ok(Recording { calls }),
         };
         calls.push(call)?;
     }

@@ -4,4 +4,4 @@ use Rattle.canon_replay_cli.specs.Lines.{same_lines}
 use Rattle.canon_replay_cli.proofs.lines.same_lines.Given as goal
 
 abbrev pub invariant-loop-k : goal.invariant-loop-k
-invariant-loop-k l = record { lines : string_bytes l.text ≡ same_lines l.k }
+invariant-loop-k l = record { lines : string_bytes l.text ≡ same_lines l.k-counter }
