@@ -1,5 +1,6 @@
 -- What is written as a recording of a component, in few bytes, is of the component's functions, and each of its memories is short.
-use Rattle.std.proofs.Common.{All, List, [], ap, arith, false, length, length-append, refl, subst, suc, sym, zero, ℕ, ⊤, ◌<◌, ◌^◌, ◌∷◌, ◌≤◌}
+use Rattle.std.proofs.Common.{All, List, [], ap, arith, false, length, length-append, refl, subst, suc, sym, zero, ℕ, ◌<◌, ◌^◌, ◌∷◌, ◌≤◌}
+use Rattle.std.specs.Prelude.{⊤}
 use Rattle.std.proofs.lemmas.List.Elements.{All-cons, All-nil}
 use Rattle.canon_model.specs.Image.{le_bytes}
 use Rattle.canon_model.specs.Shape.{Members, member, no_members}

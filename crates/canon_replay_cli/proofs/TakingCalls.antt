@@ -35,7 +35,7 @@ module _ (items : List Item) (records : List Record) where
 
   pub one_taken : (calls next : List Recorded) (i : Item) (left : List Item) (r : Record) (more : List Record) (call : Recorded) → AreCallsTaken calls (i ∷ left) (r ∷ more) → IsTakenCall (item_view i) r (Some call) → next ≡ calls ++ call ∷ [] → AreCallsTaken next left more
   one_taken calls next i left r more call are (kept, is) e = record {
-    rest = λ others h. subst (TakesCalls (map item_view items) records) (sym (longer others)) (are.rest (recorded_call call ∷ others) (kept, (is, h)));
+    rest = λ others h. subst (TakesCalls (map item_view items) records) (sym (longer others)) (are.rest (recorded_call call ∷ others) (kept, is, h));
   }
     where
       longer : (others : List RecordedCall) → recorded_calls next ++ others ≡ recorded_calls calls ++ recorded_call call ∷ others
