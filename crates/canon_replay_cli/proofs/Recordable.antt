@@ -95,3 +95,7 @@ plain_is_script d p h = go (has_handle_entry d) h
     go : (b : Bool) → (if b then None else script_of d) ≡ Some p → script_of d ≡ Some p
     go true e = let no : None ≡ Some p = e in absurd (cc)
     go false e = e
+
+-- a script none of whose types is a handle
+pub script_is_plain : (d : Data) (p : Play) → has_handle_entry d ≡ false → script_of d ≡ Some p → plain_script_of d ≡ Some p
+script_is_plain d p none h = ap (λ (b : Bool). if b then None else script_of d) none ∙ h
