@@ -21,7 +21,10 @@ module _ (k : ℕ) (f : Named) (store : ReplayStore) (results recorded : List Va
 
   pub ended_otherwise : (o : Outcome) → ComparesImages (results_shape_in (component_types mid.core) (type_of mid f)) results recorded (Ok false) → IsResultTuple mid.core.component f.export → o ≡ outcome_at k (guest_in_store mid)
       → EndsOk k f store results recorded (Some o)
-  ended_otherwise o others tuple is = (outcome_there o is, inr (
-    subst (λ (s : ReplayStore). HaveOtherImages (results_shape_in (component_types s.core) (type_of s f)) results recorded) same others,
-    subst (λ (s : ReplayStore). IsResultTuple s.core.component f.export) same tuple,
-  ))
+  ended_otherwise o others tuple is = (
+    outcome_there o is,
+    inr (
+      subst (λ (s : ReplayStore). HaveOtherImages (results_shape_in (component_types s.core) (type_of s f)) results recorded) same others,
+      subst (λ (s : ReplayStore). IsResultTuple s.core.component f.export) same tuple,
+    ),
+  )
