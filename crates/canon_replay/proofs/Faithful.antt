@@ -3,7 +3,7 @@ use Rattle.std.proofs.Common.{All, Bool, Err, List, None, Ok, Option, Result, So
 use Rattle.std.proofs.lemmas.Bool.{eq-eqb}
 use Rattle.std.proofs.lemmas.List.Elements.{All-head, All-tail}
 use Rattle.std.specs.Prelude.{IfSome, IsSome, slice_get, not, ◌&&◌, ◌==◌, ◌≢◌}
-use Rattle.canon_model.specs.Shape.{member_count, of_places, product}
+use Rattle.canon_model.specs.Shape.{member_count}
 use Rattle.canon_memory.specs.declared.event.Event.{Event}
 use Rattle.canon_memory.specs.declared.event.Event.TheVariants as event
 use Rattle.canon_memory.specs.Guest.{GuestIn, Seen}
@@ -15,7 +15,6 @@ use Rattle.canon_context.specs.Component.{IsComponent, IsInside}
 use Rattle.canon_context.specs.Core.{Parts, guest_of, moment_of}
 use Rattle.canon_context.specs.declared.component.Component.{Component}
 use Rattle.canon_context.specs.declared.component.Export.{Export}
-use Rattle.canon_context.specs.declared.fault.Fault.TheVariants as fault
 use Rattle.canon_plan.specs.NoHandle.{HaveNoHandle}
 use Rattle.canon_val.specs.declared.val.Val.{Val}
 use Rattle.canon_host.specs.HostSide.{Giving, LoggedEntry, host_side}

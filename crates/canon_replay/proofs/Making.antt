@@ -1,12 +1,12 @@
 -- What became of one call, by what calling its function did.
-use Rattle.std.proofs.Common.{Bool, Err, List, None, Ok, Option, Result, Some, [], ap, arith, drop, false, inl, inr, length, refl, subst, subst₂, suc, sym, take, true, ℕ, ◌++◌, ◌+◌, ◌<◌, ◌^◌, ◌∙◌, ◌∷◌, ◌≡◌, ◌≢◌, ◌≤◌, ◌⊎◌}
+use Rattle.std.proofs.Common.{Bool, Err, List, None, Ok, Option, Result, Some, [], ap, arith, drop, false, inl, inr, length, refl, subst, subst₂, sym, take, true, ℕ, ◌++◌, ◌<◌, ◌^◌, ◌∙◌, ◌∷◌, ◌≡◌, ◌≢◌, ◌≤◌, ◌⊎◌}
 use Rattle.std.proofs.Math.Seq.{take-append_seam}
 use Rattle.std.specs.Prelude.{Vec, IfOk, IfSome, IsNone, IsSome, not, slice_get, ◌&&◌, ◌==◌}
 use Rattle.canon_types.specs.Table.{types_of}
 use Rattle.canon_memory.specs.Guest.{Recorded, of_guest}
 use Rattle.canon_memory.specs.declared.event.Event.{Event}
 use Rattle.canon_replay_guest.specs.Fitting.{CanReplayFrom}
-use Rattle.canon_replay_guest.specs.Following.{Follows, IsBefore, Overruns, TrapsInCall}
+use Rattle.canon_replay_guest.specs.Following.{Follows, Overruns, TrapsInCall}
 use Rattle.canon_replay_guest.specs.Replaying.{Replaying, call_events}
 use Rattle.canon_replay_guest.specs.declared.stop.Stop.TheVariants as stop
 use Rattle.canon_replay_guest.proofs.Fitting.{never_unfit}
@@ -25,7 +25,7 @@ use Rattle.canon_recording_parts.specs.declared.error.ReplayError.{ReplayError}
 use Rattle.canon_recording.specs.Recordings.{served_asks}
 use Rattle.canon_recording.specs.declared.recording.Served.{Served}
 use Rattle.std.specs.declared.alloc.Global.{Global}
-use Rattle.canon_replay.specs.Calls.{AnswersOtherwise, CallReplayed, Departs, EndsOk, HaveOneImage, HaveOtherImages, IsNotShort, IsResultTuple, IsReady, MadeCall, MakesAgain, WasMadeAgain, made_again, results_shape_in, results_shape_of}
+use Rattle.canon_replay.specs.Calls.{AnswersOtherwise, Departs, EndsOk, HaveOneImage, HaveOtherImages, IsNotShort, IsResultTuple, IsReady, MadeCall, MakesAgain, WasMadeAgain, made_again, results_shape_in}
 use Rattle.canon_replay.specs.Made.{CallsAgain}
 use Rattle.canon_replay.specs.Outcomes.{has_passed, outcome_at, place_in_call}
 use Rattle.canon_replay.specs.Stores.{JournaledReplays, ReplayStore, guest_in_store, named_export}

@@ -1,7 +1,7 @@
 use Rattle.std.proofs.Common.{None, Option, Some, ap, subst, sym, ◌∙◌, ◌≡◌}
 use Rattle.canon_model.specs.Shape.{of_places, product}
 use Rattle.canon_plan.proofs.Lookups.{tuple_shape_of}
-use Rattle.canon_types.specs.Table.{TypeTable, shape_of, tuple_members}
+use Rattle.canon_types.specs.Table.{shape_of, tuple_members}
 use Rattle.canon_types.specs.declared.types.InterfaceType.TheVariants as ty
 use Rattle.canon_types.specs.declared.types.TypeFunc.{TypeFunc}
 use Rattle.canon_context.specs.declared.component.Component.{Component}
