@@ -5,6 +5,7 @@ use Rattle.std.specs.Io.KnownBytes.{Consumes}
 use Rattle.serde_json.specs.Data.{Data}
 use Rattle.canon_script.specs.Script.{Play}
 use Rattle.canon_cli.specs.Program.{IsInput, IsJson, IsNoJson, IsStatus, OnTold, ReadsNoJson, ReadsTooMuch, max_input}
+use Rattle.canon_cli.specs.Streams.{TakesAtMost}
 use Rattle.canon_cli.specs.declared.status.Status.{Status}
 use Rattle.canon_context.specs.declared.component.Component.{Component}
 use Rattle.canon_recording.specs.Fits.{IsRecordable}
@@ -112,3 +113,27 @@ pub replay_completes_told : (asked : ReplayCommand) (left : Option (List ℕ)) (
     → OnTold left (λ input. IsTaskOf asked input → (s.0 ≡ 0) ⊎ ((s.0 ≡ 5) ⊎ (s.0 ≡ 9)))
 replay_completes_told asked None s h sound = tt
 replay_completes_told asked (Some input) s h sound = replay_completes asked input s h sound
+
+-- ---- what is taken of the source
+
+-- A status but that of too long an input and of want of memory: a read failed, or the input was read to its end.
+pub takes_few : (asked : ReplayCommand) (left left' : Option (List ℕ)) (s fault memory long json other nine : Status)
+    → (s ≡ fault) ⊎ ((s ≡ memory) ⊎ ((s ≡ long) ⊎ ((s ≡ json) ⊎ ((s ≡ other) ⊎ (s ≡ nine)))))
+    → (s ≡ fault → TakesAtMost max_input left left') → (s ≡ json → ReadsNoJson left left') → (s ≡ other → ReadsOther asked left left') → (s ≡ nine → ReadsTooLong asked left left')
+    → ¬ (s ≡ long) → ¬ (s ≡ memory) → TakesAtMost max_input left left'
+takes_few asked left left' s fault memory long json other nine which failed no_json no_task far not_long not_short = elim which as (λ _. TakesAtMost max_input left left') [
+  | inl e ↦ failed e
+  | inr a ↦ elim a as (λ _. TakesAtMost max_input left left') [
+    | inl e ↦ absurd (not_short e)
+    | inr b ↦ elim b as (λ _. TakesAtMost max_input left left') [
+      | inl e ↦ absurd (not_long e)
+      | inr d ↦ elim d as (λ _. TakesAtMost max_input left left') [
+        | inl e ↦ let h = no_json e in (h.input, h.whole.taken, h.whole.short)
+        | inr f ↦ elim f as (λ _. TakesAtMost max_input left left') [
+          | inl e ↦ let h = no_task e in (h.input, h.whole.taken, h.whole.short)
+          | inr e ↦ let h = far e in (h.input, h.whole.taken, h.whole.short)
+        ]
+      ]
+    ]
+  ]
+]

@@ -4,3 +4,4 @@ pub mod PlayedRuns
 pub mod Recordable
 pub mod RecordedScripts
 pub mod TakingCalls
+pub mod Replayed
