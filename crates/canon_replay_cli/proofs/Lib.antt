@@ -3,4 +3,5 @@ pub mod KeptCalls
 pub mod PlayedRuns
 pub mod Recordable
 pub mod RecordedScripts
+pub mod ReplayedScripts
 pub mod TakingCalls

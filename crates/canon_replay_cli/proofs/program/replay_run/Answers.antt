@@ -30,3 +30,7 @@ returns-in-None-clause-taken g c = λ _ _. ([], Consumes-nil (g.S.Source.left c.
 
 pub returns-in-None-clause-most : goal.returns-in-None-clause-most
 returns-in-None-clause-most g c = ([], Consumes-nil (g.S.Source.left c.args.source.now), omega arith)
+
+pub returns-in-Some-clause-not_recorded : goal.returns-in-Some-clause-not_recorded
+returns-in-Some-clause-not_recorded g c =
+    asked_is _ (replay_command_of c.args.words.now) c.in-Some.asked (sym c.replay_command_of.ensures ∙ c.in-Some.is) c.answer_input.ensures.not_recorded
