@@ -1,15 +1,16 @@
 -- What the program answers an input that was there to be read.
-use Rattle.std.proofs.Common.{◌≡◌, ◌≤◌, ◌<◌, ℕ, List, ◌++◌, length, Option, None, Some, ap, append-nil, arith, inl, inr, length-append, subst, sym, ◌∙◌, ◌⊎◌}
+use Rattle.std.proofs.Common.{◌≡◌, ◌≤◌, ◌<◌, ℕ, List, [], ◌++◌, length, Option, None, Some, ap, append-nil, arith, inl, inr, length-append, subst, sym, ◌∙◌, ◌⊎◌}
 use Rattle.std.specs.Prelude.{IfSome}
 use Rattle.std.specs.Io.KnownBytes.{Consumes}
 use Rattle.serde_json.specs.Data.{Data}
 use Rattle.canon_script.specs.Script.{Play}
-use Rattle.canon_cli.specs.Program.{IsInput, IsJson, IsNoJson, OnTold, ReadsNoJson, ReadsTooMuch, max_input}
+use Rattle.canon_cli.specs.Program.{IsInput, IsJson, IsNoJson, IsStatus, OnTold, ReadsNoJson, ReadsTooMuch, max_input}
+use Rattle.canon_cli.specs.Streams.{TakesAtMost}
 use Rattle.canon_cli.specs.declared.status.Status.{Status}
 use Rattle.canon_context.specs.declared.component.Component.{Component}
 use Rattle.canon_recording.specs.Fits.{IsRecordable}
 use Rattle.canon_replay_cli.specs.Program.{AnswersReplay, IsDoneBy, IsDoneOf, IsNoTaskOf, IsReplayStatus, IsTaskOf, IsTooLongOf, ReadsOther, ReadsSo, ReadsTooLong}
-use Rattle.canon_replay_cli.specs.Replays.{IsNoReplayTask}
+use Rattle.canon_replay_cli.specs.Replays.{IsNoReplayTask, ReplayTask, replay_task_of}
 use Rattle.canon_replay_cli.specs.Scripts.{AreCallItems, IsNoRecordable, IsOfScript, IsRecordableScript}
 use Rattle.canon_replay_cli.specs.declared.command.ReplayCommand.{ReplayCommand}
 use Rattle.canon_replay_cli.specs.declared.command.ReplayCommand.TheVariants as command
@@ -113,11 +114,26 @@ pub replay_completes_told : (asked : ReplayCommand) (left : Option (List ℕ)) (
 replay_completes_told asked None s h sound = tt
 replay_completes_told asked (Some input) s h sound = replay_completes asked input s h sound
 
--- one of six ways
-pub of_six : {A B C D E F P : Type 0} → A ⊎ (B ⊎ (C ⊎ (D ⊎ (E ⊎ F)))) → (A → P) → (B → P) → (C → P) → (D → P) → (E → P) → (F → P) → P
-of_six (inl x) a b c d e f = a x
-of_six (inr (inl x)) a b c d e f = b x
-of_six (inr (inr (inl x))) a b c d e f = c x
-of_six (inr (inr (inr (inl x)))) a b c d e f = d x
-of_six (inr (inr (inr (inr (inl x))))) a b c d e f = e x
-of_six (inr (inr (inr (inr (inr x))))) a b c d e f = f x
+-- ---- what is taken of the source
+
+-- A status but that of too long an input and of want of memory: a read failed, or the input was read to its end.
+pub takes_few : (asked : ReplayCommand) (left left' : Option (List ℕ)) (s fault memory long json other nine : Status)
+    → (s ≡ fault) ⊎ ((s ≡ memory) ⊎ ((s ≡ long) ⊎ ((s ≡ json) ⊎ ((s ≡ other) ⊎ (s ≡ nine)))))
+    → (s ≡ fault → TakesAtMost max_input left left') → (s ≡ json → ReadsNoJson left left') → (s ≡ other → ReadsOther asked left left') → (s ≡ nine → ReadsTooLong asked left left')
+    → ¬ (s ≡ long) → ¬ (s ≡ memory) → TakesAtMost max_input left left'
+takes_few asked left left' s fault memory long json other nine which failed no_json no_task far not_long not_short = elim which as (λ _. TakesAtMost max_input left left') [
+  | inl e ↦ failed e
+  | inr a ↦ elim a as (λ _. TakesAtMost max_input left left') [
+    | inl e ↦ absurd (not_short e)
+    | inr b ↦ elim b as (λ _. TakesAtMost max_input left left') [
+      | inl e ↦ absurd (not_long e)
+      | inr d ↦ elim d as (λ _. TakesAtMost max_input left left') [
+        | inl e ↦ let h = no_json e in (h.input, h.whole.taken, h.whole.short)
+        | inr f ↦ elim f as (λ _. TakesAtMost max_input left left') [
+          | inl e ↦ let h = no_task e in (h.input, h.whole.taken, h.whole.short)
+          | inr e ↦ let h = far e in (h.input, h.whole.taken, h.whole.short)
+        ]
+      ]
+    ]
+  ]
+]

@@ -3,5 +3,5 @@ pub mod KeptCalls
 pub mod PlayedRuns
 pub mod Recordable
 pub mod RecordedScripts
-pub mod ReplayedScripts
 pub mod TakingCalls
+pub mod Replayed

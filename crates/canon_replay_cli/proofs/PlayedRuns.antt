@@ -21,11 +21,11 @@ use Rattle.canon_transcript.specs.declared.transcript.Record.{Record}
 use Rattle.canon_player.specs.Session.{Called, Happened, IsPlayed, Plays, Session, State, Tells, WasCalledWith, answer_values, at_first, played_callee, skips}
 use Rattle.canon_player.specs.Stores.{callee_at}
 use Rattle.canon_player.proofs.Components.{export_count, scripted_callee}
-use Rattle.canon_recording.specs.Fits.{AreRuns, FitsComponent, callee_of_call}
+use Rattle.canon_recording.specs.Fits.{AreRuns, FitsComponent, IsRunFrom, callee_of_call}
 use Rattle.canon_recording.specs.Recordings.{RecordedCall, exports_of, imports_of, recording}
 use Rattle.canon_replay_cli.specs.Recorded.{IsRecordingTooLong}
 use Rattle.canon_replay_cli.specs.Scripts.{IsOfScript}
-use Rattle.canon_replay_cli.specs.Taken.{IsCallOfRecord, IsOkAnswer, TakesCalls}
+use Rattle.canon_replay_cli.specs.Taken.{IsCallOfRecord, IsOkAnswer, IsTakenOf, TakesCalls}
 use Rattle.canon_replay_cli.proofs.KeptCalls.{IsShortCall, MemoryFits, counted_calls, short_calls}
 
 -- ---- the length of memory

@@ -2,6 +2,7 @@
 use Rattle.std.proofs.Common.{All, List, None, Option, Some, ap, length, refl, subst, sym, ℕ, ◌<◌, ◌∙◌, ◌≡◌}
 use Rattle.std.specs.Prelude.{Bool, false, if◌then◌else◌, option_map, slice_get, true}
 use Rattle.serde_json.specs.Data.{Data}
+use Rattle.canon_model.specs.Shape.{Members, no_members}
 use Rattle.canon_types.specs.Instance.{Instance}
 use Rattle.canon_types.specs.declared.types.TypeFunc.{TypeFunc}
 use Rattle.canon_context.specs.Quiet.{have_block}

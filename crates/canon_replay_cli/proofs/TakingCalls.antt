@@ -1,5 +1,6 @@
 -- The calls that are taken, one after another.
-use Rattle.std.proofs.Common.{List, None, Some, [], append-nil, append_assoc, map, refl, subst, sym, ◌++◌, ◌∷◌, ◌≡◌}
+use Rattle.std.proofs.Common.{List, None, Option, Some, [], append-nil, append_assoc, map, refl, subst, sym, ◌++◌, ◌∙◌, ◌∷◌, ◌≡◌}
+use Rattle.std.specs.Prelude.{ℕ}
 use Rattle.canon_script.specs.Script.{item_view}
 use Rattle.canon_script.specs.declared.script.Item.{Item}
 use Rattle.canon_transcript.specs.declared.transcript.Record.{Record}

@@ -1,5 +1,5 @@
 -- What the program reads, and what it answers.
-use Rattle.std.specs.Prelude.{ℕ, ◌≡◌, ◌<◌, ◌≤◌, ◌⊎◌, List, Option, None, Some, String, [], ◌∷◌, codes, if◌then◌else◌, length, nat_eq, string_bytes}
+use Rattle.std.specs.Prelude.{ℕ, ◌≡◌, ◌<◌, ◌≤◌, ◌⊎◌, List, Option, None, Some, String, [], ◌∷◌, codes, if◌then◌else◌, length, nat_eq, string_bytes, ⊤}
 use lib.Pointwise.{pointwise}
 use Rattle.std.specs.declared.alloc.Global.{Global}
 use Rattle.serde_json.specs.Data.{Data}

@@ -1,10 +1,9 @@
 use Rattle.std.proofs.Common.{Err, ap}
-use Rattle.canon_replay_cli.proofs.Answering.{of_six}
+use Rattle.canon_replay_cli.proofs.Answering.{takes_few}
 use Rattle.canon_replay_cli.proofs.program.answer_input.Goals as goal
 
 pub returns-in-Err-clause-taken : goal.returns-in-Err-clause-taken
 returns-in-Err-clause-taken g c =
     let h = c.in-Err.ensures in
-    λ near enough. of_six h.no_other (λ e. h.taken (ap (λ s. Err s) e)) (λ e. absurd (enough e)) (λ e. absurd (near e))
-    (λ e. let r = h.not_json (ap (λ s. Err s) e) in (r.input, r.whole.taken, r.whole.short)) (λ e. let r = h.bad_script (ap (λ s. Err s) e) in (r.input, r.whole.taken, r.whole.short))
-    (λ e. let r = h.not_recorded (ap (λ s. Err s) e) in (r.input, r.whole.taken, r.whole.short))
+    takes_few c.args.asked (g.S.Source.left c.args.source.now) (g.S.Source.left c.bytes_of_input.new.source) c.in-Err.status _ _ _ _ _ _ h.no_other
+    (λ e. h.taken (ap (λ x. Err x) e)) (λ e. h.not_json (ap (λ x. Err x) e)) (λ e. h.bad_script (ap (λ x. Err x) e)) (λ e. h.not_recorded (ap (λ x. Err x) e))

@@ -25,12 +25,12 @@ returns-in-Some-clause-complete g c =
     (λ e. let d = h.done (status_is s 0 e) in (d.0, d.1)) (λ e. let d = h.write_fault (status_is s 4 e) in (d.0, d.1)) h.not_recorded)
     (λ e. sound (h.write_fault (status_is s 4 e)).3))
 
+pub returns-in-Some-clause-not_recorded : goal.returns-in-Some-clause-not_recorded
+returns-in-Some-clause-not_recorded g c =
+    asked_is _ (replay_command_of c.args.words.now) c.in-Some.asked (sym c.replay_command_of.ensures ∙ c.in-Some.is) c.answer_input.ensures.not_recorded
+
 pub returns-in-None-clause-taken : goal.returns-in-None-clause-taken
 returns-in-None-clause-taken g c = λ _ _. ([], Consumes-nil (g.S.Source.left c.args.source.now), omega arith)
 
 pub returns-in-None-clause-most : goal.returns-in-None-clause-most
 returns-in-None-clause-most g c = ([], Consumes-nil (g.S.Source.left c.args.source.now), omega arith)
-
-pub returns-in-Some-clause-not_recorded : goal.returns-in-Some-clause-not_recorded
-returns-in-Some-clause-not_recorded g c =
-    asked_is _ (replay_command_of c.args.words.now) c.in-Some.asked (sym c.replay_command_of.ensures ∙ c.in-Some.is) c.answer_input.ensures.not_recorded

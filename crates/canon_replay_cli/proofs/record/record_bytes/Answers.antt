@@ -1,6 +1,7 @@
 use Rattle.std.proofs.Common.{Err, None, Some, ap, sym, ◌∙◌, ◌≡◌}
 use Rattle.std.proofs.lemmas.Result.{IfOk-weaker}
 use Rattle.serde_json.specs.View.{view}
+use Rattle.canon_json.specs.declared.error.ScriptError.TheVariants as refused
 use Rattle.canon_recording.specs.Recordings.{calls_in}
 use Rattle.canon_replay_cli.specs.Recorded.{IsRecordingOf}
 use Rattle.canon_replay_cli.specs.declared.record.RecordError.TheVariants as error

@@ -1,10 +1,10 @@
-use Rattle.std.proofs.Common.{Bool, List, map, refl, subst, sym, ◌∙◌}
+use Rattle.std.proofs.Common.{Bool, List, ap, false, map, refl, subst, sym, ◌∙◌, ◌≡◌}
 use Rattle.std.proofs.lemmas.Bool.{iff_false}
 use Rattle.serde_json.specs.View.{view}
 use Rattle.canon_player.specs.Stores.{IsScripted}
 use Rattle.canon_script.specs.Script.{item_view, play_of}
 use Rattle.canon_script.specs.declared.script.Item.{Item}
-use Rattle.canon_replay_cli.specs.Scripts.{AreCallItems, IsOfScript, plain_script_of}
+use Rattle.canon_replay_cli.specs.Scripts.{AreCallItems, IsOfScript, has_handle_entry, plain_script_of}
 use Rattle.canon_replay_cli.proofs.Recordable.{no_recordable, script_is_plain}
 use Rattle.canon_replay_cli.proofs.scripts.scripted_of_json.Goals as goal
 
