@@ -107,7 +107,7 @@ module _ {T G I P : Type 0} (seen : G → Seen) (moves : GuestIn G → List Even
   its_callee = callee_of w.before w.func
 
   its_callee_is : its_callee ≡ callee_of_call c call
-  its_callee_is = callee_same w.before.core.component c w.func.export call.export w.component w.export
+  its_callee_is = w.callee
 
   recorded_entered : call_refusal (callee_of_call c call) (length call.params) w.slots w.before.trapped ≡ None
   recorded_entered = subst (λ (x : Callee). call_refusal x (length call.params) w.slots w.before.trapped ≡ None) its_callee_is w.entered

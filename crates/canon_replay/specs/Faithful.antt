@@ -14,7 +14,7 @@ use Rattle.canon_func.specs.Call.{call_refusal}
 use Rattle.canon_func.specs.Called.{CallOf}
 use Rattle.canon_func.specs.Runs.{Each, OnStart, asks_in}
 use Rattle.canon_func.specs.Stores.{Named, StoreView, callee_of}
-use Rattle.canon_recording.specs.Fits.{FitsComponent, IsRecordable}
+use Rattle.canon_recording.specs.Fits.{FitsComponent, IsRecordable, callee_of_call}
 use Rattle.canon_recording.specs.Recordings.{RecordedCall}
 use Rattle.canon_replay_guest.specs.Lawful.{IsLawfulAnswer}
 use Rattle.canon_replay_guest.specs.Replaying.{start_length}
@@ -46,18 +46,17 @@ IsNoDifference _ = ⊤
 -- Of a guest and of imports these are what the traits' ghost members say, as in the contract of `Func::call` (`CallOf`).
 module _ {T G I P : Type 0} (seen : G → Seen) (moves : GuestIn G → List Event → GuestIn G → Type 0) (leaves : List ℕ → List ℕ → Type 0)
     (plan : I → P) (gives : P → Giving T) (log : I → Option (List LoggedEntry)) (refusals : I → ℕ) where
-  -- `Func::call` of the recorded export was called with the recorded parameters, in a store of this component, with this fuel and this limit of
-  -- turns, and with so many slots for results. It answered Ok with the recorded results, and its guest added the recorded events; the words of the
+  -- `Func::call` was called with the recorded parameters, in a store in which its function is the one that the recorded export is in this component,
+  -- with this fuel and this limit of turns, and with so many slots for results. It answered Ok with the recorded results, and its guest added the recorded events; the words of the
   -- start have 64 bits.
   pub record IsFaithfulCall (c : Component) (fuel turns : ℕ) (call : RecordedCall) : Type 0 where
     pub before : StoreView T G I
     pub after : StoreView T G I
     pub func : Named
     pub slots : ℕ
-    pub component : before.core.component ≡ c
+    pub callee : callee_of before func ≡ callee_of_call c call
     pub fuel_is : before.core.fuel ≡ fuel
     pub turns_is : before.turns ≡ turns
-    pub export : func.export ≡ call.export
     pub entered : call_refusal (callee_of before func) (length call.params) slots before.trapped ≡ None
     pub calls : CallOf seen moves leaves plan gives log refusals before func call.params (Ok tt) call.results after
     pub events : calls.events ≡ call.events
