@@ -49,7 +49,7 @@ returns-in-Ok-linear_lower_to_memory-clause-lowers g c =
     let v = a.params.now in
     let gave = c.in-Ok.ensures.asked in
     let is = shape g (goal.at.returns-in-Ok-linear_lower_to_memory-clause-lowers g c).After-tuple-tuple in
-    let there = stored_there L a.cx.now.options a.cx.now.options core asked after ms c.in-Ok.pointer (g.P.ComponentType.walks v) (λ i s. g.P.Lower.gives i s v) _ c.in-Ok.ensures.same_options gave.same is (Ok tt)
+    let there = stored_there L a.cx.now.options core asked after ms c.in-Ok.pointer (g.P.ComponentType.walks v) (λ i s. g.P.Lower.gives i s v) _ gave.same is (Ok tt)
     c.in-Ok-linear_lower_to_memory.ensures.stores in
     subst (λ (ws : List ℕ). TypedParams L.seen L.moves a.cx.now.options core after ms ws (g.P.ComponentType.walks v) (g.P.Lower.gives core.component.types (product of_places ms) v) (Ok tt))
     (sym (one_word a.dst.now c.u32.result c.in-Ok.pointer c.requires.words c.u32.ensures))
@@ -69,7 +69,7 @@ returns-in-Err-linear_lower_to_memory-clause-lowers g c =
     let e = c.in-Err-linear_lower_to_memory.fault in
     let gave = c.in-Ok.ensures.asked in
     let is = shape g (goal.at.returns-in-Err-linear_lower_to_memory-clause-lowers g c).After-tuple-tuple in
-    let there = stored_there L a.cx.now.options a.cx.now.options core asked after ms c.in-Ok.pointer (g.P.ComponentType.walks v) (λ i s. g.P.Lower.gives i s v) _ c.in-Ok.ensures.same_options gave.same is (Err e)
+    let there = stored_there L a.cx.now.options core asked after ms c.in-Ok.pointer (g.P.ComponentType.walks v) (λ i s. g.P.Lower.gives i s v) _ gave.same is (Err e)
     c.in-Err-linear_lower_to_memory.ensures.stores in
     other_words L a.cx.now.options core after ms (g.P.ComponentType.walks v) (g.P.Lower.gives core.component.types (product of_places ms) v) (c.in-Ok.pointer ∷ []) a.dst.now e
     (heap_stored L a.cx.now.options core ms (g.P.ComponentType.walks v) (g.P.Lower.gives core.component.types (product of_places ms) v) c.requires.far asked after c.in-Ok.pointer
