@@ -37,3 +37,4 @@ pub mod TupleLowered
 pub mod TupleLifted
 pub mod TypedExact
 pub mod Told
+pub mod Letting

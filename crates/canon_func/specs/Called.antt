@@ -15,8 +15,8 @@ use Rattle.canon_func.specs.declared.error.Error.{Error}
 -- how often they refused. These are what the traits' ghost members say.
 module _ {T G I P : Type 0} (seen : G → Seen) (moves : GuestIn G → List Event → GuestIn G → Type 0) (leaves : List ℕ → List ℕ → Type 0)
     (plan : I → P) (gives : P → Giving T) (log : I → Option (List LoggedEntry)) (refusals : I → ℕ) where
-  abbrev pub host_with : Parts T G → I → HostSide T
-  host_with core imports = host_side core (log imports) (refusals imports)
+  abbrev pub store_host : Parts T G → I → HostSide T
+  store_host core imports = host_side core (log imports) (refusals imports)
 
   -- From one core with its imports to another its guest added events, by which it moved, and by them a callee was called, which may be asked so
   -- often (CanonicalABI.md, "canon_lift").
@@ -24,7 +24,7 @@ module _ {T G I P : Type 0} (seen : G → Seen) (moves : GuestIn G → List Even
   CallsIn args its callee turns before imports after imports2 answer results =
       Adding (moment_of seen before) (moment_of seen after) (λ events. OnAnswered answer (moves (guest_of before) events (guest_of after)))
       (λ events. IsCallOf args its (LivesUntil seen moves (guest_of before) (guest_of after) answer) leaves (gives (plan imports)) callee (allowed before.fuel turns)
-      (moment_of seen before) (moment_of seen after) (host_with before imports) (host_with after imports2) results events)
+      (moment_of seen before) (moment_of seen after) (store_host before imports) (store_host after imports2) results events)
 
   -- The same of a function of a store, which was called with these parameters, answered so and left these results.
   abbrev pub CallOf : StoreView T G I → Named → List Val → Result (Unit {0}) Error → List Val → StoreView T G I → Type 0

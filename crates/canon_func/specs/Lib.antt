@@ -9,6 +9,7 @@ pub mod Called
 pub mod Drop
 pub mod HostAsks
 pub mod Laws
+pub mod Letting
 pub mod Passing
 pub mod Runs
 pub mod Steps

@@ -5,10 +5,12 @@ ghost use Rattle.canon_func.specs.Alike.{AsksAlike, StartsAlike};
 ghost use Rattle.canon_func.specs.AskExactly.{IsExact};
 ghost use Rattle.canon_func.specs.Laws.{CallIsThrough, OnlyRepresented, ParamsAreGiven, RefusedAskStands, RefusedTurnIsPartway, RepresentedIsEnough, TypedIsPartway, TypedIsThrough};
 ghost use Rattle.canon_func.specs.Call.{dynamic};
+ghost use Rattle.canon_func.specs.Letting.{LetsGoSeldom};
 ghost use Rattle.canon_func.specs.Stores.{Callee};
 ghost use Rattle.canon_func.specs.Typed.{params_shape, typed_args};
 ghost use Rattle.canon_val.specs.declared.val.Val.{Val};
 
+use crate::Store;
 use canon_host::Imports;
 use canon_lift::Lift;
 use canon_lower::Lower;
@@ -71,4 +73,10 @@ pub fn typed_starts_are_alike<P: ComponentNamedList + Lower, Q: ComponentNamedLi
     ensures dynamic { (callee : Callee) (params : P) (values : List Val) → StartsAlike callee (typed_args (P.walks params) (P.gives callee.types (params_shape callee) params) callee) (dynamic callee values) }
     ensures typed { (callee : Callee) (params : P) (others : Q) → StartsAlike callee (typed_args (P.walks params) (P.gives callee.types (params_shape callee) params) callee)
         (typed_args (Q.walks others) (Q.gives callee.types (params_shape callee) others) callee) }
+{}
+
+/// A call, however it ends, starts its guest once at most, and resumes it once for each ask that was served: together at most once more than the
+/// store's calls may have asks served.
+pub fn calls_let_go_seldom<T, G: Guest, I: Imports<T, G>>(_store: &Store<T, G, I>)
+    ensures { LetsGoSeldom G.seen G.moves G.leaves I.plan I.gives I.log I.refusals }
 {}

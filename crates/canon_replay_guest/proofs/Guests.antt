@@ -1,4 +1,5 @@
 -- What a guest that replays does, as any guest is seen.
+use Rattle.std.specs.Prelude.{IfOk}
 use Rattle.std.proofs.Common.{List, None, Result, Ok, Err, [], append-nil, ap, arith, flat_map, inl, inr, length, min, refl, subst, sym, true, ℕ, ◌+◌, ◌++◌, ◌-◌, ◌^◌, ◌∷◌, ◌≡◌, ◌≤◌, ◌∙◌, ◌⊎◌, ⊎_elim}
 use Rattle.canon_model.specs.Memory.{Block, Memory}
 use Rattle.canon_model.specs.Requests.{Call}
@@ -12,7 +13,7 @@ use Rattle.canon_memory.specs.Journal.{answer_event, dtor_events, post_events, r
 use Rattle.canon_memory.specs.Realloc.{IsTidy, ReallocLaw, new_block}
 use Rattle.canon_memory.specs.Watch.{relisted}
 use Rattle.canon_scripted.specs.Scripted.{raised_count}
-use Rattle.canon_replay_guest.specs.Leaves.{DoesEnd, DoesStep, IsLater, IsOutOfMemory, ReallocatesAsRecorded}
+use Rattle.canon_replay_guest.specs.Leaves.{DoesEnd, DoesStep, IsCopied, IsLater, IsOutOfMemory, ReallocatesAsRecorded}
 use Rattle.canon_replay_guest.specs.Moves.{BeginsRequest, GuestRequest, ReplayMoves, Replays, RequestOutcome, answered, destroys, ended, from_length, outcome_events, posts, reallocates, resumes, starts, stepped, to_length, trapped}
 use Rattle.canon_replay_guest.specs.Passing.{IsUntrapped}
 use Rattle.canon_replay_guest.specs.Replaying.{CanGrow, IsOpened, Replaying, grown_to, marks_of_event, moved, passed_events, replay_seen}
@@ -109,6 +110,10 @@ pub gives_moves : (c : Call) (g h : Replaying) (m m2 : Memory) (r : Result ℕ G
 gives_moves c g h m m2 (Ok answer) d = one_move g h m m2 (answered c (length m.bytes) (length m2.bytes) answer) _ refl refl refl d.0
 gives_moves c g h m m2 (Err fault.Trap) d = one_move g h m m2 (trapped (reallocates c) m.bytes (length m2.bytes)) _ refl refl refl d.0
 gives_moves c g h m m2 (Err fault.OutOfMemory) d = tt
+
+pub gives_copied : (c : Call) (g h : Replaying) (m m2 : List ℕ) (r : Result ℕ GuestFault) → ReallocatesAsRecorded g m c h m2 r → IfOk r (λ answer. IsCopied m c answer m2)
+gives_copied c g h m m2 (Ok answer) d = d.1
+gives_copied c g h m m2 (Err e) d = tt
 
 -- ---- what it ends itself
 

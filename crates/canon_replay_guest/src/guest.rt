@@ -346,6 +346,12 @@ fn is_placed(len: u64, align: u32, new_size: u64, answer: u64) -> bool
 }
 
 impl Guest for ReplayGuest {
+    ghost use Rattle.std.specs.Prelude.{IfOk, IsFalse};
+    ghost use Rattle.canon_memory.specs.Guest.{OnAnswer, Reallocates, guest_in, moment};
+    ghost use Rattle.canon_memory.specs.Journal.{realloc_events};
+    ghost use Rattle.canon_memory.specs.Realloc.{call};
+    ghost use Rattle.canon_replay_guest.specs.Leaves.{IsCopied};
+
     ghost seen = { replay_seen };
 
     ghost moves = { λ g events h. ReplayMoves g events h };
@@ -376,7 +382,17 @@ impl Guest for ReplayGuest {
         old_size: u64,
         align: u32,
         new_size: u64,
-    ) -> Result<u64, GuestFault> {
+    ) -> Result<u64, GuestFault>
+        requires aligned { 0 < align }
+        requires narrow { old < 2 ^ 32 }
+        requires old_sized { old_size < 2 ^ 32 }
+        requires new_sized { new_size < 2 ^ 32 }
+        ensures narrow { IsFalse memory.old.wide → IfOk result (λ answer. answer < 2 ^ 32) }
+        ensures width { memory.new.wide ≡ memory.old.wide }
+        ensures does { Reallocates (moment (replay_seen self.old) memory.old.bytes) (moment (replay_seen self.new) memory.new.bytes) (call old old_size align new_size) result }
+        ensures moves { OnAnswer result (ReplayMoves (guest_in self.old memory.old) (realloc_events (call old old_size align new_size) memory.old.bytes result) (guest_in self.new memory.new)) }
+        ensures copied { IfOk result (λ answer. IsCopied memory.old.bytes (call old old_size align new_size) answer memory.new.bytes) }
+    {
         self.give(memory, old, old_size, align, new_size)
     }
 
