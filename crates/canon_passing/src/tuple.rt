@@ -1,6 +1,6 @@
 //! The block of parameters that are passed as a tuple.
 
-ghost use Rattle.std.specs.Prelude.{◌≡◌, false};
+ghost use Rattle.std.specs.Prelude.{false};
 ghost use Rattle.canon_lowering.specs.Attempt.{args_call};
 ghost use Rattle.canon_types.specs.Table.{HasTuple, tuple_members};
 ghost use Rattle.canon_context.specs.Core.{component_types};
