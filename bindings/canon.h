@@ -116,7 +116,8 @@ typedef enum {
   CANON_NO_RESOURCE, /* a number among the parameters, or the one that is to be dropped, is of no resource of the store */
   CANON_NO_COMPONENT,
   CANON_TOO_LONG, /* the bytes, by CANON_MAX_BYTES */
-  CANON_TOO_WIDE  /* the type or the representation of a new resource */
+  CANON_TOO_WIDE,  /* the type or the representation of a new resource */
+  CANON_NO_EVENTS  /* the store keeps none */
 } canon_reason;
 
 /* How many bytes parameters, results of a function of the host, or a component may have. */
@@ -214,6 +215,7 @@ typedef struct {
   canon_trace *trace; /* or NULL */
   void *trace_data;
   size_t stack; /* how many bytes the stack has on which the library, the engine and the host's functions run. 0: CANON_STACK */
+  bool events;  /* whether events are kept for canon_events: each start, ask, resume and return takes a copy of memory */
 } canon_setup;
 
 enum { CANON_STACK = 8 * 1024 * 1024 };
@@ -227,8 +229,8 @@ canon_store *canon_store_new(const canon_setup *, canon_why *why);
 /* Calls an export with the image of its parameters. If it answers CANON_OK, `results` is set to the image of the results. */
 canon_status canon_call(canon_store *, uint32_t export_number, const void *params, size_t len, canon_bytes *results, canon_why *why);
 
-/* Resources have numbers, in the order in which they are made and answered, from 0 on: a handle in an image is such a number, of 4 bytes. A number that was given to
- * a function as an own handle, or was dropped, stays one of a resource that is gone. */
+/* Resources have numbers, in the order in which they are made, handed to functions of the host and answered, from 0 on: a handle in an image is such a number, of 4
+ * bytes. A number that was given to a function as an own handle, or was dropped, or was lent to a function of the host, stays one of a resource that is gone. */
 
 /* Makes a resource of the host, of the type of this number and with this representation, and sets `number` to its number. */
 canon_status canon_resource_new(canon_store *, uint32_t type, uint32_t rep, uint32_t *number, canon_why *why);
@@ -242,6 +244,31 @@ canon_status canon_live(canon_store *, uint64_t *live);
 /* Sets `marks` to a byte for each answer of `realloc` since this was asked last: 1 where it was lawful, and 2 more where it was tidy. */
 canon_status canon_marks(canon_store *, canon_bytes *marks);
 
+/* Sets `events` to the bytes of the events since this was asked last, where the store keeps them. */
+canon_status canon_events(canon_store *, canon_bytes *events, canon_why *why);
+
+/* What an event of canon_events is. What the guest was asked has the number of the demand. */
+typedef enum {
+  CANON_KEPT_START,
+  CANON_KEPT_RESUME,
+  CANON_KEPT_REALLOC,
+  CANON_KEPT_POST_RETURN,
+  CANON_KEPT_DTOR,
+  CANON_KEPT_RETURN = 6,
+  CANON_KEPT_ASK,
+  CANON_KEPT_TRAP,
+  CANON_KEPT_TRAP_IN_REALLOC
+} canon_kept_kind;
+
+/* An event as it was kept. docs/ENGINE.md says what the operands are. Words have 8 bytes each. */
+typedef struct {
+  uint64_t kind, operands[5];
+  canon_reader words, memory;
+} canon_kept;
+
+/* Reads the next event of such bytes. False where there is none. */
+bool canon_get_event(canon_reader *, canon_kept *);
+
 /* False within a call of this store, and nothing is done. NULL is freed already. */
 bool canon_store_free(canon_store *);
 
@@ -250,7 +277,7 @@ size_t canon_stack_used(const canon_store *);
 
 /* ---- The same without a stack of its own ---- */
 
-typedef enum { CANON_DO_CALL = 2, CANON_DO_LIVE, CANON_DO_MARKS, CANON_DO_DROP, CANON_DO_NEW } canon_what;
+typedef enum { CANON_DO_CALL = 2, CANON_DO_LIVE, CANON_DO_MARKS, CANON_DO_DROP, CANON_DO_NEW, CANON_DO_EVENTS } canon_what;
 
 typedef struct {
   canon_what what;
@@ -263,7 +290,7 @@ typedef struct {
 typedef struct {
   canon_status status;
   canon_why why;
-  const uint8_t *bytes; /* the image of the results, the 8 bytes of a count or of a new resource's number, or marks */
+  const uint8_t *bytes; /* the image of the results, the 8 bytes of a count or of a new resource's number, marks, or events */
   size_t len;
 } canon_answer;
 

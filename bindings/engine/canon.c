@@ -159,6 +159,16 @@ const char *canon_get_text(canon_reader *r, size_t *len) {
   return at ? at : "";
 }
 
+bool canon_get_event(canon_reader *r, canon_kept *event) {
+  event->kind = canon_get_u64(r);
+  for (size_t i = 0; i < 5; i++) event->operands[i] = canon_get_u64(r);
+  uint64_t count = canon_get_u64(r), len = canon_get_u64(r);
+  const uint8_t *words = take(r, count <= r->left / 8 ? 8 * count : UINT64_MAX), *memory = take(r, len);
+  event->words = canon_read(words, words ? (size_t)(8 * count) : 0);
+  event->memory = canon_read(memory, memory ? (size_t)len : 0);
+  return r->ok;
+}
+
 /* ---- Errors ---- */
 
 static const char *const names[] = {
@@ -178,7 +188,7 @@ static const char *const names[] = {
     [CANON_BORROW_AS_OWN] = "BorrowAsOwn", [CANON_HOST_CONSUMED] = "HostConsumed", [CANON_HOST_DEALLOCATED] = "HostDeallocated",
     [CANON_GENERATION_EXHAUSTED] = "GenerationExhausted", [CANON_BORROWS_REMAIN] = "BorrowsRemain", [CANON_NO_SCOPE] = "NoScope",
     [CANON_LEDGER_OUT_OF_MEMORY] = "OutOfMemory"};
-static const char *const reasons[] = {"", "no such command", "no such export", "no image of the parameters", "no such resource", "no component", "too many bytes", "a number of more than 32 bits"};
+static const char *const reasons[] = {"", "no such command", "no such export", "no image of the parameters", "no such resource", "no component", "too many bytes", "a number of more than 32 bits", "no events are kept"};
 
 const char *canon_error_name(canon_error error) {
   size_t n = (size_t)error;
@@ -187,7 +197,7 @@ const char *canon_error_name(canon_error error) {
 
 void canon_why_text(const canon_why *why, char *to, size_t room) {
   if (why->reason) {
-    snprintf(to, room, why->reason == CANON_NO_IMAGE ? "%s @%" PRIu64 : "%s", why->reason <= CANON_TOO_WIDE ? reasons[why->reason] : "", why->place);
+    snprintf(to, room, why->reason == CANON_NO_IMAGE ? "%s @%" PRIu64 : "%s", why->reason <= CANON_NO_EVENTS ? reasons[why->reason] : "", why->place);
     return;
   }
   char import[32] = "", place[32] = "", more[32] = "";
@@ -507,7 +517,7 @@ canon_store *canon_store_new(const canon_setup *setup, canon_why *why) {
   }
   fiber_begin(&s->library, library_main, s);
   atomic_flag_test_and_set(&s->busy);
-  command(s, 1, setup->watched, 0, setup->component, strlen(setup->component), NULL);
+  command(s, 1, setup->watched, setup->events, setup->component, strlen(setup->component), NULL);
   canon_status status = carry_out(s, why);
   s->kept.component = NULL;
   atomic_flag_clear(&s->busy);
@@ -555,6 +565,8 @@ canon_status canon_resource_drop(canon_store *s, uint32_t number, canon_why *why
 
 canon_status canon_marks(canon_store *s, canon_bytes *marks) { return do_command(s, CANON_DO_MARKS, 0, 0, NULL, 0, marks, NULL); }
 
+canon_status canon_events(canon_store *s, canon_bytes *events, canon_why *why) { return do_command(s, CANON_DO_EVENTS, 0, 0, NULL, 0, events, why); }
+
 bool canon_store_free(canon_store *s) {
   if (!s) return true;
   if (atomic_flag_test_and_set(&s->busy)) return false;
@@ -574,7 +586,7 @@ bool canon_session(const canon_setup *setup, canon_next *next, void *data) {
   if (!s) return false;
   s->next = next;
   s->next_data = data;
-  command(s, 1, setup->watched, 0, setup->component, strlen(setup->component), &s->session_results);
+  command(s, 1, setup->watched, setup->events, setup->component, strlen(setup->component), &s->session_results);
   canon_serve(s->channel);
   bool ended = s->ended;
   if (!ended && s->answered) ask_next(s); /* the library ended by itself: nobody took its last answer */

@@ -124,7 +124,7 @@ static void same(canon_store *s, uint32_t a, int8_t b) {
 }
 
 static canon_store *open_store(void *engine_data, world *w, const char *of) {
-  canon_setup setup = {of, false, demo_engine, engine_data, host, w, trace, &traces, 0};
+  canon_setup setup = {of, false, demo_engine, engine_data, host, w, trace, &traces, 0, false};
   canon_why why;
   canon_store *s = canon_store_new(&setup, &why);
   if (!s) refused("no store", why.reason ? CANON_SENSELESS : why.error ? CANON_REFUSED : CANON_OVER, &why);

@@ -13,7 +13,7 @@ static bool host(void *data, uint32_t import, const uint8_t *params, size_t len,
 
 int main(void) {
   void *engine = demo_engine_new();
-  canon_setup setup = {component, false, demo_engine, engine, host, NULL, NULL, NULL, 0};
+  canon_setup setup = {component, false, demo_engine, engine, host, NULL, NULL, NULL, 0, false};
   canon_why why;
   char text[128];
   canon_store *store = engine ? canon_store_new(&setup, &why) : NULL;

@@ -357,7 +357,7 @@ static bool is(const test *t, const char *when, const char *found, const char *w
 }
 
 static bool passes(const test *t) {
-  canon_setup setup = {component, false, &engine, NULL, host, NULL, NULL, NULL, 0};
+  canon_setup setup = {component, false, &engine, NULL, host, NULL, NULL, NULL, 0, false};
   char text[128], after[128];
   canon_why why;
   told = t->lie, lying = happened = false, busy = 0;
@@ -380,7 +380,7 @@ static bool passes(const test *t) {
 
 /* A store whose engine, host and channel lie at random. */
 static void try_at_random(uint64_t from) {
-  canon_setup setup = {component, from % 2 == 0, &engine, NULL, host, NULL, NULL, NULL, 0};
+  canon_setup setup = {component, from % 2 == 0, &engine, NULL, host, NULL, NULL, NULL, 0, false};
   char text[128];
   seed = from * UINT64_C(0x9e3779b97f4a7c15) + 1;
   told = AT_RANDOM, lying = false, heap = HEAP;
@@ -394,7 +394,7 @@ static void try_at_random(uint64_t from) {
 /* A memory without bytes, which then grows. */
 static bool from_nothing(void) {
   static const char small[] = "{\"memory\": 0, \"heap\": 0, \"funcs\": [{\"params\": [], \"results\": [\"string\"]}]}";
-  canon_setup setup = {small, false, &engine, NULL, NULL, NULL, NULL, NULL, 0};
+  canon_setup setup = {small, false, &engine, NULL, NULL, NULL, NULL, NULL, 0, false};
   canon_bytes results = {0};
   told = GROWS_FROM_NOTHING, lying = false;
   if (!(store = canon_store_new(&setup, NULL))) return false;
@@ -407,7 +407,7 @@ static bool from_nothing(void) {
 static bool stops_at_its_guard(void) {
   pid_t child = fork();
   if (child == 0) {
-    canon_setup setup = {component, false, &engine, NULL, NULL, NULL, NULL, NULL, 16384};
+    canon_setup setup = {component, false, &engine, NULL, NULL, NULL, NULL, NULL, 16384, false};
     signal(SIGSEGV, SIG_DFL);
     told = UNKNOWN_END;
     canon_store_new(&setup, NULL);

@@ -50,7 +50,7 @@ static canon_step m_dtor(void *data, canon_memory *m, uint32_t func, uint32_t re
 static const canon_engine engine = {m_instantiate, m_start, m_resume, m_realloc, m_post, m_dtor};
 
 static canon_store *store_of(mirror *data) {
-  canon_setup setup = {component, false, &engine, data, NULL, NULL, NULL, NULL, 0};
+  canon_setup setup = {component, false, &engine, data, NULL, NULL, NULL, NULL, 0, false};
   return canon_store_new(&setup, NULL);
 }
 

@@ -45,7 +45,7 @@ static canon_bytes image_of(const subject *it) {
 }
 
 static canon_setup setup_of(void *engine) {
-  canon_setup setup = {component, false, demo_engine, engine, NULL, NULL, NULL, NULL, 0};
+  canon_setup setup = {component, false, demo_engine, engine, NULL, NULL, NULL, NULL, 0, false};
   return setup;
 }
 

@@ -7,6 +7,7 @@ ghost use Rattle.canon_ledger.specs.Ledger.{LedgerState, enter};
 ghost use Rattle.canon_host.specs.HostSide.{host_side};
 ghost use Rattle.canon_func.specs.Asks.{allowed};
 ghost use Rattle.canon_func.specs.Call.{Adding, IsCallOf, LivesUntil, OnAnswered};
+ghost use Rattle.canon_func.specs.Called.{CallsIn};
 ghost use Rattle.canon_func.specs.Steps.{IsLate, IsRest, SameButHost, Serving, map_ok};
 ghost use Rattle.canon_func.specs.Stores.{export_callee};
 

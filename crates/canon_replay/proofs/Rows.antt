@@ -15,13 +15,13 @@ use Rattle.canon_replay.specs.declared.again.Again.{Again}
 
 -- ---- the calls that are made
 
-get_first : {A : Type 0} (xs : List A) (k : ℕ) (y : A) (ys : List A) → drop k xs ≡ y ∷ ys → slice_get xs k ≡ Some y
+pub get_first : {A : Type 0} (xs : List A) (k : ℕ) (y : A) (ys : List A) → drop k xs ≡ y ∷ ys → slice_get xs k ≡ Some y
 get_first [] zero y ys e = cc
 get_first [] (suc k) y ys e = cc
 get_first (x ∷ xs) zero y ys e = cc
 get_first (x ∷ xs) (suc k) y ys e = get_first xs k y ys e
 
-drop_rest : {A : Type 0} (xs : List A) (k : ℕ) (y : A) (ys : List A) → drop k xs ≡ y ∷ ys → drop (k + 1) xs ≡ ys
+pub drop_rest : {A : Type 0} (xs : List A) (k : ℕ) (y : A) (ys : List A) → drop k xs ≡ y ∷ ys → drop (k + 1) xs ≡ ys
 drop_rest [] zero y ys e = cc
 drop_rest [] (suc k) y ys e = cc
 drop_rest (x ∷ xs) zero y ys e = cc

@@ -56,7 +56,7 @@ return_alike P e (event.Post f ws) h p = tt
 return_alike P e (event.Dtor f rep) h p = tt
 return_alike P e (event.Trap at len) h p = tt
 
-returns_alike : (P : List ℕ → List ℕ → Type 0) (events recorded : List Event) → AreAlike events recorded → Each (OnReturn P) events → Each (OnReturn P) recorded
+pub returns_alike : (P : List ℕ → List ℕ → Type 0) (events recorded : List Event) → AreAlike events recorded → Each (OnReturn P) events → Each (OnReturn P) recorded
 returns_alike P [] recorded e each = subst (Each (OnReturn P)) (sym e) tt
 returns_alike P (x ∷ xs) recorded (r, rest, e, first, others) each = subst (Each (OnReturn P)) (sym e) (return_alike P x r first each.0, returns_alike P xs rest others each.1)
 

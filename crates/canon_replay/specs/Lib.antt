@@ -1,4 +1,5 @@
 pub mod Calls
+pub mod Faithful
 pub mod Imports
 pub mod Laws
 pub mod Made

@@ -16,7 +16,7 @@ use Rattle.canon_memory.specs.declared.guest.Step.{Step}
 use Rattle.canon_memory.specs.Watch.{relisted}
 use Rattle.canon_replay_guest.specs.Lawful.{IsFree, IsLawfulAnswer}
 use Rattle.canon_replay_guest.specs.Leaves.{AnswersAsRecorded, Began, DoesEnd, DoesStep, IsOutOfMemory, ReallocatesAsRecorded, StepsAsRecorded}
-use Rattle.canon_replay_guest.specs.Moves.{BeginsRequest, CannotBegin, EndsItself, GrowsMemory, GuestRequest, IsNext, IsRecordedAnswer, LetsGo, Replays, answered, destroys, ended, posts, reallocates, resumes, starts, stepped, trapped}
+use Rattle.canon_replay_guest.specs.Moves.{BeginsRequest, CannotBegin, EndsItself, GrowsMemory, GuestRequest, HasWords, IsNext, IsOtherRequest, IsRecordedAnswer, LetsGo, Replays, answered, destroys, ended, posts, reallocates, resumes, starts, stepped, trapped}
 use Rattle.canon_replay_guest.specs.Replaying.{CanGrow, IsOpened, Replaying, events_now, grown_to, moved, next_event, start_length, stopped_for, trapped_again, wanted_length}
 use Rattle.canon_replay_guest.specs.declared.stop.Stop.TheVariants as stop
 use Rattle.canon_replay_guest.proofs.Passing.{next_is}
@@ -51,7 +51,12 @@ begin_trapped q g h m m1 b (e, inr (none, (mid, o, cannot, s))) = inl (none, (mi
 pub begin_short : (g h : Replaying) (m m1 : List ℕ) → Began g m h m1 (Err fault.OutOfMemory) → IsOutOfMemory g h
 begin_short g h m m1 (e, (mid, o, s)) = (mid, inr o, s)
 
-pub differs : (q : GuestRequest) (g mid h : Replaying) (m m1 : List ℕ) → IsBegun q g m mid m1 → ¬ (IsNext (next_event mid) q) → h ≡ stopped_for mid stop.Differs → Replays g (trapped q m (length m1)) h
+-- a request that isn't the recorded one, of whose words it is known that each has 64 bits
+pub other_than : (o : Option Event) (q : GuestRequest) → ¬ (IsNext o q) → HasWords q → IsOtherRequest o q
+other_than None q n words = tt
+other_than (Some e) q n words = (n, words)
+
+pub differs : (q : GuestRequest) (g mid h : Replaying) (m m1 : List ℕ) → IsBegun q g m mid m1 → IsOtherRequest (next_event mid) q → h ≡ stopped_for mid stop.Differs → Replays g (trapped q m (length m1)) h
 differs q g mid h m m1 b n e = inl (b.none, (mid, inr (stop.Differs, b.begins, n, e)))
 
 pub again : (q : GuestRequest) (g h : Replaying) (m : List ℕ) → g.stop ≢ None → h ≡ trapped_again g → Replays g (trapped q m (length m)) h
@@ -93,7 +98,7 @@ gives c g mid h m m1 m2 (Ok answer) b (is, lawful, copied, e) =
 gives c g mid h m m1 m2 (Err fault.Trap) b (same, inl (never, e)) =
     let f = answer_begun g mid m m1 c b in
     let can = f.begins.2 in
-    (subst (λ (k : ℕ). Replays g (trapped (reallocates c) m k) h) (ap length (sym same)) (differs (reallocates c) g mid h m m1 f never e), subst (λ (k : ℕ). length m ≤ k) (ap length (sym same)) can.0)
+    (subst (λ (k : ℕ). Replays g (trapped (reallocates c) m k) h) (ap length (sym same)) (differs (reallocates c) g mid h m m1 f (other_than (next_event mid) (reallocates c) never tt) e), subst (λ (k : ℕ). length m ≤ k) (ap length (sym same)) can.0)
 gives c g mid h m m1 m2 (Err fault.Trap) b (same, inr (answer, is, never, e)) =
     let f = answer_begun g mid m m1 c b in
     let can = f.begins.2 in (
@@ -112,7 +117,7 @@ begin_gives_trap c g h m m1 b le = (begin_trapped (reallocates c) g h m m1 tt b,
 pub ends : (q : GuestRequest) (g mid h : Replaying) (m : List ℕ) → g.stop ≡ None → IsOpened g mid → EndsItself q → IsNext (next_event mid) q → h ≡ record mid { at = mid.at + 1; live = [] } → DoesEnd q g m h (Ok tt)
 ends q g mid h m none o l n e = (none, l, (mid, o, n, e))
 
-pub end_differs : (q : GuestRequest) (g mid h : Replaying) (m : List ℕ) (f : GuestFault) → f ≡ fault.Trap → BeginsRequest q g (length m) mid (length m) → g.stop ≡ None → ¬ (IsNext (next_event mid) q)
+pub end_differs : (q : GuestRequest) (g mid h : Replaying) (m : List ℕ) (f : GuestFault) → f ≡ fault.Trap → BeginsRequest q g (length m) mid (length m) → g.stop ≡ None → IsOtherRequest (next_event mid) q
     → h ≡ stopped_for mid stop.Differs → DoesEnd q g m h (Err f)
 end_differs q g mid h m f ef b none n e = subst (λ (x : GuestFault). DoesEnd q g m h (Err x)) (sym ef) (inl (none, (mid, inr (stop.Differs, b, n, e))))
 
@@ -166,13 +171,13 @@ module _ (o : Option Event) (g : Replaying) (q : GuestRequest) (r : Bool) (is : 
   pub is_next : r ≡ true → IsNext (next_event g) q
   is_next e = subst (λ (p : Option Event). IsNext p q) is (tested.0 e)
 
-  pub is_not_next : r ≡ false → ¬ (IsNext (next_event g) q)
-  is_not_next e n = iff_false tested e (subst (λ (p : Option Event). IsNext p q) (sym is) n)
+  pub is_other : HasWords q → r ≡ false → IsOtherRequest (next_event g) q
+  is_other words e = other_than (next_event g) q (λ n. iff_false tested e (subst (λ (p : Option Event). IsNext p q) (sym is) n)) words
 
 pub at_within : (g : Replaying) (q : GuestRequest) → IsNext (next_event g) q → g.at < length (events_now g)
 at_within g q n = let (e, is, tells) = next_is (next_event g) q n in slice_get_within (events_now g) g.at e is
 
-pub differs_step : (q : GuestRequest) (g mid h : Replaying) (m m1 : List ℕ) (f : GuestFault) → f ≡ fault.Trap → IsBegun q g m mid m1 → ¬ (IsNext (next_event mid) q) → h ≡ stopped_for mid stop.Differs → DoesStep q g m h m1 (Err f)
+pub differs_step : (q : GuestRequest) (g mid h : Replaying) (m m1 : List ℕ) (f : GuestFault) → f ≡ fault.Trap → IsBegun q g m mid m1 → IsOtherRequest (next_event mid) q → h ≡ stopped_for mid stop.Differs → DoesStep q g m h m1 (Err f)
 differs_step q g mid h m m1 f e b n s = subst (λ (x : GuestFault). DoesStep q g m h m1 (Err x)) (sym e) (differs q g mid h m m1 b n s)
 
 pub answers_at : (g h : Replaying) (m m2 : List ℕ) (c : Call) (answer : ℕ) (o : Option Event) → o ≡ next_event g → IsRecordedAnswer o c answer → (len : ℕ) → len ≡ length m → IsLawfulAnswer g.live len c answer
@@ -190,13 +195,13 @@ listed_at v g live c answer r b e told ok h =
     ap (λ (l : List Block). record v { at = v.at + 1; live = l }) (was_ok r (live ≡ relisted v.live c answer) (sym told ∙ ok) h)
     ∙ ap (λ (x : Replaying). record x { at = x.at + 1; live = relisted x.live c answer }) e
 
-pub not_destroyed : (o : Option Event) (func rep : ℕ) → ¬ (IsNext o (destroys func rep))
-not_destroyed None func rep n = n
-not_destroyed (Some (event.Start f ws m)) func rep n = n
-not_destroyed (Some (event.Ask k ws m)) func rep n = n
-not_destroyed (Some (event.Resume ws m)) func rep n = n
-not_destroyed (Some (event.Return ws m)) func rep n = n
-not_destroyed (Some (event.Realloc a b c d e)) func rep n = n
-not_destroyed (Some (event.Post f ws)) func rep n = n
-not_destroyed (Some (event.Dtor f r)) func rep n = n
-not_destroyed (Some (event.Trap asked len)) func rep n = n
+pub not_destroyed : (o : Option Event) (func rep : ℕ) → IsOtherRequest o (destroys func rep)
+not_destroyed None func rep = tt
+not_destroyed (Some (event.Start f ws m)) func rep = (λ n. n, tt)
+not_destroyed (Some (event.Ask k ws m)) func rep = (λ n. n, tt)
+not_destroyed (Some (event.Resume ws m)) func rep = (λ n. n, tt)
+not_destroyed (Some (event.Return ws m)) func rep = (λ n. n, tt)
+not_destroyed (Some (event.Realloc a b c d e)) func rep = (λ n. n, tt)
+not_destroyed (Some (event.Post f ws)) func rep = (λ n. n, tt)
+not_destroyed (Some (event.Dtor f r)) func rep = (λ n. n, tt)
+not_destroyed (Some (event.Trap asked len)) func rep = (λ n. n, tt)

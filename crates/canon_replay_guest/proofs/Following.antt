@@ -12,7 +12,7 @@ use Rattle.canon_memory.specs.Journal.{answer_event, step_event}
 use Rattle.canon_memory.specs.Watch.{along_both, live_along, relisted}
 use Rattle.canon_memory.proofs.Watch.{after_step}
 use Rattle.canon_replay_guest.specs.Following.{Follows, InCall, IsBefore, IsLeftBy, IsOfRequest, IsPassedCount, Leaves, MovesFollow, Overruns, TrapsInCall}
-use Rattle.canon_replay_guest.specs.Moves.{BeginsRequest, Chain, EndsItself, GuestRequest, IsNext, IsReason, LetsGo, ReplayMoves, Replays, RequestOutcome, answered, destroys, ended, outcome_events, posts, reallocates, request_told, resumes, starts, stepped, to_length, trap_told, trapped}
+use Rattle.canon_replay_guest.specs.Moves.{BeginsRequest, Chain, EndsItself, GuestRequest, IsOtherRequest, IsReason, LetsGo, ReplayMoves, Replays, RequestOutcome, answered, destroys, ended, outcome_events, posts, reallocates, request_told, resumes, starts, stepped, to_length, trap_told, trapped}
 use Rattle.canon_replay_guest.specs.Passing.{AreAlike, IsUntrapped, PassesRecorded}
 use Rattle.canon_replay_guest.specs.Replaying.{IsOpened, Replaying, call_events, events_now, events_of_calls, next_event, passed_events, stopped_for}
 use Rattle.canon_replay_guest.specs.declared.stop.Stop.{Stop}
@@ -183,7 +183,7 @@ module _ (k : ℕ) (s : Replaying) (few : k < length s.recorded) where
     its_call = its;
     all = all;
     left = leave stop.Differs g g last es more x go (kept_itself g g refl) made
-        (subst (λ (o : Option Event). ¬ (IsNext o (request_of x))) (sym (slice_get_past (events_now g) g.at all)) (λ n. n));
+        (subst (λ (o : Option Event). IsOtherRequest o (request_of x)) (sym (slice_get_past (events_now g) g.at all)) tt);
   }
 
   few_at : (g : Replaying) (es : List Event) → Going g es → k < length g.recorded
@@ -338,7 +338,7 @@ module _ (k : ℕ) (s : Replaying) (few : k < length s.recorded) where
         alike = subst (λ (l : List Event). AreAlike x.left.followed l) (whole_at x.m x.left.passes.same x.its_call x.all) (next_at x.m x.left.followed x.left.passes x.its_call);
         request = x.left.request;
         of = x.left.of;
-        left = subst (λ (o : Option Event). ¬ (IsNext o x.left.request)) (sym (slice_get_past its (length its) (omega arith))) (λ n. n);
+        left = subst (λ (o : Option Event). IsOtherRequest o x.left.request) (sym (slice_get_past its (length its) (omega arith))) tt;
       },
     )
 

@@ -8,7 +8,7 @@ use Rattle.canon_memory.specs.Guest.{GuestIn}
 use Rattle.canon_memory.specs.Realloc.{call}
 use Rattle.canon_memory.specs.Watch.{live_along}
 use Rattle.canon_replay_guest.specs.Lawful.{IsLawfulAnswer}
-use Rattle.canon_replay_guest.specs.Moves.{Chain, GuestRequest, IsNext, IsRecordedAnswer, ReplayMoves, RequestOutcome, destroys, outcome_events, posts, reallocates, resumes, starts}
+use Rattle.canon_replay_guest.specs.Moves.{Chain, GuestRequest, IsOtherRequest, IsRecordedAnswer, ReplayMoves, RequestOutcome, destroys, outcome_events, posts, reallocates, resumes, starts}
 use Rattle.canon_replay_guest.specs.Passing.{AreAlike, AreUntrapped, PassesRecorded}
 use Rattle.canon_replay_guest.specs.Replaying.{Replaying, call_events, events_now}
 use Rattle.canon_replay_guest.specs.declared.stop.Stop.{Stop}
@@ -26,7 +26,7 @@ IsOfRequest _ _ = ⊥
 
 -- Of a request, the recorded event there, the blocks that live and the length of memory: why what is recorded isn't followed.
 abbrev pub IsLeftBy : Stop → Option Event → List Block → ℕ → GuestRequest → Type 0
-IsLeftBy stop.Differs e live len q = ¬ (IsNext e q)
+IsLeftBy stop.Differs e live len q = IsOtherRequest e q
 IsLeftBy stop.Unlawful e live len q = (c : Call) × (answer : ℕ) × (q ≡ reallocates c) × IsRecordedAnswer e c answer × ¬ (IsLawfulAnswer live len c answer)
 IsLeftBy stop.Unfit e live len q = ⊤
 

@@ -1,6 +1,7 @@
 -- What a guest that replays does, call by call.
 use Rattle.std.specs.Prelude.{List, None, Option, Result, Some, Ok, Err, [], flat_map, length, ℕ, ⊤, ◌++◌, ◌+◌, ◌≡◌, ◌∷◌, ◌⊎◌, ◌≢◌}
 use Rattle.std.proofs.Common.{append_assoc, ap, refl, subst₂, sym, ◌∙◌}
+use Rattle.canon_model.specs.Flat.{AreWords}
 use Rattle.canon_model.specs.Requests.{Call}
 use Rattle.canon_memory.specs.declared.error.GuestFault.{GuestFault}
 use Rattle.canon_memory.specs.declared.error.GuestFault.TheVariants as fault
@@ -36,6 +37,18 @@ TellsRequest _ _ = ⊥
 abbrev pub IsNext : Option Event → GuestRequest → Type 0
 IsNext None q = ⊥
 IsNext (Some e) q = TellsRequest e q
+
+-- each word that it is asked with has 64 bits
+abbrev pub HasWords : GuestRequest → Type 0
+HasWords (starts func words) = AreWords words
+HasWords (resumes words) = AreWords words
+HasWords (posts func words) = AreWords words
+HasWords _ = ⊤
+
+-- A request, with words of 64 bits, isn't the recorded one; or none is recorded.
+abbrev pub IsOtherRequest : Option Event → GuestRequest → Type 0
+IsOtherRequest None q = ⊤
+IsOtherRequest (Some e) q = ¬ (TellsRequest e q) × HasWords q
 
 -- memory is grown before it, where it is the first of a call
 abbrev pub GrowsMemory : GuestRequest → Type 0
@@ -119,7 +132,7 @@ TakesStep e before after (Err fault.OutOfMemory) = ⊤
 
 -- why it trapped, in a memory of so many bytes
 abbrev pub IsReason : Stop → Replaying → ℕ → GuestRequest → Type 0
-IsReason stop.Differs g len q = ¬ (IsNext (next_event g) q)
+IsReason stop.Differs g len q = IsOtherRequest (next_event g) q
 IsReason stop.Unlawful g len q = (c : Call) × (answer : ℕ) × (q ≡ reallocates c) × IsRecordedAnswer (next_event g) c answer × ¬ (IsLawfulAnswer g.live len c answer)
 IsReason stop.Unfit g len q = IsNext (next_event g) q × LetsGo q × ((step : Step) (after : List ℕ) → ¬ (IsStep (event_after g) len step after))
 

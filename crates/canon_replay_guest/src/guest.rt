@@ -6,8 +6,8 @@ ghost use Rattle.canon_replay_guest.specs.Replaying.{replay_seen};
 
 use crate::live::LiveBlocks;
 use crate::recorded::{
-    answer_of, copy_kept, event_at, events_of, grow_to, is_post, is_resume, is_start, start_of,
-    take_step,
+    answer_of, copy_kept, event_at, events_of, grow_to, is_post, is_resume, is_start, read_words,
+    start_of, take_step,
 };
 use crate::stop::Stop;
 use canon_memory::{Event, Events, Guest, GuestFault, Memory, Step, ValRaw};
@@ -262,6 +262,7 @@ impl ReplayGuest {
     {
         self.begin(memory)?;
         if !is_start(self.next(), func, words) {
+            read_words(words);
             return Err(self.trap(Stop::Differs));
         }
         self.step(memory)
@@ -279,6 +280,7 @@ impl ReplayGuest {
         }
         self.open();
         if !is_resume(self.next(), words) {
+            read_words(words);
             return Err(self.trap(Stop::Differs));
         }
         self.step(memory)
@@ -315,6 +317,7 @@ impl ReplayGuest {
         }
         self.open();
         if !is_post(self.next(), func, words) {
+            read_words(words);
             return Err(self.trap(Stop::Differs));
         }
         let _count = self.count();

@@ -2,6 +2,7 @@
 
 ghost use Rattle.std.specs.Prelude.{◌≡◌, ◌↔◌, ◌≤◌, ◌+◌, List, Err, None, Ok, Some, IsTrue, MatchOption, MatchResult, OnErr, OnOk, length, slice_get};
 ghost use Rattle.std.specs.Option.{option_map};
+ghost use Rattle.canon_model.specs.Flat.{AreWords};
 ghost use Rattle.canon_memory.specs.Realloc.{call};
 ghost use Rattle.canon_replay_guest.specs.Replaying.{CanGrow, call_events, grown_to, moved, start_length};
 ghost use Rattle.canon_replay_guest.specs.Moves.{IsNext, IsRecordedAnswer, TakesStep, posts, reallocates, resumes, starts};
@@ -42,6 +43,15 @@ fn same_words(xs: &[ValRaw], ys: &[ValRaw]) -> bool
     ensures { IsTrue result ↔ (xs.now ≡ ys.now) }
 {
     xs == ys
+}
+
+/// Reads words, each of which is then known to have 64 bits.
+pub(crate) fn read_words(words: &[ValRaw])
+    ensures { AreWords words.now }
+{
+    for word in words {
+        let _bits = word.get_u64();
+    }
 }
 
 /// Whether a start is the recorded one.

@@ -1,5 +1,5 @@
 -- The store of a component whose code runs in an engine, as it begins.
-use Rattle.std.specs.Prelude.{Bool, IsUtf8, List, None, Option, Some, [], false, if◌then◌else◌, replicate, slice_get, ℕ, ◌+◌, ◌∷◌, ◌≡◌}
+use Rattle.std.specs.Prelude.{Bool, IsUtf8, List, None, Option, Some, [], false, if◌then◌else◌, length, replicate, slice_get, ℕ, ◌+◌, ◌∷◌, ◌≡◌, ◌≤◌}
 use Rattle.serde_json.specs.Data.{Data}
 use Rattle.serde_json.specs.Read.{read}
 use Rattle.canon_abi.specs.declared.options.CanonicalOptions.{CanonicalOptions}
@@ -12,6 +12,7 @@ use Rattle.canon_context.specs.declared.component.Component.{Component}
 use Rattle.canon_context.specs.declared.component.Export.{Export}
 use Rattle.canon_context.specs.declared.component.Import.{Import}
 use Rattle.canon_model.specs.Memory.{Memory, memory_of}
+use Rattle.canon_events.specs.Guest.{maybe_journaled}
 use Rattle.canon_relay.specs.Channel.{Message}
 use Rattle.canon_relay.specs.Relay.{PassesMessages, Relaying, RepliesDone}
 use Rattle.canon_relay.specs.declared.demand.Demand.TheVariants as demand
@@ -75,12 +76,12 @@ HasNoComponent json = (play : Play) → HasPlay json play → (component : Compo
 -- ---- the store
 
 -- A store in which nothing was done, of a component, with a guest that was instantiated in this memory.
-abbrev pub begun_store : {E H : Type 0} → H → Relaying E → Bool → Memory → Component → Play → EngineStore E H
-begun_store host relay watches_all memory component play = record {
+abbrev pub begun_store : {E H : Type 0} → H → Relaying E → Bool → Bool → Memory → Component → Play → EngineStore E H
+begun_store host relay watches_all keeps_events memory component play = record {
   core = record {
     id = 0;
-    state = host;
-    guest = record { guest = relay; whole = watches_all; held = []; live = []; marks = []; shortages = 0 };
+    state = record { channel = host; list = [] };
+    guest = record { guest = maybe_journaled relay keeps_events; whole = watches_all; held = []; live = []; marks = []; shortages = 0 };
     memory = memory.bytes;
     wide = memory.wide;
     component = component;
@@ -96,12 +97,13 @@ module _ {E : Type 0} (log : E → Option (List Message)) where
   -- The engine was asked once, over its channel, to put the component's data into memory.
   pub record IsInstantiated (engine : E) (before : Memory) (relay : Relaying E) (after : Memory) : Type 0 where
     pub passed : PassesMessages (log engine) (log relay.channel) (RepliesDone demand.Instantiate [] before.bytes after.bytes)
+    pub longer : length before.bytes ≤ length after.bytes
     pub counts : relay.counts ≡ record { blocks = 0; traps = 0; shortages = 0 }
     pub width : after.wide ≡ before.wide
 
 module _ {E H : Type 0} (log : E → Option (List Message)) where
   -- The store of the component of this JSON began: the engine instantiated it in a memory of zeros.
-  pub record IsBegun (engine : E) (host : H) (watches_all : Bool) (json : List ℕ) (store : EngineStore E H) : Type 0 where
+  pub record IsBegun (engine : E) (host : H) (watches_all keeps_events : Bool) (json : List ℕ) (store : EngineStore E H) : Type 0 where
     pub play : Play
     pub has : HasPlay json play
     pub component : Component
@@ -110,4 +112,4 @@ module _ {E H : Type 0} (log : E → Option (List Message)) where
     pub relay : Relaying E
     pub memory : Memory
     pub instantiated : IsInstantiated log engine (memory_of (replicate play.memory 0) false) relay memory
-    pub is : store ≡ begun_store host relay watches_all memory component play
+    pub is : store ≡ begun_store host relay watches_all keeps_events memory component play

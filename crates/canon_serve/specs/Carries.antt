@@ -14,13 +14,15 @@ use Rattle.canon_resources.specs.Held.{Any, any, host_index, table_handle}
 use Rattle.canon_ledger.specs.Index.{GivenIndex}
 use Rattle.canon_ledger.specs.Ledger.{Did, given, host_resource_lower_own}
 use Rattle.canon_ledger.specs.declared.fault.ResourceFault.{ResourceFault}
-use Rattle.canon_literals.specs.Literals.{all_known, held_among, listed_resource, literals_view, replaced}
 use Rattle.canon_memory.specs.Guest.{GuestIn, Mark, Seen}
 use Rattle.canon_memory.specs.Watch.{WatchedMoves, Watching, watched_seen}
 use Rattle.canon_memory.specs.declared.event.Event.{Event}
 use Rattle.canon_relay.specs.Channel.{Message}
 use Rattle.canon_relay.specs.Relay.{RelayMoves, Relaying, relay_seen}
 use Rattle.canon_relay.specs.Wire.{number_bytes}
+use Rattle.canon_events.specs.Bytes.{events_bytes}
+use Rattle.canon_events.specs.Guest.{MaybeMoves, journal_kept, maybe_seen, without_journal}
+use Rattle.canon_events.specs.declared.guest.MaybeJournaled.{MaybeJournaled}
 use Rattle.canon_context.specs.Asks.{SameButHandles}
 use Rattle.canon_context.specs.Core.{Parts, SameButLedger, component_types, guest_of, moment_of}
 use Rattle.canon_context.specs.declared.fault.Fault.TheVariants as fault
@@ -34,7 +36,8 @@ use Rattle.canon_func.specs.declared.error.Error.{Error}
 use Rattle.canon_func.specs.declared.error.Error.TheVariants as error
 use Rattle.canon_val.specs.declared.val.Val.{Val}
 use Rattle.canon_val.specs.declared.val.Val.TheVariants as val
-use Rattle.canon_serve.specs.Imports.{AnyAnswer}
+use Rattle.canon_serve.specs.Asks.{Hosting, serves_imports}
+use Rattle.canon_serve.specs.Images.{AreLooked, are_listed}
 use Rattle.canon_serve.specs.declared.answer.Answer.{Answer}
 use Rattle.canon_serve.specs.declared.answer.Answer.TheVariants as answer
 use Rattle.canon_serve.specs.declared.answer.Senseless.TheVariants as senseless
@@ -42,19 +45,19 @@ use Rattle.canon_serve.specs.declared.command.Command.{Command}
 use Rattle.canon_serve.specs.declared.command.Command.TheVariants as command
 use Rattle.canon_serve.specs.declared.imports.ChannelImports.{ChannelImports}
 
--- ---- a store whose code runs in an engine behind a channel, and whose answers of `realloc` are tested
+-- ---- a store whose code runs in an engine behind a channel, whose events may be kept, and whose answers of `realloc` are tested
 
 abbrev pub EngineStore : Type 0 → Type 0 → Type 0
-EngineStore E H = StoreView H (Watching (Relaying E)) ChannelImports
+EngineStore E H = StoreView (Hosting H) (Watching (MaybeJournaled (Relaying E))) ChannelImports
 
 abbrev pub EngineParts : Type 0 → Type 0 → Type 0
-EngineParts E H = Parts H (Watching (Relaying E))
+EngineParts E H = Parts (Hosting H) (Watching (MaybeJournaled (Relaying E)))
 
-abbrev pub engine_seen : {E : Type 0} → Watching (Relaying E) → Seen
-engine_seen w = watched_seen relay_seen w
+abbrev pub engine_seen : {E : Type 0} → Watching (MaybeJournaled (Relaying E)) → Seen
+engine_seen w = watched_seen (λ g. maybe_seen relay_seen g) w
 
-abbrev pub EngineMoves : {E : Type 0} → (E → Option (List Message)) → GuestIn (Watching (Relaying E)) → List Event → GuestIn (Watching (Relaying E)) → Type 0
-EngineMoves log w events x = WatchedMoves (RelayMoves log) w events x
+abbrev pub EngineMoves : {E : Type 0} → (E → Option (List Message)) → GuestIn (Watching (MaybeJournaled (Relaying E))) → List Event → GuestIn (Watching (MaybeJournaled (Relaying E))) → Type 0
+EngineMoves log w events x = WatchedMoves (MaybeMoves (RelayMoves log)) w events x
 
 -- ---- a session's state: a store, and the resources that were made or answered so far, which are named by their places
 
@@ -64,6 +67,22 @@ pub record EngineSession (E H : Type 0) : Type 0 where
 
 abbrev pub session : {E H : Type 0} → EngineStore E H → List Any → EngineSession E H
 session store list = record { store = store; list = list }
+
+abbrev pub with_list_in : {E H : Type 0} → EngineStore E H → List Any → EngineStore E H
+with_list_in store list = record store { core = record store.core { state = record store.core.state { list = list } } }
+
+-- its store while a call lasts: the list stands in the data, where functions of the host reach it
+abbrev pub lent_store : {E H : Type 0} → EngineSession E H → EngineStore E H
+lent_store s = with_list_in s.store s.list
+
+-- ---- what the channels expose of the messages that passed: those to the engine, and to the functions of the host
+
+pub record SessionLogs (E H : Type 0) : Type 0 where
+  pub engine : E → Option (List Message)
+  pub host : H → Option (List Message)
+
+abbrev pub both_logs : {E H : Type 0} → (E → Option (List Message)) → (H → Option (List Message)) → SessionLogs E H
+both_logs engine host = record { engine = engine; host = host }
 
 -- ---- marks
 
@@ -88,14 +107,6 @@ IsSenseless (image.Truncated place) a = a ≡ answer.Senseless (senseless.NoImag
 IsSenseless (image.Malformed place) a = a ≡ answer.Senseless (senseless.NoImage place)
 IsSenseless (image.Trailing place) a = a ≡ answer.Senseless (senseless.NoImage place)
 IsSenseless e a = ⊥
-
--- these are the values that were read, with the resource of the list in the place of each number
-abbrev pub AreLooked : List Any → List Val → List Val → Type 0
-AreLooked list given params = literals_view params ≡ map (replaced (listed_resource list)) (literals_view given)
-
--- each number in them is one of the list
-abbrev pub are_listed : List Any → List Val → Bool
-are_listed list given = all_known (length list) (held_among (literals_view given))
 
 -- ---- a new resource
 
@@ -123,21 +134,29 @@ TellsDrop (Ok x) (answer.Done bytes) = bytes.items ≡ []
 TellsDrop (Err e) (answer.Refused refusal) = refusal ≡ e
 TellsDrop result a = ⊥
 
-module _ {E H : Type 0} (log : E → Option (List Message)) where
+module _ {E H : Type 0} (logs : SessionLogs E H) where
   -- A function was called with these parameters and so many slots for results, which it left so: refused before the guest was entered,
   -- which leaves the store as it was, or called.
-  pub record CallsExport (f : Named) (params : List Val) (slots : ℕ) (store store2 : EngineStore E H) (result : Result (Unit {0}) Error) (results : List Val) : Type 0 where
+  pub record CallsStore (f : Named) (params : List Val) (slots : ℕ) (store store2 : EngineStore E H) (result : Result (Unit {0}) Error) (results : List Val) : Type 0 where
     pub refused : refused_by result ≡ call_refusal (callee_of store f) (length params) slots store.trapped
     pub unchanged : IfSome (refused_by result) (λ e. store2 ≡ store)
     pub call : IsNone (refused_by result) → Adding (moment_of engine_seen store.core) (moment_of engine_seen store2.core)
-        (λ events. OnAnswered result (EngineMoves log (guest_of store.core) events (guest_of store2.core)))
-        (λ events. IsCall (LivesUntil engine_seen (EngineMoves log) (guest_of store.core) (guest_of store2.core) result) (λ before after. Unit {0}) AnyAnswer
+        (λ events. OnAnswered result (EngineMoves logs.engine (guest_of store.core) events (guest_of store2.core)))
+        (λ events. IsCall (LivesUntil engine_seen (EngineMoves logs.engine) (guest_of store.core) (guest_of store2.core) result) (λ before after. Unit {0}) (serves_imports logs.host)
         (callee_of store f) (allowed store.core.fuel store.turns) params (moment_of engine_seen store.core) (moment_of engine_seen store2.core)
         (host_side store.core None store.imports.refusals) (host_side store2.core None store2.imports.refusals) result results events)
     pub trapped : IsNone (refused_by result) → OnErr result (store2.trapped ≡ true)
     pub runs : OnOk result (store2.trapped ≡ store.trapped)
     pub same : SameButHost store.core store2.core
     pub turns : store2.turns ≡ store.turns
+
+  -- The same of a session, whose list stood in the store's data meanwhile: what functions of the host were handed is at its end.
+  abbrev pub CallsExport : Named → List Val → ℕ → EngineSession E H → EngineSession E H → Result (Unit {0}) Error → List Val → Type 0
+  CallsExport f params slots s s2 result results = CallsStore f params slots (lent_store s) (lent_store s2) result results × (s2.store.core.state.list ≡ s.store.core.state.list)
+
+  -- it answered Ok, and then the list alone may have changed
+  abbrev pub CallsOk : Named → List Val → ℕ → EngineSession E H → EngineSession E H → Type 0
+  CallsOk f params slots s s2 = (results : List Val) × (left : EngineSession E H) × CallsExport f params slots s left (Ok tt) results × (s2.store ≡ left.store)
 
   -- the shapes of the tuples of a function's parameters and results
   abbrev pub params_tuple_shape : EngineStore E H → TypeFunc → Shape
@@ -157,8 +176,10 @@ module _ {E H : Type 0} (log : E → Option (List Message)) where
     pub slots_are : slots ≡ length (types_of (component_types s.store.core) t.results)
     pub result : Result (Unit {0}) Error
     pub results : List Val
-    pub called : CallsExport f params slots s.store s2.store result results
-    pub told : TellsCall (results_tuple_shape s.store t) result results s.list s2.list a
+    pub left : EngineSession E H
+    pub called : CallsExport f params slots s left result results
+    pub told : TellsCall (results_tuple_shape s.store t) result results left.list s2.list a
+    pub rest : s2.store ≡ left.store
 
   -- nothing was done, and this was answered
   abbrev pub OnlyAnswers : EngineSession E H → EngineSession E H → Answer → Answer → Type 0
@@ -189,6 +210,14 @@ module _ {E H : Type 0} (log : E → Option (List Message)) where
   abbrev pub without_marks : EngineStore E H → EngineStore E H
   without_marks store = record store { core = record store.core { guest = record store.core.guest { marks = [] } } }
 
+  abbrev pub without_events : EngineStore E H → EngineStore E H
+  without_events store = record store { core = record store.core { guest = record store.core.guest { guest = without_journal store.core.guest.guest } } }
+
+  -- The events that were kept are told, and forgotten; or none are kept.
+  abbrev pub TellsKeptEvents : Option (List Event) → EngineStore E H → EngineStore E H → Answer → Type 0
+  TellsKeptEvents None store store2 a = (a ≡ answer.Senseless senseless.NoEvents) × (store2 ≡ store)
+  TellsKeptEvents (Some events) store store2 a = IsDone (events_bytes events) a × (store2 ≡ without_events store)
+
   -- ---- a resource
 
   -- An own handle was put into the host's table, or the ledger refused it: nothing but the ledger changed.
@@ -210,7 +239,7 @@ module _ {E H : Type 0} (log : E → Option (List Message)) where
   pub record DropsHandle (x : Any) (store store2 : EngineStore E H) (result : Result (Unit {0}) Error) : Type 0 where
     pub no_handle : IfNone (host_index x.handle) ((result ≡ Ok tt) × (store2 ≡ store))
     pub refused : IfSome (host_index x.handle) (λ i. IfSome (drop_refusal store.core.ledger store.trapped i) (λ e. (result ≡ Err e) × (store2 ≡ store)))
-    pub drops : IfSome (host_index x.handle) (λ i. IfNone (drop_refusal store.core.ledger store.trapped i) (IsDrop engine_seen (EngineMoves log) (λ m n. Unit {0}) i store store2 result))
+    pub drops : IfSome (host_index x.handle) (λ i. IfNone (drop_refusal store.core.ledger store.trapped i) (IsDrop engine_seen (EngineMoves logs.engine) (λ m n. Unit {0}) i store store2 result))
     pub same : SameButHandles store.core store2.core
     pub turns : store2.turns ≡ store.turns
     pub imports : store2.imports ≡ store.imports
@@ -232,45 +261,50 @@ module _ {E H : Type 0} (log : E → Option (List Message)) where
       ⊎ ((HasExport s.store export → ⊥) × OnlyAnswers s s2 a (answer.Senseless senseless.NoExport))
 
   -- What was answered to a command, and what it left: a call by the export of that number, if there is one; how many handles live; the marks since
-  -- the last time, which are forgotten then; a resource of a number that was dropped, and a new one.
+  -- the last time, which are forgotten then; a resource of a number that was dropped, and a new one; and the events since the last time, which are
+  -- forgotten too.
   abbrev pub CarriesOutCommand : Command → EngineSession E H → EngineSession E H → Answer → Type 0
   CarriesOutCommand (command.Call export params) s s2 a = CalledAt export params.items s s2 a
   CarriesOutCommand command.Live s s2 a = IsDone (number_bytes s.store.core.ledger.handles.counter.live) a × (s2 ≡ s)
   CarriesOutCommand command.Marks s s2 a = IsDone (map mark_byte s.store.core.guest.marks) a × (s2 ≡ session (without_marks s.store) s.list)
   CarriesOutCommand (command.Drop number) s s2 a = DropsListed s s2 a (slice_get s.list number)
   CarriesOutCommand (command.New ty rep) s s2 a = MakesNew ty rep s s2 a
+  CarriesOutCommand command.Events s s2 a = TellsKeptEvents (journal_kept s.store.core.guest.guest) s.store s2.store a × (s2.list ≡ s.list)
   CarriesOutCommand command.End s s2 a = OnlyAnswers s s2 a (answer.Senseless senseless.NoCommand)
-  CarriesOutCommand (command.Begin all json) s s2 a = OnlyAnswers s s2 a (answer.Senseless senseless.NoCommand)
+  CarriesOutCommand (command.Begin all keeps json) s s2 a = OnlyAnswers s s2 a (answer.Senseless senseless.NoCommand)
   CarriesOutCommand command.Unknown s s2 a = OnlyAnswers s s2 a (answer.Senseless senseless.NoCommand)
 
   -- ---- want of memory
 
-  -- The function was called with the parameters of an image, and answered Ok.
+  -- The function, which has a type, was called with the parameters of an image, each of whose numbers is one of the list, and answered Ok.
   pub record IsDoneCall (f : Named) (bytes : List ℕ) (s s2 : EngineSession E H) : Type 0 where
+    pub type : TypeFunc
+    pub typed : type_of s.store f ≡ Some type
     pub given : Vec Val Global
     pub slots : ℕ
     pub params : List Val
-    pub results : List Val
-    pub read : IfSome (type_of s.store f) (λ t. IsReadParams s.store t bytes (Ok (given, slots)))
+    pub read : IsReadParams s.store type bytes (Ok (given, slots))
+    pub known : are_listed s.list given.items ≡ true
     pub looked : AreLooked s.list given.items params
-    pub called : CallsExport f params slots s.store s2.store (Ok tt) results
+    pub called : CallsOk f params slots s s2
 
   -- what a call with parameters in which numbers stand for resources did for whose answer memory ran out
   abbrev pub NumberedShort : Named → List Val → ℕ → EngineSession E H → EngineSession E H → Type 0
-  NumberedShort f given slots s s2 = (s2 ≡ s) ⊎ ((params results : List Val) × AreLooked s.list given params × CallsExport f params slots s.store s2.store (Ok tt) results)
+  NumberedShort f given slots s s2 = (s2 ≡ s) ⊎ ((params : List Val) × (are_listed s.list given ≡ true) × AreLooked s.list given params × CallsOk f params slots s s2)
 
   -- what a call did for whose answer memory ran out: nothing, or it is that for the image of its results
   abbrev pub CallsShort : Named → List ℕ → EngineSession E H → EngineSession E H → Type 0
   CallsShort f bytes s s2 = (s2 ≡ s) ⊎ IsDoneCall f bytes s s2
 
-  -- the same of a new resource: nothing, or its handle has no place in the list
-  abbrev pub NewShort : ℕ → EngineSession E H → EngineSession E H → Type 0
-  NewShort rep s s2 = (s2 ≡ s) ⊎ (((index : GivenIndex) × InsertsHandle rep s.store s2.store (Ok index)) × (s2.list ≡ s.list))
+  -- the same of a new resource, whose type and representation have no more than 32 bits: nothing, or its handle has no place in the list
+  abbrev pub NewShort : ℕ → ℕ → EngineSession E H → EngineSession E H → Type 0
+  NewShort ty rep s s2 = (s2 ≡ s) ⊎ (AreNarrowOperands ty rep × ((index : GivenIndex) × InsertsHandle rep s.store s2.store (Ok index)) × (s2.list ≡ s.list))
 
   -- what a command did for whose answer memory ran out
   abbrev pub AnswersShort : Command → EngineSession E H → EngineSession E H → Type 0
   AnswersShort (command.Call export params) s s2 = CallsShort (export_named s.store export) params.items s s2
   AnswersShort command.Live s s2 = s2 ≡ s
   AnswersShort command.Marks s s2 = s2 ≡ s
-  AnswersShort (command.New ty rep) s s2 = NewShort rep s s2
+  AnswersShort (command.New ty rep) s s2 = NewShort ty rep s s2
+  AnswersShort command.Events s s2 = s2 ≡ s
   AnswersShort asked s s2 = ⊥

@@ -1,7 +1,7 @@
+pub mod Asks
 pub mod Begins
 pub mod Carries
 pub mod Errors
 pub mod Images
-pub mod Imports
 pub mod Messages
 pub mod Sessions

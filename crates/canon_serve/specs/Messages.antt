@@ -17,13 +17,14 @@ use Rattle.canon_serve.specs.declared.command.Unheard.TheVariants as unheard
 -- what a command is, by its numbers: what is asked for, its operands, and its bytes
 abbrev pub IsCommand : ℕ → ℕ → ℕ → List ℕ → Command → Type 0
 IsCommand what operand second bytes command.End = what ≡ 0
-IsCommand what operand second bytes (command.Begin watches_all json) = (what ≡ 1) × (watches_all ≡ nat_eq operand 1) × (json.items ≡ bytes)
+IsCommand what operand second bytes (command.Begin watches_all keeps_events json) = (what ≡ 1) × (watches_all ≡ nat_eq operand 1) × (keeps_events ≡ nat_eq second 1) × (json.items ≡ bytes)
 IsCommand what operand second bytes (command.Call export params) = (what ≡ 2) × (export ≡ operand) × (params.items ≡ bytes)
 IsCommand what operand second bytes command.Live = what ≡ 3
 IsCommand what operand second bytes command.Marks = what ≡ 4
 IsCommand what operand second bytes (command.Drop number) = (what ≡ 5) × (number ≡ operand)
 IsCommand what operand second bytes (command.New ty rep) = (what ≡ 6) × (ty ≡ operand) × (rep ≡ second)
-IsCommand what operand second bytes command.Unknown = 7 ≤ what
+IsCommand what operand second bytes command.Events = what ≡ 7
+IsCommand what operand second bytes command.Unknown = 8 ≤ what
 
 -- bytes are a message, unless there are none
 abbrev pub heard_bytes : List ℕ → List Message
@@ -70,6 +71,7 @@ senseless_numbers (senseless.NoImage place) = 3 ∷ place ∷ []
 senseless_numbers senseless.NoResource = 4 ∷ 0 ∷ []
 senseless_numbers senseless.NoComponent = 5 ∷ 0 ∷ []
 senseless_numbers senseless.TooWide = 7 ∷ 0 ∷ []
+senseless_numbers senseless.NoEvents = 8 ∷ 0 ∷ []
 
 abbrev pub with_place : List ℕ → List ℕ
 with_place (code ∷ place ∷ []) = 7 ∷ 2 ∷ code ∷ 0 ∷ 0 ∷ place ∷ 0 ∷ []

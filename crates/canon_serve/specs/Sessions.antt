@@ -6,7 +6,7 @@ use Rattle.canon_func.specs.declared.error.Error.TheVariants as error
 use Rattle.canon_relay.specs.Channel.{AddsMessages, Message}
 use Rattle.canon_relay.specs.Relay.{PassesMessages}
 use Rattle.canon_serve.specs.Begins.{HasComponent, HasNoComponent, IsBegun}
-use Rattle.canon_serve.specs.Carries.{AnswersShort, CarriesOutCommand, EngineSession, EngineStore, session}
+use Rattle.canon_serve.specs.Carries.{AnswersShort, CarriesOutCommand, EngineSession, EngineStore, SessionLogs, session}
 use Rattle.canon_serve.specs.Messages.{HearsCommand, HearsHead, HearsNone, IsStrictPrefix, answer_messages}
 use Rattle.canon_serve.specs.declared.answer.Answer.{Answer}
 use Rattle.canon_serve.specs.declared.answer.Answer.TheVariants as answer
@@ -44,7 +44,7 @@ GoesOnAfter _ = Unit {0}
 -- memory may run out for the answer of any but these
 abbrev pub MayRunShort : Command → Type 0
 MayRunShort command.End = ⊥
-MayRunShort (command.Begin all json) = ⊥
+MayRunShort (command.Begin all keeps json) = ⊥
 MayRunShort (command.Drop number) = ⊥
 MayRunShort command.Unknown = ⊥
 MayRunShort _ = Unit {0}
@@ -53,10 +53,10 @@ MayRunShort _ = Unit {0}
 abbrev pub IsCutCommand : List Message → Type 0
 IsCutCommand messages = (asked : Command) × MayRunShort asked × HearsCommand asked messages
 
-module _ {E H : Type 0} (log : E → Option (List Message)) where
+module _ {E H : Type 0} (logs : SessionLogs E H) where
   -- the command, which doesn't end the session, was heard and carried out, from one state to another, with this answer
   abbrev pub ServesTurn : CommandTurn → EngineSession E H → EngineSession E H → Type 0
-  ServesTurn t s s2 = GoesOnAfter t.asked × HearsCommand t.asked t.heard × CarriesOutCommand log t.asked s s2 t.answered
+  ServesTurn t s s2 = GoesOnAfter t.asked × HearsCommand t.asked t.heard × CarriesOutCommand logs t.asked s s2 t.answered
 
   -- each was, one after another
   abbrev pub ServesTurns : List CommandTurn → EngineSession E H → EngineSession E H → Type 0
@@ -86,8 +86,8 @@ module _ {E H : Type 0} (log : E → Option (List Message)) where
 
   -- By how it ended: which answer wasn't told whole, or that there is none for want of memory.
   abbrev pub CutsCommand : End → Command → EngineSession E H → EngineSession E H → Option (List Message) → Option (List Message) → Type 0
-  CutsCommand end.Broken asked s s2 log1 log2 = (a : Answer) × CarriesOutCommand log asked s s2 a × PassesMessages log1 log2 (IsStrictPrefix (answer_messages a))
-  CutsCommand end.OutOfMemory asked s s2 log1 log2 = AnswersShort log asked s s2 × (log2 ≡ log1)
+  CutsCommand end.Broken asked s s2 log1 log2 = (a : Answer) × CarriesOutCommand logs asked s s2 a × PassesMessages log1 log2 (IsStrictPrefix (answer_messages a))
+  CutsCommand end.OutOfMemory asked s s2 log1 log2 = AnswersShort logs asked s s2 × (log2 ≡ log1)
   CutsCommand _ asked s s2 log1 log2 = ⊥
 
   -- what passed last, by how the session ended
@@ -108,10 +108,10 @@ module _ {E H : Type 0} (log : E → Option (List Message)) where
 
 -- how it is answered: the store of its component began; there is none; the engine didn't instantiate it; or it is another command
 abbrev pub IsFirstAnswer : Command → Answer → Type 0
-IsFirstAnswer (command.Begin all json) (answer.Done bytes) = HasComponent json.items × (bytes.items ≡ [])
-IsFirstAnswer (command.Begin all json) (answer.Senseless senseless.NoComponent) = HasNoComponent json.items
-IsFirstAnswer (command.Begin all json) (answer.Refused (error.Fault fault.GuestTrap)) = HasComponent json.items
-IsFirstAnswer (command.Begin all json) a = ⊥
+IsFirstAnswer (command.Begin all keeps json) (answer.Done bytes) = HasComponent json.items × (bytes.items ≡ [])
+IsFirstAnswer (command.Begin all keeps json) (answer.Senseless senseless.NoComponent) = HasNoComponent json.items
+IsFirstAnswer (command.Begin all keeps json) (answer.Refused (error.Fault fault.GuestTrap)) = HasComponent json.items
+IsFirstAnswer (command.Begin all keeps json) a = ⊥
 IsFirstAnswer asked (answer.Senseless senseless.NoCommand) = Unit {0}
 IsFirstAnswer asked a = ⊥
 
@@ -151,20 +151,21 @@ unheard_end unheard.OutOfMemory = end.OutOfMemory
 abbrev pub EndsAtOnce : End → List Message → Type 0
 EndsAtOnce end.Asked messages = ⊥
 EndsAtOnce end.Broken messages = HearsNone messages ⊎ IsCutFirst messages
-EndsAtOnce end.OutOfMemory messages = HearsHead messages ⊎ ((watches_all : Bool) × (json : Vec ℕ Global) × HearsCommand (command.Begin watches_all json) messages)
+EndsAtOnce end.OutOfMemory messages = HearsHead messages ⊎ ((watches_all keeps_events : Bool) × (json : Vec ℕ Global) × HearsCommand (command.Begin watches_all keeps_events json) messages)
 EndsAtOnce end.NoComponent messages = IsFirstTurn (λ a. (why : Senseless) × (a ≡ answer.Senseless why)) messages
 EndsAtOnce end.NotInstantiated messages = IsFirstTurn (λ a. a ≡ answer.Refused (error.Fault fault.GuestTrap)) messages
 
 -- ---- a session
 
-module _ {E H : Type 0} (log : E → Option (List Message)) (engine : E) (host : H) where
+module _ {E H : Type 0} (logs : SessionLogs E H) (engine : E) (host : H) where
   -- A component was heard, and its store began, which was told.
   pub record BeginsSession (log1 log2 : Option (List Message)) (store : EngineStore E H) : Type 0 where
     pub watches_all : Bool
+    pub keeps_events : Bool
     pub json : Vec ℕ Global
     pub heard : List Message
-    pub is_heard : HearsCommand (command.Begin watches_all json) heard
-    pub begun : IsBegun log engine host watches_all json.items store
+    pub is_heard : HearsCommand (command.Begin watches_all keeps_events json) heard
+    pub begun : IsBegun logs.engine engine host watches_all keeps_events json.items store
     pub empty : Vec ℕ Global
     pub is_empty : empty.items ≡ []
     pub passed : AddsMessages log1 log2 (heard ++ answer_messages (answer.Done empty))
@@ -174,7 +175,7 @@ module _ {E H : Type 0} (log : E → Option (List Message)) (engine : E) (host :
     pub store : EngineStore E H
     pub between : Option (List Message)
     pub begins : BeginsSession log1 between store
-    pub served : ServesUntil log between log2 (session store []) why
+    pub served : ServesUntil logs between log2 (session store []) why
 
   -- a session, or one that ended before a command was served
   abbrev pub IsSession : Option (List Message) → Option (List Message) → End → Type 0

@@ -26,6 +26,8 @@ pub enum Senseless {
     NoComponent,
     /// The type or the representation of a new resource has more than 32 bits.
     TooWide,
+    /// The session keeps no events.
+    NoEvents,
 }
 
 /// What came of a command.
@@ -66,6 +68,7 @@ fn senseless_numbers(why: Senseless) -> [u64; 2]
         Senseless::NoResource => [4, 0],
         Senseless::NoComponent => [5, 0],
         Senseless::TooWide => [7, 0],
+        Senseless::NoEvents => [8, 0],
     }
 }
 
@@ -109,7 +112,7 @@ pub(crate) fn tell_answer<P: Channel>(alloc: Global, caller: &mut P, answer: &An
 }
 
 /// Tells the numbers of an answer and its bytes.
-fn tell_both<P: Channel>(caller: &mut P, head: &[u8], bytes: &[u8]) -> bool
+pub(crate) fn tell_both<P: Channel>(caller: &mut P, head: &[u8], bytes: &[u8]) -> bool
     ensures told { IsTrue result → AddsMessages (P.log caller.old) (P.log caller.new) (told head.now ∷ told_bytes bytes.now) }
     ensures cut { IsFalse result → PassesMessages (P.log caller.old) (P.log caller.new) (IsStrictPrefix (told head.now ∷ told_bytes bytes.now)) }
 {

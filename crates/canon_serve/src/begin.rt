@@ -8,8 +8,10 @@ ghost use Rattle.canon_context.specs.Component.{IsComponent};
 ghost use Rattle.canon_script.specs.Script.{IsWellFormed, Play, play_of};
 ghost use Rattle.canon_serve.specs.Begins.{HasComponent, HasNoComponent, HasPlay, IsBegun, IsInstantiated, IsServedComponent, IsTree, asked_options, served_options};
 
+use crate::hosting::HostState;
 use crate::imports::ChannelImports;
 use crate::session::EngineStore;
+use canon_events::MaybeJournaled;
 use canon_func::Store;
 use canon_json::ScriptError;
 use canon_memory::{Memory, Watched};
@@ -42,9 +44,10 @@ pub(crate) fn store_of<E: Channel + Drop, H: Channel + Drop>(
     engine: E,
     host: H,
     watches_all: bool,
+    keeps_events: bool,
     json: &[u8],
 ) -> Result<EngineStore<E, H>, NoStore>
-    ensures begun { IfOk result (λ store. IsBegun E.log engine host watches_all json.now store) }
+    ensures begun { IfOk result (λ store. IsBegun E.log engine host watches_all keeps_events json.now store) }
     ensures none { result ≡ Err NoStore.NoComponent → HasNoComponent json.now }
     ensures not_instantiated { result ≡ Err NoStore.NotInstantiated → HasComponent json.now }
 {
@@ -76,8 +79,10 @@ pub(crate) fn store_of<E: Channel + Drop, H: Channel + Drop>(
     let Some((relay, memory)) = instantiated(alloc, engine, memory) else {
         return Err(NoStore::NotInstantiated);
     };
-    let guest = watched(alloc, relay, watches_all);
+    let guest = MaybeJournaled::new(alloc, relay, keeps_events);
+    let guest = watched(alloc, guest, watches_all);
     let id = StoreId::from_u64(STORE);
+    let host = HostState::new(alloc, host);
     let Ok(core) = Core::new(alloc, id, host, guest, memory, component, handles, fuel) else {
         return Err(NoStore::OutOfMemory);
     };
@@ -130,17 +135,13 @@ fn instantiated<E: Channel + Drop>(
 }
 
 /// A guest whose answers of `realloc` are tested.
-fn watched<E: Channel + Drop>(
-    alloc: Global,
-    relay: Relay<E>,
-    watches_all: bool,
-) -> Watched<Relay<E>>
-    ensures { result ≡ record { guest = relay; whole = watches_all; held = []; live = []; marks = []; shortages = 0 } }
+fn watched<G: Drop>(alloc: Global, guest: G, watches_all: bool) -> Watched<G>
+    ensures { result ≡ record { guest = guest; whole = watches_all; held = []; live = []; marks = []; shortages = 0 } }
 {
     if watches_all {
-        Watched::new(alloc, relay)
+        Watched::new(alloc, guest)
     } else {
-        Watched::lawful_only(alloc, relay)
+        Watched::lawful_only(alloc, guest)
     }
 }
 

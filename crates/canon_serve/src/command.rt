@@ -17,17 +17,31 @@ pub enum Command {
     /// Ends the session.
     End,
     /// Begins it with the component of this JSON. Where all memory is watched, it is also tested which answers of `realloc` are tidy.
-    Begin { watches_all: bool, json: Vec<u8> },
+    Begin {
+        watches_all: bool,
+        keeps_events: bool,
+        json: Vec<u8>,
+    },
     /// Calls an export with the parameters of this image.
-    Call { export: u64, params: Vec<u8> },
+    Call {
+        export: u64,
+        params: Vec<u8>,
+    },
     /// Asks how many handles live.
     Live,
     /// Asks for the marks of the answers of `realloc` since the last such command.
     Marks,
     /// Drops the resource of this number.
-    Drop { number: u64 },
+    Drop {
+        number: u64,
+    },
     /// Makes a resource of the host, of the type of this number and with this representation.
-    New { ty: u64, rep: u64 },
+    New {
+        ty: u64,
+        rep: u64,
+    },
+    /// Asks for the events of the guest since the last such command.
+    Events,
     /// Is none of these.
     Unknown,
 }
@@ -65,6 +79,7 @@ fn command_of(what: u64, operand: u64, second: u64, bytes: Vec<u8>) -> Command
         0 => Command::End,
         1 => Command::Begin {
             watches_all: operand == 1,
+            keeps_events: second == 1,
             json: bytes,
         },
         2 => Command::Call {
@@ -78,6 +93,7 @@ fn command_of(what: u64, operand: u64, second: u64, bytes: Vec<u8>) -> Command
             ty: operand,
             rep: second,
         },
+        7 => Command::Events,
         _ => Command::Unknown,
     }
 }

@@ -3,12 +3,13 @@
 ghost use Rattle.std.specs.Prelude.{◌≡◌, IfOk, Ok};
 ghost use Rattle.canon_types.specs.Table.{HasTuple, shape_of};
 ghost use Rattle.canon_image_parts.specs.Written.{IsListedImage};
+ghost use Rattle.canon_serve.specs.Asks.{ListsValues};
 ghost use Rattle.canon_serve.specs.Images.{IsReadRow};
 
-use canon_image::{ImageError, image, image_with_resources, read_image, read_numbered_image};
+use canon_image::{ImageError, image_with_resources, read_numbered_image};
 use canon_literals::copies_of;
 use canon_resources::ResourceAny;
-use canon_types::{ComponentTypes, InterfaceType, TypeTupleIndex};
+use canon_types::{ComponentTypes, InterfaceType, OutOfMemory, TypeTupleIndex};
 use canon_value::Val;
 use std::alloc::Global;
 
@@ -30,40 +31,23 @@ pub(crate) fn read_numbered_values(
     }
 }
 
-/// The values of types without handles whose images stand in a row.
-pub(crate) fn read_values(
-    alloc: Global,
-    types: &ComponentTypes,
-    tuple: TypeTupleIndex,
-    bytes: &[u8],
-) -> Result<Vec<Val>, ImageError>
-    requires { HasTuple types.now tuple }
-{
-    match read_image(alloc, types, &InterfaceType::Tuple(tuple), bytes) {
-        Ok(Val::Tuple(values)) => Ok(values),
-        Ok(_) => Err(ImageError::OutOfMemory),
-        Err(error) => Err(error),
-    }
-}
-
-/// The images of copies of values in a row, of types without handles.
+/// The images of copies of values in a row, whose resources are added to the list.
 pub(crate) fn image_copies(
     alloc: Global,
     types: &ComponentTypes,
     tuple: TypeTupleIndex,
     values: &[Val],
-) -> Result<Vec<u8>, ImageError>
+    list: &mut Vec<ResourceAny>,
+) -> Result<Vec<u8>, OutOfMemory>
     requires { HasTuple types.now tuple }
+    ensures { IfOk result (λ bytes. ListsValues (shape_of types.now (InterfaceType.Tuple tuple)) values.now list.old.items list.new.items bytes.items) }
 {
-    let Ok(copies) = copies_of(alloc, values) else {
-        return Err(ImageError::OutOfMemory);
-    };
-    image(
-        alloc,
-        types,
-        &InterfaceType::Tuple(tuple),
-        &Val::Tuple(copies),
-    )
+    let copies = copies_of(alloc, values)?;
+    match image_values(alloc, types, tuple, copies, list) {
+        Ok(bytes) => Ok(bytes),
+        // The values are of their types.
+        Err(_) => Err(OutOfMemory),
+    }
 }
 
 /// The images of values in a row, whose resources are added to the list.

@@ -7,6 +7,7 @@ mod asking;
 mod begin;
 mod command;
 mod errors;
+mod hosting;
 mod images;
 mod imports;
 mod resources;
@@ -15,6 +16,7 @@ mod session;
 
 pub use answer::{Answer, Senseless};
 pub use command::Command;
+pub use hosting::HostState;
 pub use imports::ChannelImports;
 pub use serving::{End, serve};
 pub use session::{EngineStore, carry_out};

@@ -2,7 +2,7 @@
 
 ghost use Rattle.std.specs.Prelude.{◌≡◌, ◌≤◌, ◌<◌, ◌^◌, ◌⊎◌, IfOk, Ok, OnErr, Result, slice_get};
 ghost use Rattle.canon_ledger.specs.Index.{GivenIndex};
-ghost use Rattle.canon_serve.specs.Carries.{DropsHandle, DropsListed, InsertsHandle, IsMade, MakesNew, NewShort, TellsDrop, session};
+ghost use Rattle.canon_serve.specs.Carries.{DropsHandle, DropsListed, InsertsHandle, IsMade, MakesNew, NewShort, TellsDrop, both_logs, session};
 
 use crate::answer::{Answer, Senseless};
 use crate::session::EngineStore;
@@ -21,7 +21,7 @@ pub(crate) fn drop_listed<E: Channel, H: Channel>(
     list: &Vec<ResourceAny>,
     number: u64,
 ) -> Answer
-    ensures { DropsListed E.log (session store.old list.now.items) (session store.new list.now.items) result (slice_get list.now.items number) }
+    ensures { DropsListed (both_logs E.log H.log) (session store.old list.now.items) (session store.new list.now.items) result (slice_get list.now.items number) }
 {
     match list.get(number as usize) {
         Some(resource) => drop_resource(alloc, store, *resource),
@@ -35,7 +35,7 @@ fn drop_resource<E: Channel, H: Channel>(
     store: &mut EngineStore<E, H>,
     resource: ResourceAny,
 ) -> Answer
-    ensures { (ended : Result (Unit {0}) Error) × DropsHandle E.log resource store.old store.new ended × TellsDrop ended result }
+    ensures { (ended : Result (Unit {0}) Error) × DropsHandle (both_logs E.log H.log) resource store.old store.new ended × TellsDrop ended result }
 {
     match release(store, resource) {
         Ok(()) => Answer::Done(Vec::new(alloc)),
@@ -47,7 +47,7 @@ fn release<E: Channel, H: Channel>(
     store: &mut EngineStore<E, H>,
     resource: ResourceAny,
 ) -> Result<(), Error>
-    ensures { DropsHandle E.log resource store.old store.new result }
+    ensures { DropsHandle (both_logs E.log H.log) resource store.old store.new result }
 {
     resource_drop(resource, store)
 }
@@ -60,8 +60,8 @@ pub(crate) fn new_resource<E: Channel, H: Channel>(
     ty: u64,
     rep: u64,
 ) -> Result<Answer, OutOfMemory>
-    ensures made { IfOk result (λ answer. MakesNew E.log ty rep (session store.old list.old.items) (session store.new list.new.items) answer) }
-    ensures short { OnErr result (NewShort E.log rep (session store.old list.old.items) (session store.new list.new.items)) }
+    ensures made { IfOk result (λ answer. MakesNew (both_logs E.log H.log) ty rep (session store.old list.old.items) (session store.new list.new.items) answer) }
+    ensures short { OnErr result (NewShort (both_logs E.log H.log) ty rep (session store.old list.old.items) (session store.new list.new.items)) }
 {
     if ty > 0xffff_ffff {
         return Ok(Answer::Senseless(Senseless::TooWide));
@@ -80,8 +80,8 @@ fn make_resource<E: Channel, H: Channel>(
     ty: u32,
     rep: u32,
 ) -> Result<Answer, OutOfMemory>
-    ensures made { IfOk result (λ answer. IsMade E.log ty rep (session store.old list.old.items) (session store.new list.new.items) answer) }
-    ensures short { OnErr result (NewShort E.log rep (session store.old list.old.items) (session store.new list.new.items)) }
+    ensures made { IfOk result (λ answer. IsMade (both_logs E.log H.log) ty rep (session store.old list.old.items) (session store.new list.new.items) answer) }
+    ensures short { OnErr result (NewShort (both_logs E.log H.log) ty rep (session store.old list.old.items) (session store.new list.new.items)) }
 {
     let mut bytes = Vec::new(alloc);
     put_number(&mut bytes, list.len() as u64)?;
@@ -101,7 +101,7 @@ fn insert<E: Channel, H: Channel>(
     store: &mut EngineStore<E, H>,
     rep: u32,
 ) -> Result<HostResourceIndex, ResourceFault>
-    ensures { InsertsHandle E.log rep store.old store.new result }
+    ensures { InsertsHandle (both_logs E.log H.log) rep store.old store.new result }
 {
     store.core_mut().host_resource_lower_own(rep, None, None)
 }

@@ -3,7 +3,7 @@
 ghost use Rattle.std.specs.Prelude.{◌≡◌, IfSome, IsNone};
 ghost use Rattle.canon_relay.specs.Channel.{AddsMessages};
 ghost use Rattle.canon_relay.specs.Relay.{PassesMessages};
-ghost use Rattle.canon_serve.specs.Carries.{CarriesOutCommand, session};
+ghost use Rattle.canon_serve.specs.Carries.{CarriesOutCommand, both_logs, session};
 ghost use Rattle.canon_serve.specs.Messages.{answer_messages};
 ghost use Rattle.canon_serve.specs.Sessions.{CutsCommand, EndsSession, EndsUnbegun, IsSession, ServesOne, ServesUntil, ToldOrCut, unheard_end};
 
@@ -39,17 +39,22 @@ pub fn serve<E: Channel + Drop, H: Channel + Drop, P: Channel>(
     host: H,
     caller: &mut P,
 ) -> End
-    ensures { IsSession E.log engine host (P.log caller.old) (P.log caller.new) result }
+    ensures { IsSession (both_logs E.log H.log) engine host (P.log caller.old) (P.log caller.new) result }
 {
     let command = match hear_command(alloc, caller) {
         Ok(command) => command,
         Err(why) => return unheard(why),
     };
-    let Command::Begin { watches_all, json } = command else {
+    let Command::Begin {
+        watches_all,
+        keeps_events,
+        json,
+    } = command
+    else {
         let answer = Answer::Senseless(Senseless::NoCommand);
         return end_with(alloc, caller, &answer, End::NoComponent);
     };
-    let mut store = match store_of(alloc, engine, host, watches_all, &json) {
+    let mut store = match store_of(alloc, engine, host, watches_all, keeps_events, &json) {
         Ok(store) => store,
         Err(why) => return end_unbegun(alloc, caller, why),
     };
@@ -106,7 +111,7 @@ fn serve_store<E: Channel, H: Channel, P: Channel>(
     list: &mut Vec<ResourceAny>,
     caller: &mut P,
 ) -> End
-    ensures { ServesUntil E.log (P.log caller.old) (P.log caller.new) (session store.old list.old.items) result }
+    ensures { ServesUntil (both_logs E.log H.log) (P.log caller.old) (P.log caller.new) (session store.old list.old.items) result }
 {
     for _ in 0..u64::MAX {
         if let Some(end) = serve_next(alloc, store, list, caller) {
@@ -123,8 +128,8 @@ fn serve_next<E: Channel, H: Channel, P: Channel>(
     list: &mut Vec<ResourceAny>,
     caller: &mut P,
 ) -> Option<End>
-    ensures one { IsNone result → ServesOne E.log (P.log caller.old) (P.log caller.new) (session store.old list.old.items) (session store.new list.new.items) }
-    ensures ends { IfSome result (λ why. PassesMessages (P.log caller.old) (P.log caller.new) (EndsSession E.log why (session store.old list.old.items))) }
+    ensures one { IsNone result → ServesOne (both_logs E.log H.log) (P.log caller.old) (P.log caller.new) (session store.old list.old.items) (session store.new list.new.items) }
+    ensures ends { IfSome result (λ why. PassesMessages (P.log caller.old) (P.log caller.new) (EndsSession (both_logs E.log H.log) why (session store.old list.old.items))) }
 {
     let command = match hear_command(alloc, caller) {
         Ok(command) => command,
@@ -144,8 +149,8 @@ fn serve_command<E: Channel, H: Channel, P: Channel>(
     caller: &mut P,
     command: &Command,
 ) -> Option<End>
-    ensures served { IsNone result → (a : Answer) × CarriesOutCommand E.log command.now (session store.old list.old.items) (session store.new list.new.items) a × AddsMessages (P.log caller.old) (P.log caller.new) (answer_messages a) }
-    ensures cut { IfSome result (λ why. CutsCommand E.log why command.now (session store.old list.old.items) (session store.new list.new.items) (P.log caller.old) (P.log caller.new)) }
+    ensures served { IsNone result → (a : Answer) × CarriesOutCommand (both_logs E.log H.log) command.now (session store.old list.old.items) (session store.new list.new.items) a × AddsMessages (P.log caller.old) (P.log caller.new) (answer_messages a) }
+    ensures cut { IfSome result (λ why. CutsCommand (both_logs E.log H.log) why command.now (session store.old list.old.items) (session store.new list.new.items) (P.log caller.old) (P.log caller.new)) }
 {
     match carry_out(alloc, store, list, command) {
         Ok(answer) => {

@@ -520,6 +520,158 @@ fn a_resource_that_is_gone_is_refused(rt: HostRuntime) {
     assert!(rt; gone(rt.alloc()) == Some(End::Asked));
 }
 
+/// Export 0 goes from an own handle of a resource of the host to one, and so does import 0. Import 1 takes a borrow.
+const HANDED: &str =
+    r#"{"memory": 64, "heap": 0, "turns": 2, "handles": 8, "resources": [{"kind": "dynamic", "id": 3}],
+ "types": [{"own": 0}, {"borrow": 0}], "funcs": [{"params": [0], "results": [0]}],
+ "imports": [{"params": [0], "results": [0], "answers": []}, {"params": [1], "results": [], "answers": []}]}"#;
+
+/// The engine is asked for export 0 with handle 1, lends it to import 1, and gives it to import 0.
+const HANDED_OVER: [Line; 6] = [
+    Line::Told(&[0, 0, 0, 0, 0, 64, 1, 1]),
+    LENT,
+    Line::Replies([1, 1, 0, 1, 1]),
+    Line::Told(&[1, 0, 0, 0, 0, 64, 0]),
+    LENT,
+    Line::Replies([1, 0, 0, 1, 1]),
+];
+
+/// The function of the host is lent the resource as number 1, and given it as number 2.
+const NUMBERED: [Line; 5] = [
+    Line::Told(&[6, 1, 4]),
+    Line::ToldBytes(&[1, 0, 0, 0]),
+    Line::Says(&[0, 0]),
+    Line::Told(&[6, 0, 4]),
+    Line::ToldBytes(&[2, 0, 0, 0]),
+];
+
+/// A resource is lent to a function of the host and given to another, which gives it back, and then to the caller as number 3, who drops it.
+fn handed_over(alloc: Global) -> Option<End> {
+    let back = [
+        Line::Told(&[1, 0, 0, 0, 0, 64, 1, 1]),
+        LENT,
+        Line::Replies([0, 0, 0, 1, 1]),
+    ];
+    let engine = joined(alloc, &HANDED_OVER, &back)?;
+    let answer = [Line::Says(&[0, 4]), Line::SaysBytes(&[2, 0, 0, 0])];
+    let host = joined(alloc, &NUMBERED, &answer)?;
+    let called = joined(
+        alloc,
+        &call_with(0, &[0, 0, 0, 0]),
+        &[
+            Line::Answer([7, 0, 0, 0, 0, 0, 0, 4]),
+            Line::ToldBytes(&[3, 0, 0, 0]),
+        ],
+    )?;
+    let dropped = joined(alloc, &[Line::Command([5, 3, 0, 0]), DONE], &living(ZERO))?;
+    let caller = joined(alloc, &new_number(ZERO), &called)?;
+    let caller = joined(alloc, &caller, &living(ONE))?;
+    let caller = joined(alloc, &caller, &dropped)?;
+    play_in(alloc, HANDED, &engine, &host, &caller)
+}
+
+/// The function of the host gives a number that the session has not, which is refused.
+fn handed_unknown(alloc: Global) -> Option<End> {
+    let answer = [Line::Says(&[0, 4]), Line::SaysBytes(&[3, 0, 0, 0])];
+    let host = joined(alloc, &NUMBERED, &answer)?;
+    let refused = joined(
+        alloc,
+        &call_with(0, &[0, 0, 0, 0]),
+        &[Line::Answer([7, 1, 7, 0, 0, 0, 0, 0])],
+    )?;
+    let caller = joined(alloc, &new_number(ZERO), &refused)?;
+    play_in(alloc, HANDED, &HANDED_OVER, &host, &caller)
+}
+
+#[test]
+fn a_function_of_the_host_takes_and_gives_resources(rt: HostRuntime) {
+    assert!(rt; handed_over(rt.alloc()) == Some(End::Asked));
+    assert!(rt; handed_unknown(rt.alloc()) == Some(End::Asked));
+}
+
+/// Export 0 goes from a number to a number, and import 0 too. Memory is empty, so that events have no bytes of it.
+const EMPTY: &str =
+    r#"{"memory": 0, "heap": 0, "turns": 2, "funcs": [{"params": ["u32"], "results": ["u32"]}],
+ "imports": [{"params": ["u32"], "results": ["u32"], "answers": []}]}"#;
+
+/// The engine is lent a memory of no bytes.
+const LENT_NONE: Line = Line::Lent {
+    len: 0,
+    found: (0, &[]),
+    written: (0, &[]),
+};
+
+/// The caller asks for the events.
+const EVENTS: Line = Line::Command([7, 0, 0, 0]);
+
+/// The engine is instantiated. Export 0 asks for import 0 with 5, is answered with 6, and returns 9; the next time it traps.
+const ASKED_THEN_TRAPPED: [Line; 12] = [
+    Line::Told(&[5, 0, 0, 0, 0, 0, 0]),
+    LENT_NONE,
+    Line::Replies([0, 0, 0, 0, 0]),
+    Line::Told(&[0, 0, 0, 0, 0, 0, 1, 7]),
+    LENT_NONE,
+    Line::Replies([1, 0, 0, 1, 5]),
+    Line::Told(&[1, 0, 0, 0, 0, 0, 1, 6]),
+    LENT_NONE,
+    Line::Replies([0, 0, 0, 1, 9]),
+    Line::Told(&[0, 0, 0, 0, 0, 0, 1, 7]),
+    LENT_NONE,
+    Line::Replies([2, 0, 0, 0, 0]),
+];
+
+/// The start, the ask, the resume and the return of the first call, by 8 numbers and a word each.
+const ASKED_EVENTS: &[u64] = &[
+    0, 0, 0, 0, 0, 0, 1, 0, 7, //
+    7, 0, 0, 0, 0, 0, 1, 0, 5, //
+    1, 0, 0, 0, 0, 0, 1, 0, 6, //
+    6, 0, 0, 0, 0, 0, 1, 0, 9,
+];
+
+/// The start of the second call, and its trap.
+const TRAPPED_EVENTS: &[u64] = &[
+    0, 0, 0, 0, 0, 0, 1, 0, 7, //
+    8, 0, 0, 0, 0, 0, 0, 0,
+];
+
+/// How a session ends that keeps events: those of a call are told once, and then those of the next.
+fn events_told(alloc: Global) -> Option<End> {
+    let host = [
+        Line::Told(&[6, 0, 4]),
+        Line::ToldBytes(&[5, 0, 0, 0]),
+        Line::Says(&[0, 4]),
+        Line::SaysBytes(&[6, 0, 0, 0]),
+    ];
+    let [call, number] = NUMBER;
+    let caller = [
+        Line::Command([1, 0, 1, EMPTY.len() as u64]),
+        Line::SaysBytes(EMPTY.as_bytes()),
+        DONE,
+        EVENTS, // there are none yet
+        DONE,
+        call,
+        number,
+        Line::Answer([7, 0, 0, 0, 0, 0, 0, 4]),
+        Line::ToldBytes(&[9, 0, 0, 0]),
+        EVENTS,
+        Line::Answer([7, 0, 0, 0, 0, 0, 0, 288]),
+        Line::Told(ASKED_EVENTS),
+        call,
+        number,
+        Line::Answer([7, 1, 22, 0, 0, 0, 0, 0]),
+        EVENTS,
+        Line::Answer([7, 0, 0, 0, 0, 0, 0, 136]),
+        Line::Told(TRAPPED_EVENTS),
+        END,
+    ];
+    run(alloc, &ASKED_THEN_TRAPPED, &host, &caller)
+}
+
+#[test]
+fn events_are_told_once(rt: HostRuntime) {
+    assert!(rt; events_told(rt.alloc()) == Some(End::Asked));
+}
+
 /// Of these commands nothing is done, so that the engine isn't asked, and the session goes on.
 fn senseless(alloc: Global) -> Option<End> {
     let caller = [
@@ -543,7 +695,9 @@ fn senseless(alloc: Global) -> Option<End> {
         Line::Answer([7, 2, 7, 0, 0, 0, 0, 0]),
         Line::Command([6, 0, 1 << 32, 0]), // and so has a representation
         Line::Answer([7, 2, 7, 0, 0, 0, 0, 0]),
-        Line::Command([7, 0, 0, 0]), // there is no such command
+        Line::Command([7, 0, 0, 0]), // no events are kept
+        Line::Answer([7, 2, 8, 0, 0, 0, 0, 0]),
+        Line::Command([8, 0, 0, 0]), // there is no such command
         Line::Answer([7, 2, 1, 0, 0, 0, 0, 0]),
     ];
     play(alloc, &[], &[], &caller)

@@ -21,6 +21,8 @@ pub struct Component {
     pub handles: u64,
     /// Whether answers of `realloc` are tested against all of memory, which takes time (`docs/GUEST.md`).
     pub watched: bool,
+    /// Whether events are kept for `Store::events`: each start, ask, resume and return takes a copy of memory.
+    pub keeps_events: bool,
 }
 
 impl Default for Component {
@@ -34,6 +36,7 @@ impl Default for Component {
             turns: 1_000_000,
             handles: 1_000_000,
             watched: false,
+            keeps_events: false,
         }
     }
 }
@@ -223,6 +226,7 @@ mod tests {
             turns: 3,
             handles: 4,
             watched: false,
+            keeps_events: false,
         };
         // The forms are those of examples/README.md, "Types".
         assert_eq!(

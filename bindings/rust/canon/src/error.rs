@@ -16,6 +16,8 @@ pub enum Error {
     NoResource,
     /// The bytes are no component.
     NoComponent,
+    /// The store keeps no events.
+    NoEvents,
     /// The command makes no sense here.
     NoCommand,
     /// The image of the parameters, or the component, has more than 16,777,216 bytes.
@@ -150,6 +152,7 @@ impl fmt::Display for Error {
             Error::NoImage(at) => write!(f, "senseless, no image of the parameters @{at}"),
             Error::NoResource => f.write_str("senseless, no such resource"),
             Error::NoComponent => f.write_str("senseless, no component"),
+            Error::NoEvents => f.write_str("senseless, no events are kept"),
             Error::NoCommand => f.write_str("senseless, no such command"),
             Error::TooLong => f.write_str("senseless, too many bytes"),
             Error::Image(why) => why.fmt(f),

@@ -4,6 +4,7 @@ use crate::channel::{run, Answer, Command, Session, MAX_BYTES};
 use crate::component::Component;
 use crate::engine::{Engine, Host};
 use crate::error::{Error, Refusal};
+use crate::event::{events_of, Event};
 use crate::types::Function;
 use crate::value::{image, read_image, Resource, Value};
 use std::sync::mpsc::{channel, Receiver, Sender};
@@ -18,6 +19,7 @@ const LIVE: u64 = 3;
 const MARKS: u64 = 4;
 const DROP: u64 = 5;
 const NEW: u64 = 6;
+const EVENTS: u64 = 7;
 
 /// What the library found of an answer of `realloc`.
 #[derive(Clone, Copy, Debug, PartialEq, Eq)]
@@ -50,6 +52,7 @@ fn bytes_of(answer: Option<Answer>) -> Result<Vec<u8>, Error> {
             3 => Error::NoImage(place),
             4 => Error::NoResource,
             5 => Error::NoComponent,
+            8 => Error::NoEvents,
             _ => Error::NoCommand,
         }),
     }
@@ -59,7 +62,7 @@ fn begin(component: &Component) -> Command {
     Command {
         what: BEGIN,
         operand: u64::from(component.watched),
-        second: 0,
+        second: u64::from(component.keeps_events),
         bytes: component.json().into_bytes(),
     }
 }
@@ -192,6 +195,11 @@ impl Store {
         Ok(marks_of(&self.carry_out(asks(MARKS, 0, Vec::new()))?))
     }
 
+    /// The events since this was asked last, where the component has them kept.
+    pub fn events(&mut self) -> Result<Vec<Event>, Error> {
+        events_of(&self.carry_out(asks(EVENTS, 0, Vec::new()))?)
+    }
+
     /// Makes a resource of the host, of the type of this number and with this representation.
     pub fn new_resource(&mut self, ty: u32, rep: u32) -> Result<Resource, Error> {
         resource_of(&self.carry_out(makes(ty, rep))?)
@@ -225,6 +233,7 @@ pub enum Do {
     /// A resource of the host, of the type of this number and with this representation.
     NewResource(u32, u32),
     DropResource(Resource),
+    Events,
 }
 
 /// What came of it.
@@ -238,6 +247,7 @@ pub enum Done {
     Marks(Vec<Mark>),
     MadeResource(Resource),
     DroppedResource,
+    Events(Vec<Event>),
 }
 
 /// The command for what is asked for, or why there is none.
@@ -252,6 +262,7 @@ fn command_of(component: &Component, asked: &Do) -> Result<Command, Error> {
         Do::Marks => asks(MARKS, 0, Vec::new()),
         Do::NewResource(ty, rep) => makes(*ty, *rep),
         Do::DropResource(resource) => asks(DROP, resource.0, Vec::new()),
+        Do::Events => asks(EVENTS, 0, Vec::new()),
     })
 }
 
@@ -266,6 +277,7 @@ fn done_of(component: &Component, asked: Option<&Do>, bytes: Vec<u8>) -> Result<
         Some(Do::Marks) => Done::Marks(marks_of(&bytes)),
         Some(Do::NewResource(..)) => Done::MadeResource(resource_of(&bytes)?),
         Some(Do::DropResource(_)) => Done::DroppedResource,
+        Some(Do::Events) => Done::Events(events_of(&bytes)?),
     })
 }
 

@@ -150,6 +150,46 @@ fn an_import_is_served() {
 }
 
 #[test]
+fn events_are_told_once_where_they_are_kept() {
+    let kept = Component {
+        memory: 1024,
+        keeps_events: true,
+        ..component(Type::U32)
+    };
+    let host = |_: u32, params: Vec<Value>| Ok(params);
+    let engine = Mirror {
+        top: 0,
+        lie: Lie::Asks,
+    };
+    let mut keeping = Store::new(kept, engine, host).unwrap();
+    assert_eq!(keeping.events(), Ok(vec![]));
+    assert_eq!(keeping.call(0, &[Value::U32(9)]), Ok(vec![Value::U32(9)]));
+    let (words, memory) = (vec![9], vec![0; 1024]);
+    let start = Event::Start {
+        func: 0,
+        words: words.clone(),
+        memory: memory.clone(),
+    };
+    let ask = Event::Ask {
+        import: 0,
+        words: words.clone(),
+        memory: memory.clone(),
+    };
+    let resume = Event::Resume {
+        words: words.clone(),
+        memory: memory.clone(),
+    };
+    let end = Event::Return { words, memory };
+    assert_eq!(keeping.events(), Ok(vec![start, ask, resume, end]));
+    assert_eq!(keeping.events(), Ok(vec![]));
+
+    assert_eq!(
+        store(Type::U32, Lie::None).unwrap().events(),
+        Err(Error::NoEvents)
+    );
+}
+
+#[test]
 fn a_host_refuses() {
     let host = |_: u32, _: Vec<Value>| Err(Refused);
     let mut store = Store::new(

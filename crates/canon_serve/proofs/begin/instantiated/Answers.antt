@@ -9,6 +9,7 @@ returns-in-Ok g c =
     let after = c.instantiate.new in
     record {
       passed = subst (λ e. PassesMessages (log e) (log after.self.channel) (RepliesDone demand.Instantiate [] c.args.memory.bytes after.memory.bytes)) (ap (λ r. r.channel) c.new-relay.ensures) c.in-Ok.ensures.relays;
+      longer = c.in-Ok.ensures.longer;
       counts = c.in-Ok.ensures.counts ∙ ap (λ r. r.counts) c.new-relay.ensures;
       width = c.in-Ok.ensures.width;
     }

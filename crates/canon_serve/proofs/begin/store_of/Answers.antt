@@ -22,5 +22,5 @@ returns-clause-begun g c = record {
   relay = c.in-Some.relay;
   memory = c.in-Some.memory;
   instantiated = search rules;
-  is = simp (c.new-4.ensures, c.in-Ok-new-2.ensures, c.new-3.ensures, c.watched-guest.ensures, c.from_u64-id.ensures);
+  is = simp (c.new-4.ensures, c.in-Ok-new-2.ensures, c.new-3.ensures, c.watched-guest.ensures, c.new-guest.ensures, c.new-host.ensures, c.from_u64-id.ensures);
 }

@@ -1,10 +1,10 @@
 use Rattle.canon_serve.proofs.Sessions.{cut_ends, goes_on_after, served_one}
-use Rattle.canon_serve.specs.Carries.{session}
+use Rattle.canon_serve.specs.Carries.{both_logs, session}
 use Rattle.canon_serve.proofs.serving.serve_next.Goals as goal
 
 pub returns : goal.returns
 returns g c =
-    let log = g.E.Channel.log in
+    let log = both_logs g.E.Channel.log g.H.Channel.log in
     let told = g.P.Channel.log in
     let heard = c.in-Ok.ensures.heard in
     let goes_on = goes_on_after c.in-Ok.command c.in_default.not-End in

@@ -1,0 +1,84 @@
+-- Recordings of calls that `Func::call` made. The law is proved as the contract of a function in src/laws.rt.
+use Rattle.std.specs.Prelude.{List, None, Ok, Option, [], length, slice_get, ℕ, ⊤, ◌<◌, ◌∷◌, ◌≡◌}
+use Rattle.canon_model.specs.Flat.{AreWords}
+use Rattle.canon_model.specs.Memory.{Block}
+use Rattle.canon_model.specs.Shape.{of_places, product}
+use Rattle.canon_memory.specs.declared.event.Event.{Event}
+use Rattle.canon_memory.specs.declared.event.Event.TheVariants as event
+use Rattle.canon_memory.specs.Guest.{GuestIn, Seen}
+use Rattle.canon_memory.specs.Realloc.{call}
+use Rattle.canon_memory.specs.Watch.{relisted}
+use Rattle.canon_context.specs.Component.{IsComponent}
+use Rattle.canon_context.specs.declared.component.Component.{Component}
+use Rattle.canon_host.specs.HostSide.{Giving, LoggedEntry}
+use Rattle.canon_func.specs.Call.{call_refusal}
+use Rattle.canon_func.specs.Called.{CallOf}
+use Rattle.canon_func.specs.Runs.{Each, OnStart, asks_in}
+use Rattle.canon_func.specs.Stores.{Named, StoreView, callee_of, type_in}
+use Rattle.canon_recording.specs.Fits.{FitsComponent, IsRecordable}
+use Rattle.canon_recording.specs.Recordings.{RecordedCall, exports_of}
+use Rattle.canon_replay_guest.specs.Lawful.{IsLawfulAnswer}
+use Rattle.canon_replay_guest.specs.Replaying.{start_length}
+use Rattle.canon_replay.specs.Calls.{IsReplayed, results_shape_in}
+use Rattle.canon_replay.specs.declared.outcome.Outcome.{Outcome}
+use Rattle.canon_replay.specs.declared.outcome.Outcome.TheVariants as outcome
+
+-- The shape of the tuple of each function's results is that of its members, as in every table that was built.
+abbrev pub HasResultTuples : Component → Type 0
+HasResultTuples c = (n : ℕ) → n < length c.exports.items → results_shape_in c.types.types (type_in c (slice_get c.exports.items n)) ≡ product of_places ((exports_of c).results n)
+
+-- no call of an import is recorded
+abbrev pub AskForNothing : List RecordedCall → Type 0
+AskForNothing [] = ⊤
+AskForNothing (call ∷ calls) = (asks_in call.events ≡ 0) × AskForNothing calls
+
+-- Each answer of `realloc` before the start is lawful in a memory of so many bytes, where these blocks live before them.
+abbrev pub AreLawfulAnswers : List Block → ℕ → List Event → Type 0
+AreLawfulAnswers live len (event.Realloc old old_size align new_size answer ∷ events) =
+    IsLawfulAnswer live len (call old old_size align new_size) answer × AreLawfulAnswers (relisted live (call old old_size align new_size) answer) len events
+AreLawfulAnswers live len _ = ⊤
+
+-- the same of each call, in a memory as long as the one in which it was started, and where no block lives before it
+abbrev pub HaveLawfulAnswers : List RecordedCall → Type 0
+HaveLawfulAnswers [] = ⊤
+HaveLawfulAnswers (made ∷ calls) = AreLawfulAnswers [] (start_length made.events 0) made.events × HaveLawfulAnswers calls
+
+-- it isn't told that a call differs
+abbrev pub IsNoDifference : Outcome → Type 0
+IsNoDifference (outcome.Differs k place) = ⊥
+IsNoDifference _ = ⊤
+
+-- Of a guest and of imports these are what the traits' ghost members say, as in the contract of `Func::call` (`CallOf`).
+module _ {T G I P : Type 0} (seen : G → Seen) (moves : GuestIn G → List Event → GuestIn G → Type 0) (leaves : List ℕ → List ℕ → Type 0)
+    (plan : I → P) (gives : P → Giving T) (log : I → Option (List LoggedEntry)) (refusals : I → ℕ) where
+  -- `Func::call` of the recorded export was called with the recorded parameters, in a store of this component, with this fuel and this limit of
+  -- turns, and with so many slots for results. It answered Ok with the recorded results, and its guest added the recorded events; the words of the
+  -- start have 64 bits.
+  pub record IsFaithfulCall (c : Component) (fuel turns : ℕ) (call : RecordedCall) : Type 0 where
+    pub before : StoreView T G I
+    pub after : StoreView T G I
+    pub func : Named
+    pub slots : ℕ
+    pub component : before.core.component ≡ c
+    pub fuel_is : before.core.fuel ≡ fuel
+    pub turns_is : before.turns ≡ turns
+    pub export : func.export ≡ call.export
+    pub entered : call_refusal (callee_of before func) (length call.params) slots before.trapped ≡ None
+    pub calls : CallOf seen moves leaves plan gives log refusals before func call.params (Ok tt) call.results after
+    pub events : calls.events ≡ call.events
+    pub words : Each (OnStart (λ words memory. AreWords words)) call.events
+
+  -- each call was made so, in whichever store
+  abbrev pub AreFaithful : Component → ℕ → ℕ → List RecordedCall → Type 0
+  AreFaithful c fuel turns [] = ⊤
+  AreFaithful c fuel turns (call ∷ calls) = IsFaithfulCall c fuel turns call × AreFaithful c fuel turns calls
+
+  -- Where such calls asked for no import, `replay` with this fuel and this limit of turns doesn't answer `Differs`.
+  abbrev pub RecordedNeverDiffer : Type 0
+  RecordedNeverDiffer = (c : Component) (calls : List RecordedCall) (fuel turns : ℕ) (o : Outcome) → IsComponent c → IsRecordable c → HasResultTuples c → FitsComponent c calls
+      → AreFaithful c fuel turns calls → AskForNothing calls → IsReplayed c calls fuel turns (Ok o) → IsNoDifference o
+
+  -- Where also the recorded answers before each start are lawful, it answers `Same`.
+  abbrev pub RecordedAreSame : Type 0
+  RecordedAreSame = (c : Component) (calls : List RecordedCall) (fuel turns : ℕ) (o : Outcome) → IsComponent c → IsRecordable c → HasResultTuples c → FitsComponent c calls
+      → AreFaithful c fuel turns calls → AskForNothing calls → HaveLawfulAnswers calls → IsReplayed c calls fuel turns (Ok o) → o ≡ outcome.Same
