@@ -1,5 +1,5 @@
 -- A call of a function that reaches no handle, which asks for no import, is accepted by the ledger; and the marks of a guest that replays are lawful.
-use Rattle.std.proofs.Common.{Bool, List, None, Ok, Option, Result, Some, [], ap, arith, false, flat_map, length, length-append, map, refl, subst, sym, true, ℕ, ◌++◌, ◌+◌, ◌-◌, ◌∙◌, ◌∷◌, ◌≡◌}
+use Rattle.std.proofs.Common.{Bool, List, None, Ok, Option, Some, [], ap, arith, flat_map, length, length-append, refl, subst, sym, ℕ, ◌++◌, ◌+◌, ◌-◌, ◌∙◌, ◌∷◌, ◌≡◌}
 use Rattle.std.proofs.Math.Seq.{get_or-append_seam}
 use Rattle.std.proofs.lemmas.Bool.{lt-ltb, ne_eqb}
 use Rattle.std.specs.Prelude.{if◌then◌else◌, not, ⊤, ◌==◌}
@@ -10,8 +10,7 @@ use Rattle.canon_model.specs.Leaves.{Leaf}
 use Rattle.canon_handles.specs.Step.{refuse_if}
 use Rattle.canon_ledger.specs.Handles as handles
 use Rattle.canon_ledger.specs.Handles.{Handles, OpenScope, StepAnswer, exit_scope, give_back, no_scope, opened, scope_at, top_scope, with_scope}
-use Rattle.canon_ledger.specs.Ledger.{Done, LedgerState, enter, plainly}
-use Rattle.canon_ledger.specs.declared.fault.ResourceFault.{ResourceFault}
+use Rattle.canon_ledger.specs.Ledger.{LedgerState, enter, plainly}
 use Rattle.canon_ledger.specs.declared.fault.ResourceFault.TheVariants as fault
 use Rattle.canon_lowering.specs.Lowering.{AllLawful, Answer, SaysLawful, marks_of}
 use Rattle.canon_resources.specs.Held.{Any}

@@ -1,17 +1,16 @@
 -- A call with the parameters of a recorded call that asked for no import, beside that call: it asks for the same, and where it follows the recorded
 -- events to their end it answers the same.
-use Rattle.std.proofs.Common.{Err, List, None, Ok, Option, Result, Some, [], ap, append_assoc, arith, false, inl, inr, length, map, refl, subst, subst₂, sym, take, true, ℕ, ◌+◌, ◌++◌, ◌<◌, ◌∙◌, ◌∷◌, ◌≡◌, ◌≤◌, ◌⊎◌}
+use Rattle.std.proofs.Common.{Err, List, None, Ok, Option, Result, Some, [], ap, append_assoc, arith, false, inl, inr, length, map, refl, subst, subst₂, sym, take, ℕ, ◌+◌, ◌++◌, ◌∙◌, ◌∷◌, ◌≡◌, ◌≤◌, ◌⊎◌}
 use Rattle.std.specs.Prelude.{IfErr, IfOk, IsOkUnless, OnOk, slice_get}
-use Rattle.canon_model.specs.Flat.{AreWords, max_params}
+use Rattle.canon_model.specs.Flat.{AreWords}
 use Rattle.canon_model.specs.Homes.{AnyPointer, ParamsHome, host_texts}
 use Rattle.canon_model.specs.Memory.{Block}
 use Rattle.canon_model.specs.Requests.{Request, host_asks, params_requests}
 use Rattle.canon_model.specs.Shape.{Shape, of_places, product}
-use Rattle.canon_model.specs.Tree.{Trees}
 use Rattle.canon_memory.specs.declared.event.Event.{Event}
 use Rattle.canon_memory.specs.declared.event.Event.TheVariants as event
-use Rattle.canon_memory.specs.Guest.{Mark, Moment}
-use Rattle.canon_ledger.specs.Ledger.{LedgerState, enter}
+use Rattle.canon_memory.specs.Guest.{Moment}
+use Rattle.canon_ledger.specs.Ledger.{enter}
 use Rattle.canon_lowering.specs.Lowering.{AllLawful, Answer, addresses_of, events_of, marks_of}
 use Rattle.canon_lowering.specs.Storing.{narrow}
 use Rattle.canon_plan.specs.NoHandle.{HaveNoHandle}
@@ -24,13 +23,12 @@ use Rattle.canon_value_parts.proofs.OneValue.{trees_one}
 use Rattle.canon_value_parts.proofs.PassesOf.{no_row_passes}
 use Rattle.canon_value_parts.proofs.WordSteps.{have_fit}
 use Rattle.canon_value_parts.specs.Lifts.{AreResults}
-use Rattle.canon_value_parts.specs.Resources.{all_passes}
 use Rattle.canon_host.specs.HostSide.{Giving, HostSide}
-use Rattle.canon_func.specs.Asks.{AcceptsAsk, AreServed, Limits, allowed}
+use Rattle.canon_func.specs.Asks.{AreServed, Limits, allowed}
 use Rattle.canon_func.specs.Call.{Accepts, AcceptsLater, Cause, IsCallOf, IsStart, MetFirst, dynamic, dynamic_results, param_parts, returned_leaves, with_results}
 use Rattle.canon_func.specs.HostAsks.{IsUnrefused}
 use Rattle.canon_func.specs.Passing.{Arguments, ReturnedValues}
-use Rattle.canon_func.specs.Runs.{AskTurn, BeginsInAsk, Each, IsOneRun, Leg, MayStart, OnAsk, OnReturn, OnStart, StartsCall, answers_in, asks_in, events_in, last_len, posts as post_events}
+use Rattle.canon_func.specs.Runs.{AskTurn, BeginsInAsk, Each, IsOneRun, Leg, MayStart, OnAsk, OnReturn, OnStart, StartsCall, answers_in, events_in, last_len, posts as post_events}
 use Rattle.canon_func.specs.Stores.{Callee}
 use Rattle.canon_func.specs.declared.error.Error.{Error}
 use Rattle.canon_func.specs.declared.error.Error.TheVariants as error
@@ -39,9 +37,9 @@ use Rattle.canon_replay_guest.specs.Moves.{GuestRequest, HasWords, TellsRequest,
 use Rattle.canon_replay_guest.specs.Passing.{AreAlike}
 use Rattle.canon_replay_guest.specs.declared.stop.Stop.TheVariants as stop
 use Rattle.canon_recording.proofs.Rows.{take_all}
-use Rattle.canon_replay.proofs.Accepting.{LawfulMarks, LiftsFrom, lawful_by_marks, marks_behind, returns_accepted}
+use Rattle.canon_replay.proofs.Accepting.{LawfulMarks, lawful_by_marks, marks_behind, returns_accepted}
 use Rattle.canon_replay.proofs.Agreeing.{Agrees, agrees_more, agrees_none, other_refuted}
-use Rattle.canon_replay.proofs.Behind.{IsNoAsk, IsNoTrap, RunsBehind, behind_start, posts_trap_nothing, recorded_end, turns_agree}
+use Rattle.canon_replay.proofs.Behind.{IsNoAsk, IsNoTrap, RunsBehind, behind_start, recorded_end, turns_agree}
 use Rattle.canon_replay.specs.Calls.{HaveOtherImages}
 use Rattle.canon_replay.proofs.Following.{Completes, calm_alike, each_alike, each_behind, each_take, ends_calm, none_counted, quiet_alike, return_back, run_completes}
 use Rattle.canon_replay.proofs.Homes.{start_words_same}

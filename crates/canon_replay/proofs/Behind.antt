@@ -1,5 +1,5 @@
 -- What a run's events are behind its start: what may be told there agrees with what was recorded of a run that asked for no import.
-use Rattle.std.proofs.Common.{List, None, Option, Some, [], ap, inl, inr, refl, subst, sym, ℕ, ◌++◌, ◌∷◌, ◌∙◌, ◌≡◌, ◌≤◌, ◌⊎◌}
+use Rattle.std.proofs.Common.{List, None, Option, Some, [], ap, inl, inr, subst, sym, ℕ, ◌++◌, ◌∷◌, ◌∙◌, ◌≡◌, ◌⊎◌}
 use Rattle.std.specs.Prelude.{⊤}
 use Rattle.canon_memory.specs.declared.event.Event.{Event}
 use Rattle.canon_memory.specs.declared.event.Event.TheVariants as event
@@ -9,7 +9,6 @@ use Rattle.canon_func.specs.Runs.{AskTurn, Each, EndsAsking, IsNoRequest, IsOneR
 use Rattle.canon_recording.specs.Stages.{RunsOn}
 use Rattle.canon_recording.proofs.Staging.{answers_run}
 use Rattle.canon_replay_guest.specs.Following.{IsOfRequest}
-use Rattle.canon_replay_guest.specs.Moves.{GuestRequest, HasWords, TellsRequest}
 use Rattle.canon_replay_guest.specs.Passing.{IsAlike}
 use Rattle.canon_replay.proofs.Agreeing.{Agrees, agrees_more, agrees_none, agrees_past, no_request_of_ask, no_request_of_return, no_request_of_trap, post_told, same_head, same_tail, some_there}
 

@@ -1,7 +1,7 @@
 -- What became of a call, by how far the guest followed what is recorded of it.
-use Rattle.std.proofs.Common.{Bool, Err, List, None, Ok, Option, Result, Some, [], ap, arith, false, inl, inr, length, refl, subst, suc, sym, take, true, ℕ, ◌+◌, ◌&&◌, ◌<◌, ◌∙◌, ◌≡◌, ◌≢◌, ◌≤◌, ◌⊎◌}
+use Rattle.std.proofs.Common.{Bool, Err, List, None, Ok, Option, Result, Some, ap, arith, false, inl, inr, length, refl, subst, sym, take, true, ℕ, ◌&&◌, ◌<◌, ◌∙◌, ◌≡◌, ◌≢◌, ◌≤◌, ◌⊎◌}
 use Rattle.std.proofs.lemmas.Bool.{eq-eqb, eqb-true, false≢true, leb-false, leb-true, ne_eqb}
-use Rattle.std.specs.Prelude.{IsSome, if◌then◌else◌, nat_eq, nat_le}
+use Rattle.std.specs.Prelude.{if◌then◌else◌, nat_eq, nat_le}
 use Rattle.canon_memory.specs.declared.event.Event.{Event}
 use Rattle.canon_val.specs.declared.val.Val.{Val}
 use Rattle.canon_func.specs.Call.{OnAnswered}
@@ -17,7 +17,6 @@ use Rattle.canon_recording.proofs.Rows.{take_all}
 use Rattle.canon_replay.specs.Calls.{AnswersOtherwise, Departs, IsNotEntered, IsNotShort, LeavesAt, MadeCall, WasMadeAgain}
 use Rattle.canon_replay.specs.Outcomes.{has_passed, is_going, is_unlawful, outcome_at, place_in_call}
 use Rattle.canon_replay.specs.Stores.{ReplayStore, guest_in_store}
-use Rattle.canon_replay.specs.declared.outcome.Outcome.{Outcome}
 use Rattle.canon_replay.specs.declared.outcome.Outcome.TheVariants as outcome
 use Rattle.canon_replay.proofs.Places.{IsPlaceIn, leaves_there, place_after, place_before, place_there, take_there}
 

@@ -3,7 +3,7 @@ use Rattle.std.proofs.Common.{All, Bool, Err, List, None, Ok, Option, Result, So
 use Rattle.std.proofs.lemmas.Bool.{eq-eqb}
 use Rattle.std.proofs.lemmas.List.Elements.{All-head, All-tail}
 use Rattle.std.specs.Prelude.{IfSome, IsSome, slice_get, not, ◌&&◌, ◌==◌, ◌≢◌}
-use Rattle.canon_model.specs.Shape.{member_count, of_places, product}
+use Rattle.canon_model.specs.Shape.{member_count}
 use Rattle.canon_memory.specs.declared.event.Event.{Event}
 use Rattle.canon_memory.specs.declared.event.Event.TheVariants as event
 use Rattle.canon_memory.specs.Guest.{GuestIn, Seen}
@@ -15,7 +15,6 @@ use Rattle.canon_context.specs.Component.{IsComponent, IsInside}
 use Rattle.canon_context.specs.Core.{Parts, guest_of, moment_of}
 use Rattle.canon_context.specs.declared.component.Component.{Component}
 use Rattle.canon_context.specs.declared.component.Export.{Export}
-use Rattle.canon_context.specs.declared.fault.Fault.TheVariants as fault
 use Rattle.canon_plan.specs.NoHandle.{HaveNoHandle}
 use Rattle.canon_val.specs.declared.val.Val.{Val}
 use Rattle.canon_host.specs.HostSide.{Giving, LoggedEntry, host_side}
@@ -33,7 +32,7 @@ use Rattle.canon_replay_guest.specs.Passing.{AreAlike}
 use Rattle.canon_replay_guest.specs.Replaying.{Replaying, passed_events}
 use Rattle.canon_replay_guest.specs.declared.stop.Stop.TheVariants as stop
 use Rattle.canon_replay.specs.Calls.{AnswersOtherwise, CallDiffers, CallReplayed, DepartsAt, EndsOtherwise, IsNotEntered, IsNotShort, MadeCall, LeavesAt, ReplaysFrom, WasMadeAgain, made_call_of, events_of_call, replay_host, results_shape_in}
-use Rattle.canon_replay.specs.Faithful.{AskForNothing, HasResultTuples, HaveLawfulAnswers, IsNoDifference, RecordedAreSame, RecordedNeverDiffer, IsFaithfulCall, AreFaithful}
+use Rattle.canon_replay.specs.Faithful.{AskForNothing, HaveLawfulAnswers, IsNoDifference, RecordedAreSame, RecordedNeverDiffer, IsFaithfulCall, AreFaithful}
 use Rattle.canon_replay.specs.Imports.{GivesNext}
 use Rattle.canon_replay.specs.Stores.{JournaledReplays, ReplayStore, asks_in_store, guest_in_store, journaled_seen, named_export}
 use Rattle.canon_replay.specs.declared.outcome.Outcome.{Outcome}
@@ -144,7 +143,6 @@ module _ (c : Component) (call : RecordedCall) (before : ReplayStore) (component
       (subst (λ (x : Callee). call_refusal x (length call.params) others before.trapped ≡ None) again_callee_is (enters (callee_of_call c call) (length call.params) slots others trapped before.trapped entered count untrapped)) refused
 
   module _ (plain_params : HaveNoHandle (callee_of_call c call).params) (plain_results : HaveNoHandle (callee_of_call c call).results) (quiet : Each IsNoAsk call.events) (calm : Each IsNoTrap call.events)
-      (tuple : results_shape_in before.core.component.types.types (type_in before.core.component (slice_get before.core.component.exports.items call.export)) ≡ product of_places again_callee.results)
       (place : ℕ) (after : ReplayStore) (results : List Val) (events : List Event) where
     plain : HaveNoHandle again_callee.params
     plain = subst (λ (x : Callee). HaveNoHandle x.params) again_callee_is plain_params
@@ -160,7 +158,7 @@ module _ (c : Component) (call : RecordedCall) (before : ReplayStore) (component
         (GivesNext (asks_in_store before)) (moment_of journaled_seen before.core) (moment_of journaled_seen after.core) (replay_host before) (replay_host after) (Ok x) results events made.is (marks_lawful (passed_events (guest_in_store after)))
         quiet calm place alike refl in
         omega (arith, less, all)
-    ends_so (Ok x) made short alike (inr other) =
+    ends_so (Ok x) made short alike (inr (other, tuple)) =
         same_results again_callee before.core.fuel before.turns call.params call.results call.events again_run plain (LivesUntil {U = Unit {0}} journaled_seen JournaledReplays (guest_of before.core) (guest_of after.core) (Ok x)) (λ m k. k ≡ m)
         (GivesNext (asks_in_store before)) (moment_of journaled_seen before.core) (moment_of journaled_seen after.core) (replay_host before) (replay_host after) (Ok x) results events made.is (marks_lawful (passed_events (guest_in_store after)))
         quiet calm place alike refl (results_shape_in before.core.component.types.types (type_in before.core.component (slice_get before.core.component.exports.items call.export))) tuple other
@@ -174,7 +172,7 @@ module _ (c : Component) (call : RecordedCall) (before : ReplayStore) (component
 -- ---- all calls
 
 module _ {T G I P : Type 0} (seen : G → Seen) (moves : GuestIn G → List Event → GuestIn G → Type 0) (leaves : List ℕ → List ℕ → Type 0)
-    (plan : I → P) (gives : P → Giving T) (log : I → Option (List LoggedEntry)) (refusals : I → ℕ) (c : Component) (fuel turns : ℕ) (sound : IsComponent c) (recordable : IsRecordable c) (tuples : HasResultTuples c) where
+    (plan : I → P) (gives : P → Giving T) (log : I → Option (List LoggedEntry)) (refusals : I → ℕ) (c : Component) (fuel turns : ℕ) (sound : IsComponent c) (recordable : IsRecordable c) where
   -- The store is of the component, has the fuel, and no call was refused.
   record IsGoing (store : ReplayStore) : Type 0 where
     component : store.core.component ≡ c
@@ -198,11 +196,6 @@ module _ {T G I P : Type 0} (seen : G → Seen) (moves : GuestIn G → List Even
       run : QuietRun (callee_of_call c call) before.core.fuel call.params call.results call.events
       run = subst (λ (k : ℕ). QuietRun (callee_of_call c call) k call.params call.results call.events) (sym going.fuel_is) (recorded_run seen moves leaves plan gives log refusals c fuel turns call w plain.1 quiet)
 
-      tuple : results_shape_in before.core.component.types.types (type_in before.core.component (slice_get before.core.component.exports.items call.export))
-          ≡ product of_places (callee_in before.core.component (slice_get before.core.component.exports.items call.export)).results
-      tuple = subst (λ (x : Component). results_shape_in x.types.types (type_in x (slice_get x.exports.items call.export)) ≡ product of_places (callee_in x (slice_get x.exports.items call.export)).results)
-          (sym going.component) (tuples call.export fits.its.known)
-
       quiet_all : Each IsNoAsk call.events
       quiet_all = none_asked call.events quiet
 
@@ -213,9 +206,9 @@ module _ {T G I P : Type 0} (seen : G → Seen) (moves : GuestIn G → List Even
           ⊎ DepartsAt (λ after results result events. LeavesAt stop.Differs place (made_call_of call) before after events ⊎ EndsOtherwise place (made_call_of call) before results result events) (made_call_of call) before)
       by (inl (first, out)) = is_entered c call before going.component going.untrapped run w.slots w.before.trapped sound fits.its.known (recorded_entered seen moves leaves plan gives log refusals c fuel turns call w) out
       by (inr (after, result, results, events, made, short, inl l)) =
-          leaves_so c call before going.component going.untrapped run plain.0 plain.1 quiet_all calm_all tuple place after results events result made le l
+          leaves_so c call before going.component going.untrapped run plain.0 plain.1 quiet_all calm_all place after results events result made le l
       by (inr (after, result, results, events, made, short, inr (alike, otherwise))) =
-          ends_so c call before going.component going.untrapped run plain.0 plain.1 quiet_all calm_all tuple place after results events result made short alike otherwise
+          ends_so c call before going.component going.untrapped run plain.0 plain.1 quiet_all calm_all place after results events result made short alike otherwise
 
   never_differ_from : (k : ℕ) (calls : List RecordedCall) (store : ReplayStore) (o : Outcome) → IsGoing store → All (IsRecordedCallOf (exports_of c) (imports_of c)) calls → AreFaithful seen moves leaves plan gives log refusals c fuel turns calls
       → AskForNothing calls → ReplaysFrom k (map made_call_of calls) store o → IsNoDifference o
@@ -249,14 +242,14 @@ module _ {T G I P : Type 0} (seen : G → Seen) (moves : GuestIn G → List Even
 
 pub recorded_never_differ : {T G I P : Type 0} (seen : G → Seen) (moves : GuestIn G → List Event → GuestIn G → Type 0) (leaves : List ℕ → List ℕ → Type 0)
     (plan : I → P) (gives : P → Giving T) (log : I → Option (List LoggedEntry)) (refusals : I → ℕ) → RecordedNeverDiffer seen moves leaves plan gives log refusals
-recorded_never_differ seen moves leaves plan gives log refusals c calls fuel turns o sound recordable tuples fits were quiet (store, new, replays) =
-    never_differ_from seen moves leaves plan gives log refusals c fuel turns sound recordable tuples 0 calls store o
+recorded_never_differ seen moves leaves plan gives log refusals c calls fuel turns o sound recordable fits were quiet (store, new, replays) =
+    never_differ_from seen moves leaves plan gives log refusals c fuel turns sound recordable 0 calls store o
     (record { component = new.component; fuel_is = new.fuel_is; untrapped = new.untrapped }) fits.are were quiet replays
 
 pub recorded_are_same : {T G I P : Type 0} (seen : G → Seen) (moves : GuestIn G → List Event → GuestIn G → Type 0) (leaves : List ℕ → List ℕ → Type 0)
     (plan : I → P) (gives : P → Giving T) (log : I → Option (List LoggedEntry)) (refusals : I → ℕ) → RecordedAreSame seen moves leaves plan gives log refusals
-recorded_are_same seen moves leaves plan gives log refusals c calls fuel turns o sound recordable tuples fits were quiet law (store, new, replays) =
-    same_from seen moves leaves plan gives log refusals c fuel turns sound recordable tuples 0 calls store o
+recorded_are_same seen moves leaves plan gives log refusals c calls fuel turns o sound recordable fits were quiet law (store, new, replays) =
+    same_from seen moves leaves plan gives log refusals c fuel turns sound recordable 0 calls store o
     (record { component = new.component; fuel_is = new.fuel_is; untrapped = new.untrapped })
     (record {
       going = ap (λ (g : Replaying). g.stop) new.guest;

@@ -1,5 +1,5 @@
 -- Of events that are alike recorded ones: what holds of each of these holds of them; and a whole run is alike no front of another.
-use Rattle.std.proofs.Common.{List, None, Option, Some, [], arith, length, refl, subst, suc, sym, take, zero, ℕ, ◌+◌, ◌++◌, ◌∷◌, ◌≡◌, ◌≤◌}
+use Rattle.std.proofs.Common.{List, None, Option, Some, [], arith, length, refl, subst, suc, sym, take, zero, ℕ, ◌++◌, ◌∷◌, ◌≡◌, ◌≤◌}
 use Rattle.canon_memory.specs.declared.event.Event.{Event}
 use Rattle.canon_memory.specs.declared.event.Event.TheVariants as event
 use Rattle.canon_memory.specs.Journal.{answer_event}

@@ -1,18 +1,14 @@
 -- How long memory is after the calls of a guest that replays, and that it goes on where none of them trapped.
-use Rattle.std.proofs.Common.{List, None, Option, Some, [], ap, arith, flat_map, inl, inr, length, refl, subst, suc, sym, ℕ, ◌+◌, ◌++◌, ◌<◌, ◌∙◌, ◌∷◌, ◌≡◌, ◌≢◌, ◌≤◌}
+use Rattle.std.proofs.Common.{List, None, Some, [], ap, arith, flat_map, inl, inr, length, subst, sym, ℕ, ◌++◌, ◌<◌, ◌∙◌, ◌∷◌, ◌≡◌, ◌≢◌, ◌≤◌}
 use Rattle.std.proofs.lemmas.Bool.{eq-eqb}
 use Rattle.std.specs.Prelude.{Bool, if◌then◌else◌}
 use Rattle.canon_model.specs.Requests.{Call}
 use Rattle.canon_memory.specs.declared.event.Event.{Event}
 use Rattle.canon_memory.specs.declared.event.Event.TheVariants as event
-use Rattle.canon_memory.specs.declared.guest.Step.{Step}
-use Rattle.canon_memory.specs.declared.guest.Step.TheVariants as step
-use Rattle.canon_memory.specs.Journal.{step_event, trap_event}
 use Rattle.canon_func.specs.Runs.{Each}
 use Rattle.canon_replay_guest.specs.Following.{IsBefore, IsOfRequest}
-use Rattle.canon_replay_guest.specs.Moves.{BeginsRequest, Chain, GuestRequest, Replays, RequestOutcome, answered, destroys, ended, from_length, outcome_events, posts, reallocates, request_told, resumes, starts, stepped, to_length, trap_told, trapped}
+use Rattle.canon_replay_guest.specs.Moves.{BeginsRequest, Chain, GuestRequest, Replays, RequestOutcome, answered, destroys, ended, from_length, outcome_events, posts, reallocates, resumes, starts, stepped, to_length, trap_told, trapped}
 use Rattle.canon_replay_guest.specs.Replaying.{IsOpened, Replaying, call_events, events_now, start_length, stopped_for, wanted_length}
-use Rattle.canon_replay_guest.specs.declared.stop.Stop.{Stop}
 use Rattle.canon_replay_guest.specs.declared.stop.Stop.TheVariants as stop
 use Rattle.canon_replay_guest.proofs.Following.{opens, stays_stopped}
 use Rattle.canon_replay_guest.proofs.Passing.{opened_kept}

@@ -1,11 +1,10 @@
 -- Trees that differ only in how long their texts are spelled have the same homes, so that the same values start with the same words.
-use Rattle.std.proofs.Common.{Bool, List, [], ap, arith, ext_get_or, false, length, refl, subst, suc, sym, true, zero, ℕ, ◌+◌, ◌∙◌, ◌∷◌, ◌≡◌, ◌≤◌}
+use Rattle.std.proofs.Common.{Bool, List, [], ap, arith, ext_get_or, false, length, refl, subst, suc, sym, zero, ℕ, ◌+◌, ◌∙◌, ◌≡◌}
 use Rattle.std.proofs.lemmas.Bool.{false≢true}
 use Rattle.std.specs.Prelude.{IsTrue, if◌then◌else◌, nat_le, slice_index}
 use Rattle.canon_model.proofs.Determined.{params_same, text_length_same}
-use Rattle.canon_model.proofs.Images.{carried_itself}
 use Rattle.canon_model.specs.Fits.{MembersFit}
-use Rattle.canon_model.specs.Flat.{AreWords, SameWords, max_params}
+use Rattle.canon_model.specs.Flat.{AreWords, max_params}
 use Rattle.canon_model.specs.Homes.{AnyPointer, AreFlagWords, CaseFlatHome, CaseHome, EachHome, FlatHomes, Homes, IsScalarWord, IsTextHome, IsTextLength, MembersFlatHome, MembersHome, ParamsHome, Texts, host_texts}
 use Rattle.canon_model.specs.Layout.{begins, cases_flat, ends, flat, members_flat, payload_offset, size}
 use Rattle.canon_model.specs.Requests.{host_asks, text_requests}

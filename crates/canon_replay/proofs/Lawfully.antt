@@ -1,5 +1,5 @@
 -- Recorded answers that are lawful are lawful where they are given again.
-use Rattle.std.proofs.Common.{List, None, Option, Some, [], ap, arith, length, refl, slice_get, subst, suc, sym, take, zero, ℕ, ◌+◌, ◌++◌, ◌<◌, ◌∙◌, ◌∷◌, ◌≡◌, ◌≤◌}
+use Rattle.std.proofs.Common.{List, None, Option, Some, [], ap, arith, length, refl, slice_get, subst, suc, sym, take, zero, ℕ, ◌++◌, ◌∙◌, ◌∷◌, ◌≡◌, ◌≤◌}
 use Rattle.canon_model.specs.Memory.{Block}
 use Rattle.canon_model.specs.Requests.{Call}
 use Rattle.canon_memory.specs.declared.event.Event.{Event}
@@ -9,12 +9,11 @@ use Rattle.canon_memory.specs.Realloc.{call}
 use Rattle.canon_memory.specs.Watch.{live_after, live_along, relisted}
 use Rattle.canon_lowering.specs.Lowering.{Answer, events_of}
 use Rattle.canon_func.specs.Runs.{posts}
-use Rattle.canon_replay_guest.specs.Following.{IsOfRequest, Leaves}
+use Rattle.canon_replay_guest.specs.Following.{IsOfRequest}
 use Rattle.canon_replay_guest.specs.Lawful.{IsLawfulAnswer}
 use Rattle.canon_replay_guest.specs.Moves.{reallocates}
 use Rattle.canon_replay_guest.specs.Passing.{AreAlike, IsAlike}
 use Rattle.canon_replay_guest.specs.Replaying.{start_length}
-use Rattle.canon_replay_guest.specs.declared.stop.Stop.TheVariants as stop
 use Rattle.canon_replay.specs.Faithful.{AreLawfulAnswers}
 use Rattle.canon_replay.proofs.Agreeing.{none_there, same_head, same_tail}
 

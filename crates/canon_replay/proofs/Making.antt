@@ -1,12 +1,12 @@
 -- What became of one call, by what calling its function did.
-use Rattle.std.proofs.Common.{Bool, Err, List, None, Ok, Option, Result, Some, [], ap, arith, drop, false, inl, inr, length, refl, subst, subst₂, suc, sym, take, true, ℕ, ◌++◌, ◌+◌, ◌<◌, ◌^◌, ◌∙◌, ◌∷◌, ◌≡◌, ◌≢◌, ◌≤◌, ◌⊎◌}
+use Rattle.std.proofs.Common.{Bool, Err, List, None, Ok, Option, Result, Some, [], ap, arith, drop, false, inl, inr, length, refl, subst, subst₂, sym, take, true, ℕ, ◌++◌, ◌<◌, ◌^◌, ◌∙◌, ◌∷◌, ◌≡◌, ◌≢◌, ◌≤◌, ◌⊎◌}
 use Rattle.std.proofs.Math.Seq.{take-append_seam}
 use Rattle.std.specs.Prelude.{Vec, IfOk, IfSome, IsNone, IsSome, not, slice_get, ◌&&◌, ◌==◌}
 use Rattle.canon_types.specs.Table.{types_of}
 use Rattle.canon_memory.specs.Guest.{Recorded, of_guest}
 use Rattle.canon_memory.specs.declared.event.Event.{Event}
 use Rattle.canon_replay_guest.specs.Fitting.{CanReplayFrom}
-use Rattle.canon_replay_guest.specs.Following.{Follows, IsBefore, Overruns, TrapsInCall}
+use Rattle.canon_replay_guest.specs.Following.{Follows, Overruns, TrapsInCall}
 use Rattle.canon_replay_guest.specs.Replaying.{Replaying, call_events}
 use Rattle.canon_replay_guest.specs.declared.stop.Stop.TheVariants as stop
 use Rattle.canon_replay_guest.proofs.Fitting.{never_unfit}
@@ -25,7 +25,7 @@ use Rattle.canon_recording_parts.specs.declared.error.ReplayError.{ReplayError}
 use Rattle.canon_recording.specs.Recordings.{served_asks}
 use Rattle.canon_recording.specs.declared.recording.Served.{Served}
 use Rattle.std.specs.declared.alloc.Global.{Global}
-use Rattle.canon_replay.specs.Calls.{AnswersOtherwise, CallReplayed, Departs, EndsOk, HaveOneImage, HaveOtherImages, IsNotShort, IsReady, MadeCall, MakesAgain, WasMadeAgain, made_again, results_shape_in, results_shape_of}
+use Rattle.canon_replay.specs.Calls.{AnswersOtherwise, Departs, EndsOk, HaveOneImage, HaveOtherImages, IsNotShort, IsResultTuple, IsReady, MadeCall, MakesAgain, WasMadeAgain, made_again, results_shape_in}
 use Rattle.canon_replay.specs.Made.{CallsAgain}
 use Rattle.canon_replay.specs.Outcomes.{has_passed, outcome_at, place_in_call}
 use Rattle.canon_replay.specs.Stores.{JournaledReplays, ReplayStore, guest_in_store, named_export}
@@ -117,10 +117,13 @@ module _ (k : ℕ) (a : Again) (before after : ReplayStore) (ready : IsReady k b
         (departs k call before after (Ok tt) results adding.events refl kept made ok_answered (fits adding.events moves).0 (λ f. otherwise adding.events kept f why) (follows adding.events moves))
       where
         otherwise : (events : List Event) → h.recorded ≡ g.recorded → Follows k g h events
-            → (has_passed k h ≡ false) ⊎ HaveOtherImages (results_shape_in (component_types after.core) (type_of after (named_export before a.export))) results a.results.items
+            → (has_passed k h ≡ false) ⊎ (HaveOtherImages (results_shape_in (component_types after.core) (type_of after (named_export before a.export))) results a.results.items × IsResultTuple after.core.component a.export)
             → AnswersOtherwise (place_in_call k h) call before results (Ok tt)
         otherwise events kept f (inl lacks) = inl (not_all k call before after (Ok tt) results events refl kept some lacks f)
-        otherwise events kept f (inr other) = inr (subst (λ (c : Component). HaveOtherImages (results_shape_in c.types.types (type_in c (slice_get c.exports.items a.export))) results a.results.items) same other)
+        otherwise events kept f (inr (other, tuple)) = inr (
+          subst (λ (c : Component). HaveOtherImages (results_shape_in c.types.types (type_in c (slice_get c.exports.items a.export))) results a.results.items) same other,
+          subst (λ (c : Component). IsResultTuple c a.export) same tuple,
+        )
 
     pub after_err : (e : Error) → ¬ (e ≡ error.Fault fault.OutOfMemory) → IfSome (type_of before (named_export before a.export)) (λ t. slots ≡ length (types_of (component_types before.core) t.results))
         → CallsAgain (named_export before a.export) a.params.items slots before after (Err e) results → Departs k call before (outcome_at k h)

@@ -1,20 +1,20 @@
 -- Where a guest is in a call, by what it followed.
-use Rattle.std.proofs.Common.{Bool, List, None, Option, Some, [], ap, arith, false, inl, inr, length, refl, subst, suc, sym, take, true, ℕ, ◌+◌, ◌&&◌, ◌<◌, ◌∙◌, ◌∷◌, ◌≡◌, ◌≤◌, ◌⊎◌}
-use Rattle.std.proofs.lemmas.Bool.{eq-eqb, eqb-true, le-ltb, leb-true, lt-ltb, ltb-false, ltb-true, ne_eqb}
+use Rattle.std.proofs.Common.{Bool, List, Option, [], ap, arith, false, inl, inr, length, refl, subst, suc, sym, take, true, ℕ, ◌<◌, ◌∙◌, ◌∷◌, ◌≡◌, ◌≤◌, ◌⊎◌}
+use Rattle.std.proofs.lemmas.Bool.{eq-eqb, le-ltb, lt-ltb, ltb-false, ltb-true, ne_eqb}
 use Rattle.std.proofs.lemmas.Option.{slice_get_past}
-use Rattle.std.specs.Prelude.{if◌then◌else◌, nat_eq, nat_le, nat_lt, slice_get}
+use Rattle.std.specs.Prelude.{nat_lt}
 use Rattle.canon_model.specs.Memory.{Block}
 use Rattle.canon_memory.specs.declared.event.Event.{Event}
 use Rattle.canon_memory.specs.Guest.{GuestIn}
 use Rattle.canon_memory.specs.Watch.{live_along}
 use Rattle.canon_replay_guest.specs.Following.{IsLeftBy, Leaves}
 use Rattle.canon_replay_guest.specs.Moves.{Chain, ReplayMoves, Replays, RequestOutcome, answered, ended, stepped, to_length, trapped}
-use Rattle.canon_replay_guest.specs.Passing.{AreAlike, IsAlike}
+use Rattle.canon_replay_guest.specs.Passing.{AreAlike}
 use Rattle.canon_replay_guest.specs.Replaying.{Replaying, call_events}
 use Rattle.canon_replay_guest.specs.declared.stop.Stop.{Stop}
 use Rattle.canon_replay_guest.proofs.Passing.{does_pass, does_trap}
 use Rattle.canon_recording.proofs.Rows.{take_all}
-use Rattle.canon_replay.specs.Outcomes.{has_passed, is_going, place_in_call}
+use Rattle.canon_replay.specs.Outcomes.{place_in_call}
 
 -- ---- what is recorded stays
 

@@ -2,7 +2,6 @@
 use Rattle.std.proofs.Common.{List, None, Option, Some, [], ap, ap₂, refl, subst, subst₂, sym, ℕ, ◌++◌, ◌∙◌, ◌∷◌, ◌≡◌, ◌⊎◌, inl, inr}
 use Rattle.canon_model.specs.Requests.{Call, Request, call_of}
 use Rattle.canon_memory.specs.declared.event.Event.{Event}
-use Rattle.canon_memory.specs.declared.event.Event.TheVariants as event
 use Rattle.canon_memory.specs.Journal.{answer_event, asked_trap}
 use Rattle.canon_memory.specs.Realloc.{call}
 use Rattle.canon_lowering.specs.Lowering.{Answer, Meets, Trap, addresses_of, events_of}

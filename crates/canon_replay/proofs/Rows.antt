@@ -1,5 +1,5 @@
 -- All calls of a recording.
-use Rattle.std.proofs.Common.{All, List, None, Option, Some, [], ap, ap₂, arith, drop, length, map, refl, subst, suc, sym, zero, ℕ, ◌+◌, ◌++◌, ◌<◌, ◌^◌, ◌∙◌, ◌∷◌, ◌≡◌}
+use Rattle.std.proofs.Common.{All, List, Option, Some, [], ap, ap₂, arith, drop, length, map, refl, subst, suc, sym, zero, ℕ, ◌+◌, ◌++◌, ◌<◌, ◌∙◌, ◌∷◌, ◌≡◌}
 use Rattle.std.proofs.lemmas.List.Elements.{All-cons, All-head, All-nil, All-tail}
 use Rattle.std.specs.Prelude.{slice_get}
 use Rattle.canon_memory.specs.declared.event.Event.{Event}
@@ -9,8 +9,8 @@ use Rattle.canon_context.specs.declared.component.Component.{Component}
 use Rattle.canon_func.specs.Runs.{IsOneRun, events_in, last_len, posts}
 use Rattle.canon_recording.proofs.Rows.{map_length}
 use Rattle.canon_recording.specs.Fits.{AreRuns, IsRecordedCallOf}
-use Rattle.canon_recording.specs.Recordings.{Functions, RecordedCall, exports_of, imports_of}
-use Rattle.canon_replay.specs.Calls.{HasEvents, MadeCall, all_made, made_call_of, events_of_call, made_again, told_again, told_call}
+use Rattle.canon_recording.specs.Recordings.{RecordedCall, exports_of, imports_of}
+use Rattle.canon_replay.specs.Calls.{HasEvents, all_made, made_call_of, events_of_call, made_again, told_again, told_call}
 use Rattle.canon_replay.specs.declared.again.Again.{Again}
 
 -- ---- the calls that are made

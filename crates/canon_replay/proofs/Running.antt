@@ -1,13 +1,13 @@
 -- The events of runs have a step behind each start and each resume, and memories that can be made.
-use Rattle.std.proofs.Common.{List, None, Option, Some, [], ap, arith, false, length, map, refl, subst, sym, true, ℕ, ◌++◌, ◌^◌, ◌∙◌, ◌∷◌, ◌≡◌, ◌≤◌}
+use Rattle.std.proofs.Common.{List, None, Option, Some, [], arith, false, length, map, refl, subst, sym, true, ℕ, ◌++◌, ◌^◌, ◌∙◌, ◌∷◌, ◌≡◌, ◌≤◌}
 use Rattle.canon_memory.specs.declared.event.Event.{Event}
 use Rattle.canon_memory.specs.declared.event.Event.TheVariants as event
 use Rattle.canon_lowering.specs.Lowering.{Answer, events_of}
 use Rattle.canon_context.specs.declared.component.Component.{Component}
 use Rattle.canon_func.specs.Runs.{AskTurn, Each, Grows, IsOneRun, IsRealloc, events_in, last_len, posts}
-use Rattle.canon_replay_guest.specs.Fitting.{BeginsCall, CanReplay, CanReplayAll, StepsFollow, stepped_length}
-use Rattle.canon_replay_guest.specs.Replaying.{CanGrow, start_length}
-use Rattle.canon_recording.specs.Fits.{AreRuns, IsRunFrom, callee_of_call}
+use Rattle.canon_replay_guest.specs.Fitting.{CanReplay, CanReplayAll, StepsFollow, stepped_length}
+use Rattle.canon_replay_guest.specs.Replaying.{start_length}
+use Rattle.canon_recording.specs.Fits.{AreRuns, callee_of_call}
 use Rattle.canon_recording.specs.Recordings.{RecordedCall}
 use Rattle.canon_replay.specs.Calls.{events_of_call}
 

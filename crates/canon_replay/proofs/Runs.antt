@@ -1,5 +1,5 @@
 -- What is known of a recorded call that asked for no import: its events, and what its parameters and its results are.
-use Rattle.std.proofs.Common.{List, None, Ok, Option, [], ap, arith, false, inl, inr, length, refl, subst, sym, true, ℕ, ◌+◌, ◌++◌, ◌∙◌, ◌∷◌, ◌≡◌, ◌⊎◌}
+use Rattle.std.proofs.Common.{List, None, Ok, Option, [], ap, arith, false, inl, inr, length, refl, subst, sym, true, ℕ, ◌++◌, ◌∙◌, ◌∷◌, ◌≡◌}
 use Rattle.canon_model.specs.Flat.{AreWords, max_params}
 use Rattle.canon_model.specs.Homes.{AnyPointer, ParamsHome, host_texts}
 use Rattle.canon_model.specs.Leaves.{Leaf}

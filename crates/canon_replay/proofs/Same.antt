@@ -1,23 +1,20 @@
 -- What a call that was replayed tells of what was recorded.
-use Rattle.std.proofs.Common.{List, None, Option, Some, [], ap, append_assoc, false, inl, inr, refl, subst, sym, ℕ, ◌+◌, ◌++◌, ◌∙◌, ◌∷◌, ◌≡◌, ◌⊎◌}
+use Rattle.std.proofs.Common.{List, None, Option, [], ap, false, inl, inr, refl, subst, sym, ℕ, ◌+◌, ◌++◌, ◌∙◌, ◌∷◌, ◌≡◌}
 use Rattle.canon_model.specs.Requests.{host_asks, params_requests}
 use Rattle.canon_model.specs.Tree.{Trees}
 use Rattle.canon_memory.specs.declared.event.Event.{Event}
 use Rattle.canon_memory.specs.declared.event.Event.TheVariants as event
 use Rattle.canon_memory.specs.Journal.{answer_event}
 use Rattle.canon_lowering.specs.Lowering.{Answer, Meets, Trap, events_of}
-use Rattle.canon_lowering.specs.Storing.{narrow}
 use Rattle.canon_val.specs.Value.{HaveTrees}
-use Rattle.canon_value_parts.specs.Lifts.{AreResults}
 use Rattle.canon_func.specs.Call.{MetFirst}
-use Rattle.canon_func.specs.Runs.{Each, IsOneRun, MayStart, OnReturn, OnStart, StartsCall, events_in}
+use Rattle.canon_func.specs.Runs.{Each, IsOneRun, MayStart, OnReturn, OnStart, events_in}
 use Rattle.canon_func.specs.Stores.{Callee, callee_of}
 use Rattle.canon_replay_guest.specs.Passing.{AreAlike, IsAlike}
 use Rattle.canon_recording.proofs.Staging.{answers_run, no_run}
-use Rattle.canon_replay.specs.Calls.{CallReplayed, MadeCall, ReplaysFrom}
-use Rattle.canon_replay.specs.Laws.{AsksForParams, EachTells, SameTellsRecorded, TellsRecorded}
+use Rattle.canon_replay.specs.Calls.{CallReplayed, MadeCall}
+use Rattle.canon_replay.specs.Laws.{AsksForParams, SameTellsRecorded, TellsRecorded}
 use Rattle.canon_replay.specs.Stores.{ReplayStore, named_export}
-use Rattle.canon_replay.specs.declared.outcome.Outcome.TheVariants as outcome
 
 -- ---- events that are alike
 

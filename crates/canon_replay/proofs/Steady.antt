@@ -1,13 +1,11 @@
 -- A guest that is before a recorded call which asked for no import: it is before the next one after the call was replayed, and a recorded answer
 -- that is lawful is lawful where it is asked for.
-use Rattle.std.proofs.Common.{List, None, Ok, Option, Some, [], ap, arith, drop, inl, inr, length, length-append, refl, subst, suc, sym, take, zero, ℕ, ◌+◌, ◌++◌, ◌<◌, ◌^◌, ◌∙◌, ◌∷◌, ◌≡◌, ◌≤◌, ◌⊎◌}
+use Rattle.std.proofs.Common.{List, None, Option, Some, [], ap, arith, drop, inl, inr, length, length-append, refl, subst, suc, sym, take, zero, ℕ, ◌+◌, ◌++◌, ◌<◌, ◌^◌, ◌∙◌, ◌∷◌, ◌≡◌, ◌≤◌, ◌⊎◌}
 use Rattle.std.proofs.lemmas.Option.{slice_get_within}
 use Rattle.std.specs.Prelude.{slice_get}
 use Rattle.canon_model.specs.Memory.{Block}
-use Rattle.canon_model.specs.Requests.{Call}
 use Rattle.canon_memory.specs.declared.event.Event.{Event}
-use Rattle.canon_memory.specs.declared.event.Event.TheVariants as event
-use Rattle.canon_memory.specs.Guest.{Recorded, of_guest}
+use Rattle.canon_memory.specs.Guest.{of_guest}
 use Rattle.canon_memory.specs.Journal.{answer_event}
 use Rattle.canon_memory.specs.Watch.{live_along}
 use Rattle.canon_lowering.specs.Lowering.{Answer, events_of}
@@ -18,14 +16,13 @@ use Rattle.canon_replay_guest.proofs.Following.{moves_follow}
 use Rattle.canon_replay_guest.specs.Fitting.{CanReplayFrom}
 use Rattle.canon_replay_guest.specs.Following.{Follows, IsBefore, IsOfRequest, IsPassedCount, Leaves, Overruns, TrapsInCall}
 use Rattle.canon_replay_guest.specs.Lawful.{IsLawfulAnswer}
-use Rattle.canon_replay_guest.specs.Moves.{ReplayMoves, reallocates}
+use Rattle.canon_replay_guest.specs.Moves.{ReplayMoves}
 use Rattle.canon_replay_guest.specs.Passing.{AreAlike}
 use Rattle.canon_replay_guest.specs.Replaying.{Replaying, call_events, events_now, or_none, start_length}
 use Rattle.canon_replay_guest.specs.declared.stop.Stop.{Stop}
 use Rattle.canon_replay_guest.specs.declared.stop.Stop.TheVariants as stop
-use Rattle.canon_replay.specs.Calls.{CallReplayed, MadeCall}
 use Rattle.canon_replay.specs.Faithful.{AreLawfulAnswers}
-use Rattle.canon_replay.specs.Stores.{JournaledReplays, ReplayStore, guest_in_store}
+use Rattle.canon_replay.specs.Stores.{ReplayStore, guest_in_store}
 use Rattle.canon_replay.proofs.Behind.{IsNoTrap}
 use Rattle.canon_replay.proofs.Following.{calm_alike, each_alike}
 use Rattle.canon_replay.proofs.Growing.{chain_goes, first_grown}

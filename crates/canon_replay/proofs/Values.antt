@@ -1,8 +1,7 @@
 -- Values that were lifted from the same trees have the same image.
-use Rattle.std.proofs.Common.{List, Ok, Vec, [], ap, refl, subst, sym, ℕ, ◌∙◌, ◌≡◌, ◌≢◌}
+use Rattle.std.proofs.Common.{List, Vec, refl, subst, sym, ◌∙◌, ◌≡◌}
 use Rattle.std.specs.declared.alloc.Global.{Global}
 use Rattle.canon_model.proofs.Images.{image_bytes}
-use Rattle.canon_model.specs.Image.{Image}
 use Rattle.canon_model.specs.Same.{Carried, CarriedTrees}
 use Rattle.canon_model.specs.Shape.{Members, Shape, of_places, product}
 use Rattle.canon_model.specs.Tree.{Tree, Trees, bits, case, case_of, code_point, handle, items, no_trees, number, parts, text, tree, truth}

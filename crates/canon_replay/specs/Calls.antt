@@ -1,7 +1,7 @@
 -- Recorded calls that are made again, one after another.
-use Rattle.std.specs.Prelude.{Bool, Err, IfSome, IsSome, List, None, Ok, Option, Result, Some, Vec, [], false, flat_map, length, map, take, true, ℕ, ⊤, ◌+◌, ◌<◌, ◌^◌, ◌∷◌, ◌≡◌, ◌≢◌, ◌≤◌, ◌⊎◌}
+use Rattle.std.specs.Prelude.{Bool, Err, IfSome, IsSome, List, None, Ok, Option, Result, Some, Vec, [], false, flat_map, length, map, slice_get, take, true, ℕ, ⊤, ◌+◌, ◌<◌, ◌^◌, ◌∷◌, ◌≡◌, ◌≢◌, ◌≤◌, ◌⊎◌}
 use Rattle.std.specs.declared.alloc.Global.{Global}
-use Rattle.canon_model.specs.Shape.{Shape}
+use Rattle.canon_model.specs.Shape.{Shape, of_places, product}
 use Rattle.canon_types.specs.Table.{TypeTable, no_shape, shape_of, types_of}
 use Rattle.canon_types.specs.declared.types.InterfaceType.TheVariants as ty
 use Rattle.canon_types.specs.declared.types.TypeFunc.{TypeFunc}
@@ -23,7 +23,7 @@ use Rattle.canon_imports.specs.Imports.{entries_of}
 use Rattle.canon_func.specs.Asks.{allowed}
 use Rattle.canon_func.specs.Call.{IsCall, LivesUntil, OnAnswered, call_refusal, entry_refusal}
 use Rattle.canon_func.specs.Steps.{SameButHost}
-use Rattle.canon_func.specs.Stores.{Named, callee_of, type_of}
+use Rattle.canon_func.specs.Stores.{Named, callee_in, callee_of, type_in, type_of}
 use Rattle.canon_func.specs.declared.error.Error.{Error}
 use Rattle.canon_func.specs.declared.error.Error.TheVariants as call_error
 use Rattle.canon_recording_parts.specs.declared.error.ReplayError.{ReplayError}
@@ -97,6 +97,10 @@ results_shape_in t (Some f) = shape_of t (ty.Tuple f.results)
 abbrev pub results_shape_of : ReplayStore → ℕ → Shape
 results_shape_of store export = results_shape_in (component_types store.core) (type_of store (named_export store export))
 
+-- the shape of a function's results is that of the tuple of them
+abbrev pub IsResultTuple : Component → ℕ → Type 0
+IsResultTuple c export = results_shape_in c.types.types (type_in c (slice_get c.exports.items export)) ≡ product of_places (callee_in c (slice_get c.exports.items export)).results
+
 -- ---- one call
 
 -- the host beside the guest
@@ -135,7 +139,7 @@ LeavesAt why place call before after events = Leaves why call.events place (gues
 -- an error; or Ok where more events are recorded, or with other results
 abbrev pub AnswersOtherwise : ℕ → MadeCall → ReplayStore → List Val → Result (Unit {0}) Error → Type 0
 AnswersOtherwise place call before results (Err e) = ⊤
-AnswersOtherwise place call before results (Ok x) = (place < length call.events) ⊎ HaveOtherImages (results_shape_of before call.export) results call.results
+AnswersOtherwise place call before results (Ok x) = (place < length call.events) ⊎ (HaveOtherImages (results_shape_of before call.export) results call.results × IsResultTuple before.core.component call.export)
 
 -- the events are alike the recorded ones up to this place, and the answer isn't the recorded one
 abbrev pub EndsOtherwise : ℕ → MadeCall → ReplayStore → List Val → Result (Unit {0}) Error → List Event → Type 0
@@ -202,7 +206,7 @@ pub record IsReady (k : ℕ) (store : ReplayStore) : Type 0 where
 abbrev pub EndsOk : ℕ → Named → ReplayStore → List Val → List Val → Option Outcome → Type 0
 EndsOk k f store results recorded None = (has_passed k (guest_in_store store) ≡ true) × HaveOneImage (results_shape_in (component_types store.core) (type_of store f)) results recorded
 EndsOk k f store results recorded (Some o) = (o ≡ outcome_at k (guest_in_store store))
-    × ((has_passed k (guest_in_store store) ≡ false) ⊎ HaveOtherImages (results_shape_in (component_types store.core) (type_of store f)) results recorded)
+    × ((has_passed k (guest_in_store store) ≡ false) ⊎ (HaveOtherImages (results_shape_in (component_types store.core) (type_of store f)) results recorded × IsResultTuple store.core.component f.export))
 
 -- Making call k answered so: nothing, where it was replayed and the store is before the next call; or how it isn't as it was recorded.
 abbrev pub MakesAgain : ℕ → MadeCall → ReplayStore → ReplayStore → Option Outcome → Type 0

@@ -1,8 +1,7 @@
 -- Recordings of calls that `Func::call` made. The law is proved as the contract of a function in src/laws.rt.
-use Rattle.std.specs.Prelude.{List, None, Ok, Option, [], length, slice_get, ℕ, ⊤, ◌<◌, ◌∷◌, ◌≡◌}
+use Rattle.std.specs.Prelude.{List, None, Ok, Option, [], length, ℕ, ⊤, ◌∷◌, ◌≡◌}
 use Rattle.canon_model.specs.Flat.{AreWords}
 use Rattle.canon_model.specs.Memory.{Block}
-use Rattle.canon_model.specs.Shape.{of_places, product}
 use Rattle.canon_memory.specs.declared.event.Event.{Event}
 use Rattle.canon_memory.specs.declared.event.Event.TheVariants as event
 use Rattle.canon_memory.specs.Guest.{GuestIn, Seen}
@@ -14,18 +13,14 @@ use Rattle.canon_host.specs.HostSide.{Giving, LoggedEntry}
 use Rattle.canon_func.specs.Call.{call_refusal}
 use Rattle.canon_func.specs.Called.{CallOf}
 use Rattle.canon_func.specs.Runs.{Each, OnStart, asks_in}
-use Rattle.canon_func.specs.Stores.{Named, StoreView, callee_of, type_in}
+use Rattle.canon_func.specs.Stores.{Named, StoreView, callee_of}
 use Rattle.canon_recording.specs.Fits.{FitsComponent, IsRecordable}
-use Rattle.canon_recording.specs.Recordings.{RecordedCall, exports_of}
+use Rattle.canon_recording.specs.Recordings.{RecordedCall}
 use Rattle.canon_replay_guest.specs.Lawful.{IsLawfulAnswer}
 use Rattle.canon_replay_guest.specs.Replaying.{start_length}
-use Rattle.canon_replay.specs.Calls.{IsReplayed, results_shape_in}
+use Rattle.canon_replay.specs.Calls.{IsReplayed}
 use Rattle.canon_replay.specs.declared.outcome.Outcome.{Outcome}
 use Rattle.canon_replay.specs.declared.outcome.Outcome.TheVariants as outcome
-
--- The shape of the tuple of each function's results is that of its members, as in every table that was built.
-abbrev pub HasResultTuples : Component → Type 0
-HasResultTuples c = (n : ℕ) → n < length c.exports.items → results_shape_in c.types.types (type_in c (slice_get c.exports.items n)) ≡ product of_places ((exports_of c).results n)
 
 -- no call of an import is recorded
 abbrev pub AskForNothing : List RecordedCall → Type 0
@@ -75,10 +70,10 @@ module _ {T G I P : Type 0} (seen : G → Seen) (moves : GuestIn G → List Even
 
   -- Where such calls asked for no import, `replay` with this fuel and this limit of turns doesn't answer `Differs`.
   abbrev pub RecordedNeverDiffer : Type 0
-  RecordedNeverDiffer = (c : Component) (calls : List RecordedCall) (fuel turns : ℕ) (o : Outcome) → IsComponent c → IsRecordable c → HasResultTuples c → FitsComponent c calls
+  RecordedNeverDiffer = (c : Component) (calls : List RecordedCall) (fuel turns : ℕ) (o : Outcome) → IsComponent c → IsRecordable c → FitsComponent c calls
       → AreFaithful c fuel turns calls → AskForNothing calls → IsReplayed c calls fuel turns (Ok o) → IsNoDifference o
 
   -- Where also the recorded answers before each start are lawful, it answers `Same`.
   abbrev pub RecordedAreSame : Type 0
-  RecordedAreSame = (c : Component) (calls : List RecordedCall) (fuel turns : ℕ) (o : Outcome) → IsComponent c → IsRecordable c → HasResultTuples c → FitsComponent c calls
+  RecordedAreSame = (c : Component) (calls : List RecordedCall) (fuel turns : ℕ) (o : Outcome) → IsComponent c → IsRecordable c → FitsComponent c calls
       → AreFaithful c fuel turns calls → AskForNothing calls → HaveLawfulAnswers calls → IsReplayed c calls fuel turns (Ok o) → o ≡ outcome.Same

@@ -7,7 +7,7 @@ ghost use Rattle.canon_context.specs.declared.fault.Fault.TheVariants as fault;
 ghost use Rattle.canon_func.specs.Stores.{IsOwned, type_of};
 ghost use Rattle.canon_func.specs.declared.error.Error.TheVariants as error;
 ghost use Rattle.canon_replay_guest.specs.Replaying.{call_events};
-ghost use Rattle.canon_replay.specs.Calls.{ComparesImages, EndsOk, IsReady, MakesAgain, made_again, results_shape_in};
+ghost use Rattle.canon_replay.specs.Calls.{ComparesImages, EndsOk, IsReady, IsResultTuple, MakesAgain, made_again, results_shape_in};
 ghost use Rattle.canon_replay.specs.Made.{CallsAgain};
 ghost use Rattle.canon_replay.specs.Outcomes.{has_passed, outcome_at};
 ghost use Rattle.canon_replay.specs.Stores.{guest_in_store};
@@ -141,10 +141,12 @@ fn have_recorded(
     results: Vec<Val>,
 ) -> Result<bool, ReplayError>
     requires owned { IsOwned store.now func.now }
-    ensures { ComparesImages (results_shape_in (component_types store.now.core) (type_of store.now func.now)) results.items recorded.items result }
+    ensures compares { ComparesImages (results_shape_in (component_types store.now.core) (type_of store.now func.now)) results.items recorded.items result }
+    ensures tuple { IsResultTuple store.now.core.component func.now.export }
 {
     let ty = func.ty(store);
     let types = store.core().component().types.types();
+    let _tuple = types.tuple(ty.results);
     have_one_image(alloc, types, ty.results, results, recorded)
 }
 

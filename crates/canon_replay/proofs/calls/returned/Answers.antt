@@ -15,14 +15,14 @@ pub returns-in-Ok-true-clause-passed : goal.returns-in-Ok-true-clause-passed
 returns-in-Ok-true-clause-passed c =
     let passed : c.has_passed_in.result ≡ true = search rules in
     ended_same c.args.k c.args.func.now c.args.store.now c.args.results.items c.args.recorded.items c.has_passed_in.new.store c.has_passed_in.ensures.same (sym c.has_passed_in.ensures.is ∙ passed)
-    (rw c.in-Ok-true.field-0-test at c.in-Ok-true.ensures)
+    (rw c.in-Ok-true.field-0-test at c.in-Ok-true.ensures.compares)
 
 pub returns-in-Ok-false-clause-passed : goal.returns-in-Ok-false-clause-passed
 returns-in-Ok-false-clause-passed c =
     ended_otherwise c.args.k c.args.func.now c.args.store.now c.args.results.items c.args.recorded.items c.has_passed_in.new.store c.has_passed_in.ensures.same c.outcome_in-in-Ok-false.result
-    (rw c.in-Ok-false.field-0-test at c.in-Ok-false.ensures) c.outcome_in-in-Ok-false.ensures.is
+    (rw c.in-Ok-false.field-0-test at c.in-Ok-false.ensures.compares) c.in-Ok-false.ensures.tuple c.outcome_in-in-Ok-false.ensures.is
 
 pub returns-in-Err-clause-short : goal.returns-in-Err-clause-short
 returns-in-Err-clause-short c =
     let mid = c.has_passed_in.new.store in
-    compares_short (results_shape_in (component_types mid.core) (type_of mid c.args.func.now)) c.args.results.items c.args.recorded.items c.in-Err.error c.in-Err.ensures
+    compares_short (results_shape_in (component_types mid.core) (type_of mid c.args.func.now)) c.args.results.items c.args.recorded.items c.in-Err.error c.in-Err.ensures.compares
