@@ -134,13 +134,12 @@ module _ {D G : Type 0} (L : GuestLaws G) (options : ℕ) (a : Parts D G) (ms : 
     }
 
 -- what was stored, said of the core before the block was asked for
-pub stored_there : {D G : Type 0} (L : GuestLaws G) (options own : ℕ) (a b c : Parts D G) (ms : Members) (p : ℕ) (Has : Tree → Type 0) (gives : Instance → Shape → List (List Part)) (z : Shape)
-    → own ≡ options → SameBut a b → z ≡ product of_places ms
-    → (r : Result (Unit {0}) Fault) → TypedStores L.seen L.moves own b c z p Has (gives b.component.types z) r → TypedStores L.seen L.moves options b c (product of_places ms) p Has (gives a.component.types (product of_places ms)) r
-stored_there L options own a b c ms p Has gives z same_options same is r h =
+pub stored_there : {D G : Type 0} (L : GuestLaws G) (options : ℕ) (a b c : Parts D G) (ms : Members) (p : ℕ) (Has : Tree → Type 0) (gives : Instance → Shape → List (List Part)) (z : Shape)
+    → SameBut a b → z ≡ product of_places ms
+    → (r : Result (Unit {0}) Fault) → TypedStores L.seen L.moves options b c z p Has (gives b.component.types z) r → TypedStores L.seen L.moves options b c (product of_places ms) p Has (gives a.component.types (product of_places ms)) r
+stored_there L options a b c ms p Has gives z same is r h =
     subst (λ (i : Instance). TypedStores L.seen L.moves options b c (product of_places ms) p Has (gives i (product of_places ms)) r) (handles_instance a b (same_handles a b same))
-    (subst (λ (s : Shape). TypedStores L.seen L.moves options b c s p Has (gives b.component.types s) r) is
-    (subst (λ (o : ℕ). TypedStores L.seen L.moves o b c z p Has (gives b.component.types z) r) same_options h))
+    (subst (λ (s : Shape). TypedStores L.seen L.moves options b c s p Has (gives b.component.types s) r) is h)
 
 -- where it wasn't done, the words say nothing
 pub other_words : {D G : Type 0} (L : GuestLaws G) (options : ℕ) (a c : Parts D G) (ms : Members) (Has : Tree → Type 0) (gives : List (List Part)) (ws vs : List ℕ) (e : Fault) → TypedParams L.seen L.moves options a c ms ws Has gives (Err e)

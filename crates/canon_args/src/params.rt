@@ -81,7 +81,7 @@ fn lower_heap_args<D, G: Guest, P: Lower>(
     ensures same_reference { cx.new.core.ghost_name ≡ cx.old.core.ghost_name }
     ensures same_options { cx.new.options ≡ cx.old.options }
 {
-    let pointer = match ask_tuple(cx, ty) {
+    let pointer = match ask_tuple(cx.core, ty) {
         Ok(pointer) => pointer,
         Err(fault) => return Err(fault),
     };

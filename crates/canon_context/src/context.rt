@@ -69,7 +69,7 @@ impl<'a, T, G: Guest> LowerContext<'a, T, G> {
     pub fn types(&self) -> &ComponentTypes
         ensures { result.now ≡ component_types self.now.core.now }
     {
-        self.core.component().types.types()
+        self.core.types()
     }
 
     /// The component's types, in their store.
@@ -243,7 +243,7 @@ impl<'a, T, G> LiftContext<'a, T, G> {
     pub fn types(&self) -> &ComponentTypes
         ensures { result.now ≡ component_types self.now.core.now }
     {
-        self.core.component().types.types()
+        self.core.types()
     }
 
     /// The component's types, in their store.

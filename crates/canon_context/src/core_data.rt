@@ -9,7 +9,7 @@ ghost use Rattle.canon_memory.specs.Realloc.{block, call};
 ghost use Rattle.canon_model.specs.Laws.{IsAlignment};
 ghost use Rattle.canon_context.specs.Component.{IsComponent};
 ghost use Rattle.canon_abi.specs.Options.{encoding_of};
-ghost use Rattle.canon_context.specs.Core.{Parts, encoding_by, guest_of, moment_of};
+ghost use Rattle.canon_context.specs.Core.{Parts, component_types, encoding_by, guest_of, moment_of};
 ghost use Rattle.canon_context.specs.declared.fault.Fault.TheVariants as fault;
 ghost use Rattle.canon_context.specs.Lowers.{answer_of, ending_of, guest_answer};
 
@@ -20,7 +20,7 @@ use crate::{Component, Fault, Lifter, Source};
 use canon_bytes::ends_inside;
 use canon_ledger::{HostResourceData, Ledger};
 use canon_memory::{Guest, GuestFault, Memory, Step, ValRaw};
-use canon_types::{OptionsIndex, OutOfMemory, StoreId, StringEncoding};
+use canon_types::{ComponentTypes, OptionsIndex, OutOfMemory, StoreId, StringEncoding};
 use std::alloc::Global;
 use std::marker::Model;
 
@@ -128,6 +128,13 @@ impl<T, G> Core<T, G> {
         ensures sound { IsComponent result.now }
     {
         &self.component
+    }
+
+    /// The component's type table.
+    pub fn types(&self) -> &ComponentTypes
+        ensures { result.now ≡ component_types self.now }
+    {
+        self.component.types.types()
     }
 
     /// How texts are spelled under the options of a number: as UTF-8 where there are none of that number.

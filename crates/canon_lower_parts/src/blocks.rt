@@ -77,5 +77,5 @@ pub fn ask_items<D, G: Guest>(
         let _memory = cx.core.memory(); // memory has at most 2^32 bytes
         return Err(Fault::SizeOverflow(count));
     };
-    ask(cx, abi.align32, bytes)
+    ask(cx.core, abi.align32, bytes)
 }

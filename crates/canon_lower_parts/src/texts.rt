@@ -24,7 +24,7 @@ fn place_text<D, G: Guest>(cx: &mut LowerContext<'_, D, G>, text: &String) -> Re
     ensures same_options { cx.new.options ≡ cx.old.options }
 {
     let _memory = cx.core.memory(); // memory has at most 2^32 bytes
-    match put_text(cx, text.as_bytes()) {
+    match put_text(cx.core, cx.options, text.as_bytes()) {
         Ok(block) => Ok(Placed {
             pointer: block.pointer,
             length: block.length,

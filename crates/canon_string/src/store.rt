@@ -11,10 +11,10 @@ ghost use Rattle.canon_text.specs.Answers.{Narrows, Widens};
 ghost use Rattle.canon_context.specs.Core.{encoding_by};
 ghost use Rattle.canon_string.specs.Texts.{FitsTo, PutsText};
 
-use canon_context::{Fault, LowerContext, ask, ask_again};
+use canon_context::{Core, Fault, ask, ask_again};
 use canon_memory::Guest;
 use canon_text::{SizePair, UTF16_TAG, utf8_to_compact_utf16, utf8_to_latin1};
-use canon_types::StringEncoding;
+use canon_types::{OptionsIndex, StringEncoding};
 
 /// Where a text stands, and its length.
 #[derive(Clone, Copy)]
@@ -31,40 +31,41 @@ const MAX_STRING_BYTES: u64 = 0x7fff_ffff;
 /// Puts the text that these bytes of UTF-8 are into a block of its own in the guest's memory, under the encoding of the options
 /// (CanonicalABI.md, "store_string_into_range"). Answers the block's address, and its length, in bytes or in units,
 /// with its tag. Refuses `StringTooLong`, with the number of these bytes, before anything is asked for; else as
-/// `LowerContext::realloc` does.
+/// `Core::realloc` does.
 pub fn put_text<T, G: Guest>(
-    cx: &mut LowerContext<'_, T, G>,
+    core: &mut Core<T, G>,
+    options: OptionsIndex,
     text: &[u8],
 ) -> Result<TextBlock, Fault>
-    requires small { length cx.old.core.now.memory ≤ 2 ^ 32 }
+    requires small { length core.old.memory ≤ 2 ^ 32 }
     requires text { IsUtf8 text.now }
-    ensures puts { PutsText G.seen G.moves cx.old.options cx.old.core.now cx.new.core.now text.now result }
-    ensures same_reference { cx.new.core.ghost_name ≡ cx.old.core.ghost_name }
-    ensures same_options { cx.new.options ≡ cx.old.options }
+    ensures puts { PutsText G.seen G.moves options core.old core.new text.now result }
 {
-    match cx.core.encoding(cx.options) {
-        StringEncoding::Utf8 => put_utf8(cx, text),
-        StringEncoding::Utf16 => put_utf16(cx, text),
-        StringEncoding::CompactUtf16 => put_compact(cx, text),
+    match core.encoding(options) {
+        StringEncoding::Utf8 => put_utf8(core, options, text),
+        StringEncoding::Utf16 => put_utf16(core, options, text),
+        StringEncoding::CompactUtf16 => put_compact(core, options, text),
     }
 }
 
 /// The same, under UTF-8 (CanonicalABI.md, "store_string_copy").
-fn put_utf8<T, G: Guest>(cx: &mut LowerContext<'_, T, G>, text: &[u8]) -> Result<TextBlock, Fault>
-    requires small { length cx.old.core.now.memory ≤ 2 ^ 32 }
+fn put_utf8<T, G: Guest>(
+    core: &mut Core<T, G>,
+    options: OptionsIndex,
+    text: &[u8],
+) -> Result<TextBlock, Fault>
+    requires small { length core.old.memory ≤ 2 ^ 32 }
     requires text { IsUtf8 text.now }
-    requires form { encoding_by cx.old.core.now cx.old.options ≡ utf8 }
-    ensures puts { PutsText G.seen G.moves cx.old.options cx.old.core.now cx.new.core.now text.now result }
-    ensures same_reference { cx.new.core.ghost_name ≡ cx.old.core.ghost_name }
-    ensures same_options { cx.new.options ≡ cx.old.options }
+    requires form { encoding_by core.old options ≡ utf8 }
+    ensures puts { PutsText G.seen G.moves options core.old core.new text.now result }
 {
     let count = text.len() as u64;
     if count > MAX_STRING_BYTES {
         return Err(Fault::StringTooLong(count));
     }
-    match ask(cx, 1, count) {
+    match ask(core, 1, count) {
         Ok(pointer) => {
-            write_bytes(cx.core.as_slice_mut(), pointer, text);
+            write_bytes(core.as_slice_mut(), pointer, text);
             Ok(TextBlock {
                 pointer,
                 length: count,
@@ -75,24 +76,26 @@ fn put_utf8<T, G: Guest>(cx: &mut LowerContext<'_, T, G>, text: &[u8]) -> Result
 }
 
 /// The same, under UTF-16, whose units are counted (CanonicalABI.md, "store_utf8_to_utf16").
-fn put_utf16<T, G: Guest>(cx: &mut LowerContext<'_, T, G>, text: &[u8]) -> Result<TextBlock, Fault>
-    requires small { length cx.old.core.now.memory ≤ 2 ^ 32 }
+fn put_utf16<T, G: Guest>(
+    core: &mut Core<T, G>,
+    options: OptionsIndex,
+    text: &[u8],
+) -> Result<TextBlock, Fault>
+    requires small { length core.old.memory ≤ 2 ^ 32 }
     requires text { IsUtf8 text.now }
-    requires form { encoding_by cx.old.core.now cx.old.options ≡ utf16 }
-    ensures puts { PutsText G.seen G.moves cx.old.options cx.old.core.now cx.new.core.now text.now result }
-    ensures same_reference { cx.new.core.ghost_name ≡ cx.old.core.ghost_name }
-    ensures same_options { cx.new.options ≡ cx.old.options }
+    requires form { encoding_by core.old options ≡ utf16 }
+    ensures puts { PutsText G.seen G.moves options core.old core.new text.now result }
 {
     let count = text.len() as u64;
     if count > MAX_STRING_BYTES / 2 {
         return Err(Fault::StringTooLong(count));
     }
-    let pointer = match ask(cx, 2, 2 * count) {
+    let pointer = match ask(core, 2, 2 * count) {
         Ok(pointer) => pointer,
         Err(fault) => return Err(fault),
     };
-    let units = write_units(cx.core.as_slice_mut(), pointer, 2 * count, text, 0);
-    match fit(cx, pointer, 2 * count, 2, 2 * units) {
+    let units = write_units(core.as_slice_mut(), pointer, 2 * count, text, 0);
+    match fit(core, pointer, 2 * count, 2, 2 * units) {
         Ok(pointer) => Ok(TextBlock {
             pointer,
             length: units,
@@ -104,27 +107,26 @@ fn put_utf16<T, G: Guest>(cx: &mut LowerContext<'_, T, G>, text: &[u8]) -> Resul
 /// The same, under "latin1+utf16": as Latin-1, or as UTF-16 from the first character on that isn't Latin-1
 /// (CanonicalABI.md, "store_string_to_latin1_or_utf16").
 fn put_compact<T, G: Guest>(
-    cx: &mut LowerContext<'_, T, G>,
+    core: &mut Core<T, G>,
+    options: OptionsIndex,
     text: &[u8],
 ) -> Result<TextBlock, Fault>
-    requires small { length cx.old.core.now.memory ≤ 2 ^ 32 }
+    requires small { length core.old.memory ≤ 2 ^ 32 }
     requires text { IsUtf8 text.now }
-    requires form { encoding_by cx.old.core.now cx.old.options ≡ compact }
-    ensures puts { PutsText G.seen G.moves cx.old.options cx.old.core.now cx.new.core.now text.now result }
-    ensures same_reference { cx.new.core.ghost_name ≡ cx.old.core.ghost_name }
-    ensures same_options { cx.new.options ≡ cx.old.options }
+    requires form { encoding_by core.old options ≡ compact }
+    ensures puts { PutsText G.seen G.moves options core.old core.new text.now result }
 {
     let count = text.len() as u64;
     if is_past_compact(text) {
         return Err(Fault::StringTooLong(count));
     }
-    let pointer = match ask(cx, 2, count) {
+    let pointer = match ask(core, 2, count) {
         Ok(pointer) => pointer,
         Err(fault) => return Err(fault),
     };
-    let done = write_latin1(cx.core.as_slice_mut(), pointer, text);
+    let done = write_latin1(core.as_slice_mut(), pointer, text);
     if done.src_read == count {
-        return match fit(cx, pointer, count, 2, done.dst_written) {
+        return match fit(core, pointer, count, 2, done.dst_written) {
             Ok(pointer) => Ok(TextBlock {
                 pointer,
                 length: done.dst_written,
@@ -132,19 +134,19 @@ fn put_compact<T, G: Guest>(
             Err(fault) => Err(fault),
         };
     }
-    let pointer = match ask_again(cx, pointer, count, 2, 2 * count) {
+    let pointer = match ask_again(core, pointer, count, 2, 2 * count) {
         Ok(pointer) => pointer,
         Err(fault) => return Err(fault),
     };
     let rest = &text[done.src_read as usize..];
     let units = write_units(
-        cx.core.as_slice_mut(),
+        core.as_slice_mut(),
         pointer,
         2 * count,
         rest,
         done.dst_written,
     );
-    match fit(cx, pointer, 2 * count, 2, 2 * units) {
+    match fit(core, pointer, 2 * count, 2, 2 * units) {
         Ok(pointer) => Ok(TextBlock {
             pointer,
             length: units + UTF16_TAG,
@@ -178,7 +180,7 @@ fn is_latin1(text: &[u8]) -> bool
 
 /// Gives back what isn't needed of a text's block, of this alignment.
 fn fit<T, G: Guest>(
-    cx: &mut LowerContext<'_, T, G>,
+    core: &mut Core<T, G>,
     pointer: u64,
     size: u64,
     align: u32,
@@ -188,12 +190,10 @@ fn fit<T, G: Guest>(
     requires narrow { pointer < 2 ^ 32 }
     requires sized { size < 2 ^ 32 }
     requires fits { needed ≤ size }
-    ensures fits { FitsTo G.seen G.moves cx.old.core.now cx.new.core.now align pointer size needed result }
-    ensures same_reference { cx.new.core.ghost_name ≡ cx.old.core.ghost_name }
-    ensures same_options { cx.new.options ≡ cx.old.options }
+    ensures fits { FitsTo G.seen G.moves core.old core.new align pointer size needed result }
 {
     if needed < size {
-        ask_again(cx, pointer, size, align, needed)
+        ask_again(core, pointer, size, align, needed)
     } else {
         Ok(pointer)
     }

@@ -21,7 +21,7 @@ use crate::{At, Core, Fault, LowerContext, Val};
 use canon_abi::MAX_FLAT_RESULTS;
 use canon_bytes::ends_inside;
 use canon_memory::{Guest, ValRaw};
-use canon_types::TypeTupleIndex;
+use canon_types::{OptionsIndex, TypeTupleIndex};
 use canon_value_parts::{Members, told};
 use canon_walks::{lower_results_near, store_parts};
 
@@ -38,7 +38,7 @@ pub fn results_area<T, G>(
     ensures ok { IfOk result (IsArea core.now.memory (tuple_members (component_types core.now) ty) words.now word) }
     ensures err { IfErr result (IsNoArea core.now.memory (tuple_members (component_types core.now) ty) words.now word) }
 {
-    let tuple = core.component().types.types().tuple(ty);
+    let tuple = core.types().tuple(ty);
     let at = u64::from(words[word as usize].get_u32());
     if at % u64::from(tuple.abi.align32) != 0 {
         return Err(Fault::PointerMisaligned(At::Word(word)));
@@ -78,7 +78,7 @@ pub fn lower_results<T, G: Guest>(
     ensures same_reference { cx.new.core.ghost_name ≡ cx.old.core.ghost_name }
     ensures same_options { cx.new.options ≡ cx.old.options }
 {
-    match lower_results_by_size(cx, results, ty, at, dst) {
+    match lower_results_by_size(cx.core, cx.options, results, ty, at, dst) {
         Ok(()) => Ok(()),
         Err(fault) => Err(told(fault)),
     }
@@ -86,60 +86,58 @@ pub fn lower_results<T, G: Guest>(
 
 /// The same, with a shortage of the ledger's memory reported as its fault.
 fn lower_results_by_size<T, G: Guest>(
-    cx: &mut LowerContext<'_, T, G>,
+    core: &mut Core<T, G>,
+    options: OptionsIndex,
     results: &[Val],
     ty: TypeTupleIndex,
     at: u64,
     dst: &mut [ValRaw],
 ) -> Result<(), Fault>
-    requires tuple { HasTuple (component_types cx.old.core.now) ty }
-    requires count { length results.now ≡ member_count (tuple_members (component_types cx.old.core.now) ty) }
-    requires near { members_flat (tuple_members (component_types cx.old.core.now) ty) ≤ max_results → length dst.old ≡ members_flat (tuple_members (component_types cx.old.core.now) ty) }
-    requires far { max_results < members_flat (tuple_members (component_types cx.old.core.now) ty) → at + size false (product of_places (tuple_members (component_types cx.old.core.now) ty)) ≤ length cx.old.core.now.memory }
-    ensures lowered { PartsLower cx.old.core.now cx.new.core.now (all_passes (tuple_members (component_types cx.old.core.now) ty) results.now)
-        (λ hs. LowersResults (stage_of G.seen G.moves cx.old.core.now) (stage_of G.seen G.moves cx.new.core.now) (encoding_by cx.old.core.now cx.old.options)
-        (tuple_members (component_types cx.old.core.now) ty) (HaveTrees (tuple_members (component_types cx.old.core.now) ty) results.now) at dst.new hs (ending_of result)) result }
-    ensures cause { IfErr result (BlamesMembers (encoding_by cx.old.core.now cx.old.options) (tuple_members (component_types cx.old.core.now) ty) results.now) }
-    ensures small { OnOk result (AreSmall (encoding_by cx.old.core.now cx.old.options) (tuple_members (component_types cx.old.core.now) ty) results.now) }
-    ensures quiet { Quiet (have_block (tuple_members (component_types cx.old.core.now) ty)) (cx.new.core.now.guest ≡ cx.old.core.now.guest) result }
-    ensures quiet_near { members_flat (tuple_members (component_types cx.old.core.now) ty) ≤ max_results →
-        Quiet (have_block (tuple_members (component_types cx.old.core.now) ty)) (cx.new.core.now ≡ record cx.old.core.now { ledger = cx.new.core.now.ledger }) result }
-    ensures kept { max_results < members_flat (tuple_members (component_types cx.old.core.now) ty) → dst.new ≡ dst.old }
-    ensures same_core { SameButHandles cx.old.core.now cx.new.core.now }
-    ensures same_reference { cx.new.core.ghost_name ≡ cx.old.core.ghost_name }
-    ensures same_options { cx.new.options ≡ cx.old.options }
+    requires tuple { HasTuple (component_types core.old) ty }
+    requires count { length results.now ≡ member_count (tuple_members (component_types core.old) ty) }
+    requires near { members_flat (tuple_members (component_types core.old) ty) ≤ max_results → length dst.old ≡ members_flat (tuple_members (component_types core.old) ty) }
+    requires far { max_results < members_flat (tuple_members (component_types core.old) ty) → at + size false (product of_places (tuple_members (component_types core.old) ty)) ≤ length core.old.memory }
+    ensures lowered { PartsLower core.old core.new (all_passes (tuple_members (component_types core.old) ty) results.now)
+        (λ hs. LowersResults (stage_of G.seen G.moves core.old) (stage_of G.seen G.moves core.new) (encoding_by core.old options)
+        (tuple_members (component_types core.old) ty) (HaveTrees (tuple_members (component_types core.old) ty) results.now) at dst.new hs (ending_of result)) result }
+    ensures cause { IfErr result (BlamesMembers (encoding_by core.old options) (tuple_members (component_types core.old) ty) results.now) }
+    ensures small { OnOk result (AreSmall (encoding_by core.old options) (tuple_members (component_types core.old) ty) results.now) }
+    ensures quiet { Quiet (have_block (tuple_members (component_types core.old) ty)) (core.new.guest ≡ core.old.guest) result }
+    ensures quiet_near { members_flat (tuple_members (component_types core.old) ty) ≤ max_results →
+        Quiet (have_block (tuple_members (component_types core.old) ty)) (core.new ≡ record core.old { ledger = core.new.ledger }) result }
+    ensures kept { max_results < members_flat (tuple_members (component_types core.old) ty) → dst.new ≡ dst.old }
+    ensures same_core { SameButHandles core.old core.new }
 {
-    let abi = cx.types().tuple(ty).abi;
+    let abi = core.types().tuple(ty).abi;
     if abi.flat_count(u64::from(MAX_FLAT_RESULTS)).is_some() {
-        lower_results_near(cx, results, ty, dst)
+        lower_results_near(core, options, results, ty, dst)
     } else {
-        store_results(cx, results, ty, at)
+        store_results(core, options, results, ty, at)
     }
 }
 
 /// Stores a function's results as a tuple at an address.
 fn store_results<T, G: Guest>(
-    cx: &mut LowerContext<'_, T, G>,
+    core: &mut Core<T, G>,
+    options: OptionsIndex,
     results: &[Val],
     ty: TypeTupleIndex,
     at: u64,
 ) -> Result<(), Fault>
-    requires tuple { HasTuple (component_types cx.old.core.now) ty }
-    requires count { length results.now ≡ member_count (tuple_members (component_types cx.old.core.now) ty) }
-    requires room { at + size false (product of_places (tuple_members (component_types cx.old.core.now) ty)) ≤ length cx.old.core.now.memory }
-    ensures stored { PartsLower cx.old.core.now cx.new.core.now (all_passes (tuple_members (component_types cx.old.core.now) ty) results.now)
-        (λ hs. StoresMembers false (stage_of G.seen G.moves cx.old.core.now) (stage_of G.seen G.moves cx.new.core.now) (host_texts (encoding_by cx.old.core.now cx.old.options))
-        (tuple_members (component_types cx.old.core.now) ty) 0 at (HaveTrees (tuple_members (component_types cx.old.core.now) ty) results.now) hs (ending_of result)) result }
-    ensures cause { IfErr result (BlamesMembers (encoding_by cx.old.core.now cx.old.options) (tuple_members (component_types cx.old.core.now) ty) results.now) }
-    ensures small { OnOk result (AreSmall (encoding_by cx.old.core.now cx.old.options) (tuple_members (component_types cx.old.core.now) ty) results.now) }
-    ensures quiet { Quiet (have_block (tuple_members (component_types cx.old.core.now) ty)) (cx.new.core.now.guest ≡ cx.old.core.now.guest) result }
-    ensures same_core { SameButHandles cx.old.core.now cx.new.core.now }
-    ensures same_reference { cx.new.core.ghost_name ≡ cx.old.core.ghost_name }
-    ensures same_options { cx.new.options ≡ cx.old.options }
+    requires tuple { HasTuple (component_types core.old) ty }
+    requires count { length results.now ≡ member_count (tuple_members (component_types core.old) ty) }
+    requires room { at + size false (product of_places (tuple_members (component_types core.old) ty)) ≤ length core.old.memory }
+    ensures stored { PartsLower core.old core.new (all_passes (tuple_members (component_types core.old) ty) results.now)
+        (λ hs. StoresMembers false (stage_of G.seen G.moves core.old) (stage_of G.seen G.moves core.new) (host_texts (encoding_by core.old options))
+        (tuple_members (component_types core.old) ty) 0 at (HaveTrees (tuple_members (component_types core.old) ty) results.now) hs (ending_of result)) result }
+    ensures cause { IfErr result (BlamesMembers (encoding_by core.old options) (tuple_members (component_types core.old) ty) results.now) }
+    ensures small { OnOk result (AreSmall (encoding_by core.old options) (tuple_members (component_types core.old) ty) results.now) }
+    ensures quiet { Quiet (have_block (tuple_members (component_types core.old) ty)) (core.new.guest ≡ core.old.guest) result }
+    ensures same_core { SameButHandles core.old core.new }
 {
-    let _memory = cx.core.memory(); // memory has at most 2^32 bytes
+    let _memory = core.memory(); // memory has at most 2^32 bytes
     let members = Members::Places(ty, results);
-    match store_parts(cx, &members, at, 0, 0) {
+    match store_parts(core, options, &members, at, 0, 0) {
         Ok(_) => Ok(()),
         Err(fault) => Err(fault),
     }

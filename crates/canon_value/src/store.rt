@@ -46,7 +46,7 @@ pub fn linear_lower_to_memory<T, G: Guest>(
     ensures same_options { cx.new.options ≡ cx.old.options }
 {
     let _memory = cx.core.memory(); // memory has at most 2^32 bytes
-    match store_value(cx, value, ty, offset, 0) {
+    match store_value(cx.core, cx.options, value, ty, offset, 0) {
         Ok(_) => Ok(()),
         Err(fault) => Err(told(fault)),
     }

@@ -35,17 +35,16 @@ no_trap : (a b : Moment) (answers : List Answer) (trap : Option Trap) (r : Resul
 no_trap a b answers trap (Ok n) h cause = cause
 no_trap a b answers trap (Err e) h cause = subst (λ end. CauseOf a b answers trap end) h cause
 
-module _ {T G : Type 0} (L : GuestLaws G) (options options2 : ℕ) (a b c : Parts T G) (j : ℕ) (vs : List Val) (p : ℕ) (far : max_params < members_flat (tuple_members (component_types a) j))
+module _ {T G : Type 0} (L : GuestLaws G) (options : ℕ) (a b c : Parts T G) (j : ℕ) (vs : List Val) (p : ℕ) (far : max_params < members_flat (tuple_members (component_types a) j))
     (count : length vs ≡ member_count (tuple_members (component_types a) j))
-    (g : AsksFor L.seen L.moves a b (args_call false (tuple_members (component_types a) j)) (Ok p)) (eo : options2 ≡ options) (r : Result ℕ Fault)
-    (h : PartsStoreTo L.seen L.moves options2 b c 0 (tuple_members (component_types b) j) 0 p (no_names vs) vs 0 r) where
+    (g : AsksFor L.seen L.moves a b (args_call false (tuple_members (component_types a) j)) (Ok p)) (r : Result ℕ Fault)
+    (h : PartsStoreTo L.seen L.moves options b c 0 (tuple_members (component_types b) j) 0 p (no_names vs) vs 0 r) where
   abbrev ms : Members
   ms = tuple_members (component_types a) j
 
   -- what the storing of the members left, said of the table of the start
   stood : PartsStoreTo L.seen L.moves options b c 0 ms 0 p (no_names vs) vs 0 r
-  stood = subst (λ (x : TypeTable). PartsStoreTo L.seen L.moves options b c 0 (tuple_members x j) 0 p (no_names vs) vs 0 r) (same_types a b g.same)
-      (subst (λ (n : ℕ). PartsStoreTo L.seen L.moves n b c 0 (tuple_members (component_types b) j) 0 p (no_names vs) vs 0 r) eo h)
+  stood = subst (λ (x : TypeTable). PartsStoreTo L.seen L.moves options b c 0 (tuple_members x j) 0 p (no_names vs) vs 0 r) (same_types a b g.same) h
 
   storing : StoresMembers false (stage_of L.seen L.moves b) (stage_of L.seen L.moves c) (host_texts (encoding_by a options)) ms 0 p (MemberNamed ms (no_names vs) vs) stood.handles (ending_of r)
   storing = subst (λ (x : Encoding). StoresMembers false (stage_of L.seen L.moves b) (stage_of L.seen L.moves c) (host_texts x) ms 0 p (MemberNamed ms (no_names vs) vs) stood.handles (ending_of r))

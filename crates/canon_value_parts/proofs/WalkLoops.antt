@@ -73,18 +73,17 @@ module _ {T G : Type 0} (L : GuestLaws G) (options place : ℕ) (ms : Members) (
         (subst (λ (xs : List Val). PartsStoreTo L.seen L.moves options now z place (member is.name s (members_from (i + 1) ms)) o at (is.named ∷ drop (i + 1) names) xs next r) (sym is.values) g))
 
     -- what its storing left, said of the table of the start
-    stood : (now2 : Parts T G) (options2 p : ℕ) (r : Result ℕ Fault) → options2 ≡ options → p ≡ begins false o s → StoresTo L.seen L.moves options2 now now2 (shape_of (component_types now) m.ty) (at + p) m.value.now next r
+    stood : (now2 : Parts T G) (p : ℕ) (r : Result ℕ Fault) → p ≡ begins false o s → StoresTo L.seen L.moves options now now2 (shape_of (component_types now) m.ty) (at + p) m.value.now next r
         → StoresTo L.seen L.moves options now now2 s (at + begins false o s) m.value.now next r
-    stood now2 options2 p r eo ep g =
+    stood now2 p r ep g =
         subst (λ (b : ℕ). StoresTo L.seen L.moves options now now2 s (at + b) m.value.now next r) ep
-        (subst (λ (x : TypeTable). StoresTo L.seen L.moves options now now2 (shape_of x m.ty) (at + p) m.value.now next r) (handles_types start now h.same)
-        (subst (λ (n : ℕ). StoresTo L.seen L.moves n now now2 (shape_of (component_types now) m.ty) (at + p) m.value.now next r) eo g))
+        (subst (λ (x : TypeTable). StoresTo L.seen L.moves options now now2 (shape_of x m.ty) (at + p) m.value.now next r) (handles_types start now h.same) g)
 
-    pub go_on : (now2 : Parts T G) (options2 p next2 o2 : ℕ) → IsTrue m.is_named → options2 ≡ options → p ≡ begins false o s → o2 ≡ ends false o s → next2 < 2 ^ 64
-        → StoresTo L.seen L.moves options2 now now2 (shape_of (component_types now) m.ty) (at + p) m.value.now next (Ok next2) → PartsAreStored L.seen L.moves options place ms names vs start at from now2 next2 o2 (i + 1)
+    pub go_on : (now2 : Parts T G) (p next2 o2 : ℕ) → IsTrue m.is_named → p ≡ begins false o s → o2 ≡ ends false o s → next2 < 2 ^ 64
+        → StoresTo L.seen L.moves options now now2 (shape_of (component_types now) m.ty) (at + p) m.value.now next (Ok next2) → PartsAreStored L.seen L.moves options place ms names vs start at from now2 next2 o2 (i + 1)
     unfolding size
-    go_on now2 options2 p next2 o2 named eo ep e2 few g =
-        let one = stood now2 options2 p (Ok next2) eo ep g in
+    go_on now2 p next2 o2 named ep e2 few g =
+        let one = stood now2 p (Ok next2) ep g in
         let end : members_end false o (members_from i ms) ≡ members_end false (ends false o s) (members_from (i + 1) ms) = ap (members_end false o) is.shapes in
         subst (λ (q : ℕ). PartsAreStored L.seen L.moves options place ms names vs start at from now2 next2 q (i + 1)) (sym e2) (record {
           small = one.storing.lowering.small;
@@ -95,11 +94,11 @@ module _ {T G : Type 0} (L : GuestLaws G) (options place : ℕ) (ms : Members) (
           rest = λ z r more. h.rest z r (told z r (parts_cons L options now now2 z place is.name is.named s (members_from (i + 1) ms) o at (drop (i + 1) names) m.value.now (drop (i + 1) vs) next next2 r (is.same.0 named) one more));
         })
 
-    pub stop : (now2 : Parts T G) (options2 p : ℕ) (e : Fault) → IsTrue m.is_named → options2 ≡ options → p ≡ begins false o s
-        → StoresTo L.seen L.moves options2 now now2 (shape_of (component_types now) m.ty) (at + p) m.value.now next (Err e)
+    pub stop : (now2 : Parts T G) (p : ℕ) (e : Fault) → IsTrue m.is_named → p ≡ begins false o s
+        → StoresTo L.seen L.moves options now now2 (shape_of (component_types now) m.ty) (at + p) m.value.now next (Err e)
         → PartsStoreTo L.seen L.moves options start now2 place ms 0 at names vs from (Err e)
-    stop now2 options2 p e named eo ep g = h.rest now2 (Err e) (told now2 (Err e)
-        (parts_stop L options now now2 place is.name is.named s (members_from (i + 1) ms) o at (drop (i + 1) names) m.value.now (drop (i + 1) vs) next e (is.same.0 named) (stood now2 options2 p (Err e) eo ep g)))
+    stop now2 p e named ep g = h.rest now2 (Err e) (told now2 (Err e)
+        (parts_stop L options now now2 place is.name is.named s (members_from (i + 1) ms) o at (drop (i + 1) names) m.value.now (drop (i + 1) vs) next e (is.same.0 named) (stood now2 p (Err e) ep g)))
 
     pub misnamed : ¬ (IsTrue m.is_named) → PartsStoreTo L.seen L.moves options start now place ms 0 at names vs from (Err (fault.FieldName place))
     misnamed other = h.rest now (Err (fault.FieldName place)) (told now (Err (fault.FieldName place))
@@ -113,11 +112,10 @@ module _ {T G : Type 0} (L : GuestLaws G) (options place : ℕ) (ms : Members) (
       (parts_none L options now place at o next h.small h.counted))))
 
 -- what the storing of a list's members left, said of other words for the same
-pub parts_stood : {T G : Type 0} → (L : GuestLaws G) (b c : Parts T G) (options options2 place at : ℕ) (ms ms2 : Members) (names names2 : List Name) (vs vs2 : List Val) (from from2 : ℕ) (r : Result ℕ Fault)
-    → options2 ≡ options → ms2 ≡ ms → names2 ≡ names → vs2 ≡ vs → from2 ≡ from → PartsStoreTo L.seen L.moves options2 b c place ms2 0 at names2 vs2 from2 r → PartsStoreTo L.seen L.moves options b c place ms 0 at names vs from r
-parts_stood L b c options options2 place at ms ms2 names names2 vs vs2 from from2 r eo em en ev ef h =
-    subst (λ (n : ℕ). PartsStoreTo L.seen L.moves n b c place ms 0 at names vs from r) eo
-    (subst (λ (xs : Members). PartsStoreTo L.seen L.moves options2 b c place xs 0 at names vs from r) em
-    (subst (λ (xs : List Name). PartsStoreTo L.seen L.moves options2 b c place ms2 0 at xs vs from r) en
-    (subst (λ (xs : List Val). PartsStoreTo L.seen L.moves options2 b c place ms2 0 at names2 xs from r) ev
-    (subst (λ (n : ℕ). PartsStoreTo L.seen L.moves options2 b c place ms2 0 at names2 vs2 n r) ef h))))
+pub parts_stood : {T G : Type 0} → (L : GuestLaws G) (b c : Parts T G) (options place at : ℕ) (ms ms2 : Members) (names names2 : List Name) (vs vs2 : List Val) (from from2 : ℕ) (r : Result ℕ Fault)
+    → ms2 ≡ ms → names2 ≡ names → vs2 ≡ vs → from2 ≡ from → PartsStoreTo L.seen L.moves options b c place ms2 0 at names2 vs2 from2 r → PartsStoreTo L.seen L.moves options b c place ms 0 at names vs from r
+parts_stood L b c options place at ms ms2 names names2 vs vs2 from from2 r em en ev ef h =
+    subst (λ (xs : Members). PartsStoreTo L.seen L.moves options b c place xs 0 at names vs from r) em
+    (subst (λ (xs : List Name). PartsStoreTo L.seen L.moves options b c place ms2 0 at xs vs from r) en
+    (subst (λ (xs : List Val). PartsStoreTo L.seen L.moves options b c place ms2 0 at names2 xs from r) ev
+    (subst (λ (n : ℕ). PartsStoreTo L.seen L.moves options b c place ms2 0 at names2 vs2 n r) ef h)))

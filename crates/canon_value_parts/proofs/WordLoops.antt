@@ -66,16 +66,15 @@ module _ {T G : Type 0} (L : GuestLaws G) (options place : ℕ) (ms : Members) (
         (subst (λ (xs : List Val). PartsLowerTo L.seen L.moves options now z dst zs next r place (member is.name s (members_from (i + 1) ms)) (is.named ∷ drop (i + 1) names) xs) (sym is.values) g))
 
     -- what its lowering left, said of the table of the start
-    stood : (now2 : Parts T G) (dst2 : List ℕ) (options2 : ℕ) (r : Result Spot Fault) → options2 ≡ options → LowersTo L.seen L.moves options2 now now2 dst dst2 next r (shape_of (component_types now) m.ty) m.value.now
+    stood : (now2 : Parts T G) (dst2 : List ℕ) (r : Result Spot Fault) → LowersTo L.seen L.moves options now now2 dst dst2 next r (shape_of (component_types now) m.ty) m.value.now
         → LowersTo L.seen L.moves options now now2 dst dst2 next r s m.value.now
-    stood now2 dst2 options2 r eo g =
-        subst (λ (x : TypeTable). LowersTo L.seen L.moves options now now2 dst dst2 next r (shape_of x m.ty) m.value.now) (handles_types start now h.same)
-        (subst (λ (n : ℕ). LowersTo L.seen L.moves n now now2 dst dst2 next r (shape_of (component_types now) m.ty) m.value.now) eo g)
+    stood now2 dst2 r g =
+        subst (λ (x : TypeTable). LowersTo L.seen L.moves options now now2 dst dst2 next r (shape_of x m.ty) m.value.now) (handles_types start now h.same) g
 
-    pub go_on : (now2 : Parts T G) (dst2 : List ℕ) (options2 : ℕ) (next2 : Spot) → IsTrue m.is_named → options2 ≡ options → LowersTo L.seen L.moves options2 now now2 dst dst2 next (Ok next2) (shape_of (component_types now) m.ty) m.value.now
+    pub go_on : (now2 : Parts T G) (dst2 : List ℕ) (next2 : Spot) → IsTrue m.is_named → LowersTo L.seen L.moves options now now2 dst dst2 next (Ok next2) (shape_of (component_types now) m.ty) m.value.now
         → PartsAreLowered L.seen L.moves options place ms names vs start first from now2 dst2 next2 (i + 1)
-    go_on now2 dst2 options2 next2 named eo g =
-        let one = stood now2 dst2 options2 (Ok next2) eo g in
+    go_on now2 dst2 next2 named g =
+        let one = stood now2 dst2 (Ok next2) g in
         record {
           small = one.lowered.lowering.small;
           room = omega (arith, words, h.room, one.passed, one.stays.same_length);
@@ -85,10 +84,10 @@ module _ {T G : Type 0} (L : GuestLaws G) (options place : ℕ) (ms : Members) (
               (parts_cons L options now now2 z dst dst2 zs place is.name is.named s (members_from (i + 1) ms) (drop (i + 1) names) m.value.now (drop (i + 1) vs) next next2 r (is.same.0 named) one more));
         }
 
-    pub stop : (now2 : Parts T G) (dst2 : List ℕ) (options2 : ℕ) (e : Fault) → IsTrue m.is_named → options2 ≡ options → LowersTo L.seen L.moves options2 now now2 dst dst2 next (Err e) (shape_of (component_types now) m.ty) m.value.now
+    pub stop : (now2 : Parts T G) (dst2 : List ℕ) (e : Fault) → IsTrue m.is_named → LowersTo L.seen L.moves options now now2 dst dst2 next (Err e) (shape_of (component_types now) m.ty) m.value.now
         → PartsLowerTo L.seen L.moves options start now2 first dst2 from (Err e) place ms names vs
-    stop now2 dst2 options2 e named eo g = h.rest now2 dst2 (Err e) (told now2 dst2 (Err e)
-        (parts_stop L options now now2 dst dst2 place is.name is.named s (members_from (i + 1) ms) (drop (i + 1) names) m.value.now (drop (i + 1) vs) next e (is.same.0 named) (stood now2 dst2 options2 (Err e) eo g)))
+    stop now2 dst2 e named g = h.rest now2 dst2 (Err e) (told now2 dst2 (Err e)
+        (parts_stop L options now now2 dst dst2 place is.name is.named s (members_from (i + 1) ms) (drop (i + 1) names) m.value.now (drop (i + 1) vs) next e (is.same.0 named) (stood now2 dst2 (Err e) g)))
 
     pub misnamed : ¬ (IsTrue m.is_named) → PartsLowerTo L.seen L.moves options start now first dst from (Err (fault.FieldName place)) place ms names vs
     misnamed other = h.rest now dst (Err (fault.FieldName place)) (told now dst (Err (fault.FieldName place))

@@ -13,10 +13,11 @@ ghost use Rattle.canon_context.specs.Asks.{AsksFor};
 ghost use Rattle.canon_value_parts.specs.Stores.{PlacesTo};
 ghost use Rattle.canon_val.specs.declared.val.Val.TheVariants as val;
 
-use canon_context::{Fault, LowerContext, ask};
+use canon_context::{Core, Fault, ask};
 use canon_memory::Guest;
 use canon_plan::{Element, element_abi};
 use canon_string::put_text;
+use canon_types::OptionsIndex;
 
 /// Where a text or a list stands, its length, and the place of the value after it.
 #[derive(Clone, Copy)]
@@ -31,16 +32,15 @@ pub struct Placed {
 
 /// Puts a text that has this place among the values into a block of its own.
 pub fn place_text<T, G: Guest>(
-    cx: &mut LowerContext<'_, T, G>,
+    core: &mut Core<T, G>,
+    options: OptionsIndex,
     text: &String,
     place: u64,
 ) -> Result<Placed, Fault>
-    requires small { length cx.old.core.now.memory ≤ 2 ^ 32 }
-    ensures places { PlacesTo G.seen G.moves cx.old.options cx.old.core.now cx.new.core.now string (val.String text.now) place result }
-    ensures same_reference { cx.new.core.ghost_name ≡ cx.old.core.ghost_name }
-    ensures same_options { cx.new.options ≡ cx.old.options }
+    requires small { length core.old.memory ≤ 2 ^ 32 }
+    ensures places { PlacesTo G.seen G.moves options core.old core.new string (val.String text.now) place result }
 {
-    match put_text(cx, text.as_bytes()) {
+    match put_text(core, options, text.as_bytes()) {
         Ok(block) => Ok(Placed {
             pointer: block.pointer,
             length: block.length,
@@ -52,19 +52,17 @@ pub fn place_text<T, G: Guest>(
 
 /// The block of a list of so many elements.
 pub fn ask_items<T, G: Guest>(
-    cx: &mut LowerContext<'_, T, G>,
+    core: &mut Core<T, G>,
     element: &Element,
     length: u64,
     bytes: u64,
 ) -> Result<u64, Fault>
-    requires known { IsKnown (component_types cx.old.core.now) element.now }
-    requires whole { bytes ≡ length * size false (element_shape (list_shape (component_types cx.old.core.now) element.now)) }
+    requires known { IsKnown (component_types core.old) element.now }
+    requires whole { bytes ≡ length * size false (element_shape (list_shape (component_types core.old) element.now)) }
     requires sized { bytes < 2 ^ 32 }
-    ensures asked { AsksFor G.seen G.moves cx.old.core.now cx.new.core.now (items_call false (element_shape (list_shape (component_types cx.old.core.now) element.now)) length) result }
-    ensures same_reference { cx.new.core.ghost_name ≡ cx.old.core.ghost_name }
-    ensures same_options { cx.new.options ≡ cx.old.options }
+    ensures asked { AsksFor G.seen G.moves core.old core.new (items_call false (element_shape (list_shape (component_types core.old) element.now)) length) result }
 {
     let _ = length;
-    let align = element_abi(cx.types(), element).align32;
-    ask(cx, align, bytes)
+    let align = element_abi(core.types(), element).align32;
+    ask(core, align, bytes)
 }

@@ -28,7 +28,7 @@ ghost use Rattle.canon_val.specs.declared.val.Val.TheVariants as val;
 
 use crate::lists::keep;
 use crate::spot::Spot;
-use canon_context::{Fault, LowerContext, Source, charge};
+use canon_context::{Core, Fault, Source, charge};
 use canon_memory::{Guest, ValRaw};
 use canon_types::{ComponentTypes, InterfaceType, TypeFlagsIndex};
 use canon_val::Val;
@@ -49,92 +49,84 @@ pub fn number_of(types: &ComponentTypes, i: TypeFlagsIndex, name: &String) -> Op
 
 /// Stores flags of these names as a value of the type.
 pub fn store_names<T, G: Guest>(
-    cx: &mut LowerContext<'_, T, G>,
+    core: &mut Core<T, G>,
     set: &Vec<String>,
     ty: &InterfaceType,
     at: u64,
     place: u64,
 ) -> Result<u64, Fault>
-    requires known { Knows (component_types cx.old.core.now) ty.now }
+    requires known { Knows (component_types core.old) ty.now }
     requires kind { IsFlagsType ty.now }
-    requires small { length cx.old.core.now.memory ≤ 2 ^ 32 }
-    requires room { at + size false (shape_of (component_types cx.old.core.now) ty.now) ≤ length cx.old.core.now.memory }
-    ensures stores { StoresTo G.seen G.moves cx.old.options cx.old.core.now cx.new.core.now (shape_of (component_types cx.old.core.now) ty.now) at (val.Flags set.now) place result }
-    ensures same_reference { cx.new.core.ghost_name ≡ cx.old.core.ghost_name }
-    ensures same_options { cx.new.options ≡ cx.old.options }
+    requires small { length core.old.memory ≤ 2 ^ 32 }
+    requires room { at + size false (shape_of (component_types core.old) ty.now) ≤ length core.old.memory }
+    ensures stores { (options : ℕ) → StoresTo G.seen G.moves options core.old core.new (shape_of (component_types core.old) ty.now) at (val.Flags set.now) place result }
 {
     match ty {
-        InterfaceType::Flags(i) => store_flags(cx, set, *i, at, place),
+        InterfaceType::Flags(i) => store_flags(core, set, *i, at, place),
         _ => unreachable!(),
     }
 }
 
 /// Lowers flags of these names as a value of the type.
 pub fn lower_names<T, G: Guest>(
-    cx: &mut LowerContext<'_, T, G>,
+    core: &Core<T, G>,
     set: &Vec<String>,
     ty: &InterfaceType,
     dst: &mut [ValRaw],
     from: Spot,
 ) -> Result<Spot, Fault>
-    requires known { Knows (component_types cx.old.core.now) ty.now }
+    requires known { Knows (component_types core.now) ty.now }
     requires kind { IsFlagsType ty.now }
-    requires small { length cx.old.core.now.memory ≤ 2 ^ 32 }
-    requires room { from.word + flat (shape_of (component_types cx.old.core.now) ty.now) ≤ length dst.old }
-    ensures lowers { LowersTo G.seen G.moves cx.old.options cx.old.core.now cx.new.core.now dst.old dst.new from result (shape_of (component_types cx.old.core.now) ty.now) (val.Flags set.now) }
-    ensures written { WordsWritten from.word (from.word + flat (shape_of (component_types cx.old.core.now) ty.now)) dst.old dst.new }
-    ensures same_reference { cx.new.core.ghost_name ≡ cx.old.core.ghost_name }
-    ensures same_options { cx.new.options ≡ cx.old.options }
+    requires small { length core.now.memory ≤ 2 ^ 32 }
+    requires room { from.word + flat (shape_of (component_types core.now) ty.now) ≤ length dst.old }
+    ensures lowers { (options : ℕ) → LowersTo G.seen G.moves options core.now core.now dst.old dst.new from result (shape_of (component_types core.now) ty.now) (val.Flags set.now) }
+    ensures written { WordsWritten from.word (from.word + flat (shape_of (component_types core.now) ty.now)) dst.old dst.new }
 {
     match ty {
-        InterfaceType::Flags(i) => lower_flags(cx, set, *i, dst, from),
+        InterfaceType::Flags(i) => lower_flags(core, set, *i, dst, from),
         _ => unreachable!(),
     }
 }
 
 /// Stores flags (CanonicalABI.md, "store_flags"). Answers `UnknownFlag` for a name that isn't one of the type's.
 fn store_flags<T, G: Guest>(
-    cx: &mut LowerContext<'_, T, G>,
+    core: &mut Core<T, G>,
     set: &Vec<String>,
     i: TypeFlagsIndex,
     at: u64,
     place: u64,
 ) -> Result<u64, Fault>
-    requires known { Knows (component_types cx.old.core.now) (InterfaceType.Flags i) }
-    requires small { length cx.old.core.now.memory ≤ 2 ^ 32 }
-    requires room { at + size false (shape_of (component_types cx.old.core.now) (InterfaceType.Flags i)) ≤ length cx.old.core.now.memory }
-    ensures stores { StoresTo G.seen G.moves cx.old.options cx.old.core.now cx.new.core.now (shape_of (component_types cx.old.core.now) (InterfaceType.Flags i)) at (val.Flags set.now) place result }
-    ensures same_reference { cx.new.core.ghost_name ≡ cx.old.core.ghost_name }
-    ensures same_options { cx.new.options ≡ cx.old.options }
+    requires known { Knows (component_types core.old) (InterfaceType.Flags i) }
+    requires small { length core.old.memory ≤ 2 ^ 32 }
+    requires room { at + size false (shape_of (component_types core.old) (InterfaceType.Flags i)) ≤ length core.old.memory }
+    ensures stores { (options : ℕ) → StoresTo G.seen G.moves options core.old core.new (shape_of (component_types core.old) (InterfaceType.Flags i)) at (val.Flags set.now) place result }
 {
-    let size = cx.types().flags(i).abi.size32;
-    clear_bytes(cx.core.as_slice_mut(), at, size);
+    let size = core.types().flags(i).abi.size32;
+    clear_bytes(core.as_slice_mut(), at, size);
     for name in set {
-        let Some(k) = number_of(cx.types(), i, name) else {
+        let Some(k) = number_of(core.types(), i, name) else {
             return Err(Fault::UnknownFlag(place));
         };
-        mark_byte(cx.core.as_slice_mut(), at, k);
+        mark_byte(core.as_slice_mut(), at, k);
     }
     Ok(place.saturating_add(1))
 }
 
 /// Lowers flags (CanonicalABI.md, "lower_flat_flags"), with the same fault.
 fn lower_flags<T, G: Guest>(
-    cx: &mut LowerContext<'_, T, G>,
+    core: &Core<T, G>,
     set: &Vec<String>,
     i: TypeFlagsIndex,
     dst: &mut [ValRaw],
     from: Spot,
 ) -> Result<Spot, Fault>
-    requires known { Knows (component_types cx.old.core.now) (InterfaceType.Flags i) }
-    requires small { length cx.old.core.now.memory ≤ 2 ^ 32 }
-    requires room { from.word + flat (shape_of (component_types cx.old.core.now) (InterfaceType.Flags i)) ≤ length dst.old }
-    ensures lowers { LowersTo G.seen G.moves cx.old.options cx.old.core.now cx.new.core.now dst.old dst.new from result (shape_of (component_types cx.old.core.now) (InterfaceType.Flags i)) (val.Flags set.now) }
-    ensures written { WordsWritten from.word (from.word + flat (shape_of (component_types cx.old.core.now) (InterfaceType.Flags i))) dst.old dst.new }
-    ensures same_reference { cx.new.core.ghost_name ≡ cx.old.core.ghost_name }
-    ensures same_options { cx.new.options ≡ cx.old.options }
+    requires known { Knows (component_types core.now) (InterfaceType.Flags i) }
+    requires small { length core.now.memory ≤ 2 ^ 32 }
+    requires room { from.word + flat (shape_of (component_types core.now) (InterfaceType.Flags i)) ≤ length dst.old }
+    ensures lowers { (options : ℕ) → LowersTo G.seen G.moves options core.now core.now dst.old dst.new from result (shape_of (component_types core.now) (InterfaceType.Flags i)) (val.Flags set.now) }
+    ensures written { WordsWritten from.word (from.word + flat (shape_of (component_types core.now) (InterfaceType.Flags i))) dst.old dst.new }
 {
-    let types = cx.types();
+    let types = core.types();
     let count = types.flags(i).names.len().div_ceil(32);
     if !put_flags(types, set, i, dst, from.word, count) {
         return Err(Fault::UnknownFlag(from.place));

@@ -10,7 +10,7 @@ ghost use Rattle.canon_model.specs.Leaves.{leaf};
 ghost use Rattle.canon_passing.specs.Passed.{GivesHandle, told_fault};
 ghost use Rattle.canon_value_parts.specs.Resources.{TakesHandle};
 
-use canon_context::{Fault, LowerContext, Source};
+use canon_context::{Core, Fault, Source};
 use canon_ledger::{Ledger, ResourceFault};
 use canon_memory::Guest;
 use canon_plan::HandleType;
@@ -21,19 +21,17 @@ use canon_val::Val;
 /// Passes a resource through the ledger where a handle of this type is wanted, and answers the number that the guest is given. Want
 /// of the ledger's memory is reported as its fault, so that a walk can tell it from a shortage of the guest's (`told`).
 pub fn give_handle<T, G: Guest>(
-    cx: &mut LowerContext<'_, T, G>,
+    core: &mut Core<T, G>,
     handle: HandleType,
     resource: ResourceAny,
 ) -> Result<u32, Fault>
-    requires known { Knows (component_types cx.old.core.now) (type_of_handle handle) }
-    ensures gives { GivesHandle cx.old.core.now cx.new.core.now (passed handle.owned handle.resource resource) result }
-    ensures same_reference { cx.new.core.ghost_name ≡ cx.old.core.ghost_name }
-    ensures same_options { cx.new.options ≡ cx.old.options }
+    requires known { Knows (component_types core.old) (type_of_handle handle) }
+    ensures gives { GivesHandle core.old core.new (passed handle.owned handle.resource resource) result }
 {
     let given = if handle.owned {
-        cx.core.lower_own(resource, handle.resource)
+        core.lower_own(resource, handle.resource)
     } else {
-        cx.core.lower_borrow(resource, handle.resource)
+        core.lower_borrow(resource, handle.resource)
     };
     match given {
         Ok(number) => Ok(number),

@@ -1,6 +1,6 @@
 //! Values, lowered into words.
 
-ghost use Rattle.std.specs.Prelude.{◌≡◌, ◌≤◌, ◌<◌, ◌+◌, ◌^◌, ◌∷◌, [], IfErr, Ok, OnOk, false, length};
+ghost use Rattle.std.specs.Prelude.{ℕ, ◌≡◌, ◌≤◌, ◌<◌, ◌+◌, ◌^◌, ◌∷◌, [], IfErr, Ok, OnOk, false, length};
 ghost use Rattle.canon_model.specs.Homes.{host_texts};
 ghost use Rattle.canon_lowering.specs.Attempt.{LowersArgs, LowersMembers};
 ghost use Rattle.canon_model.specs.Flat.{SameWords, max_params};
@@ -25,11 +25,11 @@ ghost use Rattle.canon_passing.specs.Words.{Clears, WordsStay};
 ghost use Rattle.canon_value_parts.specs.Words.{IsWordOf, LowersTo, PartsLowerTo, behind_tag, inside};
 
 use crate::store::place_list;
-use canon_context::{Fault, LowerContext};
+use canon_context::{Core, Fault};
 use canon_memory::{Guest, ValRaw};
 use canon_plan::{HandleType, flat_words};
 use canon_resources::ResourceAny;
-use canon_types::{ComponentTypes, InterfaceType, TypeTupleIndex};
+use canon_types::{ComponentTypes, InterfaceType, OptionsIndex, TypeTupleIndex};
 use canon_val::Val;
 use canon_value_parts::{
     Case, Elements, Members, Placed, Spot, View, count_of, give_handle, lower_names, member_of,
@@ -39,28 +39,27 @@ use canon_value_parts::{
 /// Lowers a function's parameters into words in a row (CanonicalABI.md, "lower_flat_values"), up to MAX_FLAT_PARAMS words.
 /// At an error `dst` and the blocks may have changed.
 pub fn lower_args_near<T, G: Guest>(
-    cx: &mut LowerContext<'_, T, G>,
+    core: &mut Core<T, G>,
+    options: OptionsIndex,
     args: &[Val],
     ty: TypeTupleIndex,
     dst: &mut [ValRaw],
 ) -> Result<(), Fault>
-    requires tuple { HasTuple (component_types cx.old.core.now) ty }
-    requires count { length args.now ≡ member_count (tuple_members (component_types cx.old.core.now) ty) }
-    requires near { members_flat (tuple_members (component_types cx.old.core.now) ty) ≤ max_params }
-    requires words { length dst.old ≡ members_flat (tuple_members (component_types cx.old.core.now) ty) }
-    ensures lowered { PartsLower cx.old.core.now cx.new.core.now (all_passes (tuple_members (component_types cx.old.core.now) ty) args.now)
-        (λ hs. LowersArgs false (stage_of G.seen G.moves cx.old.core.now) (stage_of G.seen G.moves cx.new.core.now) (host_texts (encoding_by cx.old.core.now cx.old.options))
-        (tuple_members (component_types cx.old.core.now) ty) (HaveTrees (tuple_members (component_types cx.old.core.now) ty) args.now) dst.new hs (ending_of result)) result }
-    ensures cause { IfErr result (BlamesMembers (encoding_by cx.old.core.now cx.old.options) (tuple_members (component_types cx.old.core.now) ty) args.now) }
-    ensures small { OnOk result (AreSmall (encoding_by cx.old.core.now cx.old.options) (tuple_members (component_types cx.old.core.now) ty) args.now) }
-    ensures quiet { Quiet (have_block (tuple_members (component_types cx.old.core.now) ty)) (cx.new.core.now ≡ record cx.old.core.now { ledger = cx.new.core.now.ledger }) result }
-    ensures same_core { SameButHandles cx.old.core.now cx.new.core.now }
-    ensures same_reference { cx.new.core.ghost_name ≡ cx.old.core.ghost_name }
-    ensures same_options { cx.new.options ≡ cx.old.options }
+    requires tuple { HasTuple (component_types core.old) ty }
+    requires count { length args.now ≡ member_count (tuple_members (component_types core.old) ty) }
+    requires near { members_flat (tuple_members (component_types core.old) ty) ≤ max_params }
+    requires words { length dst.old ≡ members_flat (tuple_members (component_types core.old) ty) }
+    ensures lowered { PartsLower core.old core.new (all_passes (tuple_members (component_types core.old) ty) args.now)
+        (λ hs. LowersArgs false (stage_of G.seen G.moves core.old) (stage_of G.seen G.moves core.new) (host_texts (encoding_by core.old options))
+        (tuple_members (component_types core.old) ty) (HaveTrees (tuple_members (component_types core.old) ty) args.now) dst.new hs (ending_of result)) result }
+    ensures cause { IfErr result (BlamesMembers (encoding_by core.old options) (tuple_members (component_types core.old) ty) args.now) }
+    ensures small { OnOk result (AreSmall (encoding_by core.old options) (tuple_members (component_types core.old) ty) args.now) }
+    ensures quiet { Quiet (have_block (tuple_members (component_types core.old) ty)) (core.new ≡ record core.old { ledger = core.new.ledger }) result }
+    ensures same_core { SameButHandles core.old core.new }
 {
-    let _memory = cx.core.memory(); // memory has at most 2^32 bytes
+    let _memory = core.memory(); // memory has at most 2^32 bytes
     let members = Members::Places(ty, args);
-    match lower_parts(cx, &members, dst, 0, Spot { word: 0, place: 0 }) {
+    match lower_parts(core, options, &members, dst, 0, Spot { word: 0, place: 0 }) {
         Ok(_) => Ok(()),
         Err(fault) => Err(fault),
     }
@@ -69,27 +68,26 @@ pub fn lower_args_near<T, G: Guest>(
 /// Lowers a function's results into words in a row (CanonicalABI.md, "lower_flat_values"). At an error `dst` and the blocks may have
 /// changed.
 pub fn lower_results_near<T, G: Guest>(
-    cx: &mut LowerContext<'_, T, G>,
+    core: &mut Core<T, G>,
+    options: OptionsIndex,
     results: &[Val],
     ty: TypeTupleIndex,
     dst: &mut [ValRaw],
 ) -> Result<(), Fault>
-    requires tuple { HasTuple (component_types cx.old.core.now) ty }
-    requires count { length results.now ≡ member_count (tuple_members (component_types cx.old.core.now) ty) }
-    requires words { length dst.old ≡ members_flat (tuple_members (component_types cx.old.core.now) ty) }
-    ensures lowered { PartsLower cx.old.core.now cx.new.core.now (all_passes (tuple_members (component_types cx.old.core.now) ty) results.now)
-        (λ hs. LowersMembers false (stage_of G.seen G.moves cx.old.core.now) (stage_of G.seen G.moves cx.new.core.now) (host_texts (encoding_by cx.old.core.now cx.old.options))
-        (tuple_members (component_types cx.old.core.now) ty) dst.new 0 (HaveTrees (tuple_members (component_types cx.old.core.now) ty) results.now) hs (ending_of result)) result }
-    ensures cause { IfErr result (BlamesMembers (encoding_by cx.old.core.now cx.old.options) (tuple_members (component_types cx.old.core.now) ty) results.now) }
-    ensures small { OnOk result (AreSmall (encoding_by cx.old.core.now cx.old.options) (tuple_members (component_types cx.old.core.now) ty) results.now) }
-    ensures quiet { Quiet (have_block (tuple_members (component_types cx.old.core.now) ty)) (cx.new.core.now ≡ record cx.old.core.now { ledger = cx.new.core.now.ledger }) result }
-    ensures same_core { SameButHandles cx.old.core.now cx.new.core.now }
-    ensures same_reference { cx.new.core.ghost_name ≡ cx.old.core.ghost_name }
-    ensures same_options { cx.new.options ≡ cx.old.options }
+    requires tuple { HasTuple (component_types core.old) ty }
+    requires count { length results.now ≡ member_count (tuple_members (component_types core.old) ty) }
+    requires words { length dst.old ≡ members_flat (tuple_members (component_types core.old) ty) }
+    ensures lowered { PartsLower core.old core.new (all_passes (tuple_members (component_types core.old) ty) results.now)
+        (λ hs. LowersMembers false (stage_of G.seen G.moves core.old) (stage_of G.seen G.moves core.new) (host_texts (encoding_by core.old options))
+        (tuple_members (component_types core.old) ty) dst.new 0 (HaveTrees (tuple_members (component_types core.old) ty) results.now) hs (ending_of result)) result }
+    ensures cause { IfErr result (BlamesMembers (encoding_by core.old options) (tuple_members (component_types core.old) ty) results.now) }
+    ensures small { OnOk result (AreSmall (encoding_by core.old options) (tuple_members (component_types core.old) ty) results.now) }
+    ensures quiet { Quiet (have_block (tuple_members (component_types core.old) ty)) (core.new ≡ record core.old { ledger = core.new.ledger }) result }
+    ensures same_core { SameButHandles core.old core.new }
 {
-    let _memory = cx.core.memory(); // memory has at most 2^32 bytes
+    let _memory = core.memory(); // memory has at most 2^32 bytes
     let members = Members::Places(ty, results);
-    match lower_parts(cx, &members, dst, 0, Spot { word: 0, place: 0 }) {
+    match lower_parts(core, options, &members, dst, 0, Spot { word: 0, place: 0 }) {
         Ok(_) => Ok(()),
         Err(fault) => Err(fault),
     }
@@ -98,27 +96,33 @@ pub fn lower_results_near<T, G: Guest>(
 /// Lowers a value into words from a spot on, and answers where the next one stands.
 #[cycle(lower)]
 pub fn lower_value<T, G: Guest>(
-    cx: &mut LowerContext<'_, T, G>,
+    core: &mut Core<T, G>,
+    options: OptionsIndex,
     value: &Val,
     ty: InterfaceType,
     dst: &mut [ValRaw],
     from: Spot,
 ) -> Result<Spot, Fault>
-    requires known { Knows (component_types cx.old.core.now) ty }
-    requires small { length cx.old.core.now.memory ≤ 2 ^ 32 }
-    requires room { from.word + flat (shape_of (component_types cx.old.core.now) ty) ≤ length dst.old }
-    ensures lowers { LowersTo G.seen G.moves cx.old.options cx.old.core.now cx.new.core.now dst.old dst.new from result (shape_of (component_types cx.old.core.now) ty) value.now }
-    ensures same_reference { cx.new.core.ghost_name ≡ cx.old.core.ghost_name }
-    ensures same_options { cx.new.options ≡ cx.old.options }
+    requires known { Knows (component_types core.old) ty }
+    requires small { length core.old.memory ≤ 2 ^ 32 }
+    requires room { from.word + flat (shape_of (component_types core.old) ty) ≤ length dst.old }
+    ensures lowers { LowersTo G.seen G.moves options core.old core.new dst.old dst.new from result (shape_of (component_types core.old) ty) value.now }
 {
-    match view_of(cx.types(), &ty, value, from.place) {
-        Ok(View::Scalar(word)) => Ok(lower_word(cx, word, value, ty, dst, from)),
-        Ok(View::Text(text)) => lower_text(cx, text, dst, from),
-        Ok(View::Handle(handle, resource)) => lower_handle(cx, handle, resource, dst, from),
-        Ok(View::List(list)) => lower_list(cx, &list, dst, from),
-        Ok(View::Members(members)) => lower_parts(cx, &members, dst, from.place, from.inside()),
-        Ok(View::Case(case)) => lower_case(cx, &case, value, &ty, dst, from),
-        Ok(View::Flags(names)) => lower_names(cx, names, &ty, dst, from),
+    match view_of(core.types(), &ty, value, from.place) {
+        Ok(View::Scalar(word)) => Ok(lower_word(core, word, value, ty, dst, from)),
+        Ok(View::Text(text)) => lower_text(core, options, text, dst, from),
+        Ok(View::Handle(handle, resource)) => lower_handle(core, handle, resource, dst, from),
+        Ok(View::List(list)) => lower_list(core, options, &list, dst, from),
+        Ok(View::Members(members)) => lower_parts(
+            core,
+            options,
+            &members,
+            dst,
+            from.place,
+            from.inside(),
+        ),
+        Ok(View::Case(case)) => lower_case(core, options, &case, value, &ty, dst, from),
+        Ok(View::Flags(names)) => lower_names(core, names, &ty, dst, from),
         Err(fault) => Err(fault),
     }
 }
@@ -126,28 +130,27 @@ pub fn lower_value<T, G: Guest>(
 /// Lowers the members of a value that has this place, from a spot on. The name of each is tested just before it.
 #[cycle(lower)]
 fn lower_parts<T, G: Guest>(
-    cx: &mut LowerContext<'_, T, G>,
+    core: &mut Core<T, G>,
+    options: OptionsIndex,
     members: &Members<'_>,
     dst: &mut [ValRaw],
     place: u64,
     first: Spot,
 ) -> Result<Spot, Fault>
-    requires known { HaveKnownTypes (component_types cx.old.core.now) members.now }
-    requires count { length (viewed_values members.now) ≡ member_count (viewed_shapes (component_types cx.old.core.now) members.now) }
-    requires small { length cx.old.core.now.memory ≤ 2 ^ 32 }
-    requires room { first.word + members_flat (viewed_shapes (component_types cx.old.core.now) members.now) ≤ length dst.old }
-    ensures lowers { PartsLowerTo G.seen G.moves cx.old.options cx.old.core.now cx.new.core.now dst.old dst.new first result place
-        (viewed_shapes (component_types cx.old.core.now) members.now) (viewed_names members.now) (viewed_values members.now) }
-    ensures same_reference { cx.new.core.ghost_name ≡ cx.old.core.ghost_name }
-    ensures same_options { cx.new.options ≡ cx.old.options }
+    requires known { HaveKnownTypes (component_types core.old) members.now }
+    requires count { length (viewed_values members.now) ≡ member_count (viewed_shapes (component_types core.old) members.now) }
+    requires small { length core.old.memory ≤ 2 ^ 32 }
+    requires room { first.word + members_flat (viewed_shapes (component_types core.old) members.now) ≤ length dst.old }
+    ensures lowers { PartsLowerTo G.seen G.moves options core.old core.new dst.old dst.new first result place
+        (viewed_shapes (component_types core.old) members.now) (viewed_names members.now) (viewed_values members.now) }
 {
     let mut next = first;
     for k in 0..count_of(members) {
-        let member = member_of(cx.types(), members, k);
+        let member = member_of(core.types(), members, k);
         if !member.is_named {
             return Err(Fault::FieldName(place));
         }
-        match lower_value(cx, member.value, member.ty, dst, next) {
+        match lower_value(core, options, member.value, member.ty, dst, next) {
             Ok(after) => next = after,
             Err(fault) => return Err(fault),
         }
@@ -158,25 +161,31 @@ fn lower_parts<T, G: Guest>(
 /// Lowers a case: its number, the words of its payload, and zeros up to the words of the type.
 #[cycle(lower)]
 fn lower_case<T, G: Guest>(
-    cx: &mut LowerContext<'_, T, G>,
+    core: &mut Core<T, G>,
+    options: OptionsIndex,
     case: &Case<'_>,
     value: &Val,
     ty: &InterfaceType,
     dst: &mut [ValRaw],
     from: Spot,
 ) -> Result<Spot, Fault>
-    requires known { Knows (component_types cx.old.core.now) ty.now }
-    requires seen { IsCaseSeen (component_types cx.old.core.now) (shape_of (component_types cx.old.core.now) ty.now) value.now case.now }
-    requires small { length cx.old.core.now.memory ≤ 2 ^ 32 }
-    requires room { from.word + flat (shape_of (component_types cx.old.core.now) ty.now) ≤ length dst.old }
-    ensures lowers { LowersTo G.seen G.moves cx.old.options cx.old.core.now cx.new.core.now dst.old dst.new from result (shape_of (component_types cx.old.core.now) ty.now) value.now }
-    ensures same_reference { cx.new.core.ghost_name ≡ cx.old.core.ghost_name }
-    ensures same_options { cx.new.options ≡ cx.old.options }
+    requires known { Knows (component_types core.old) ty.now }
+    requires seen { IsCaseSeen (component_types core.old) (shape_of (component_types core.old) ty.now) value.now case.now }
+    requires small { length core.old.memory ≤ 2 ^ 32 }
+    requires room { from.word + flat (shape_of (component_types core.old) ty.now) ≤ length dst.old }
+    ensures lowers { LowersTo G.seen G.moves options core.old core.new dst.old dst.new from result (shape_of (component_types core.old) ty.now) value.now }
 {
     let _ = value;
-    let end = word_after(cx.types(), ty, from, dst.len());
+    let end = word_after(core.types(), ty, from, dst.len());
     dst[from.word] = ValRaw::u32(case.tag);
-    match lower_parts(cx, &case.payload, dst, from.place, from.behind_tag()) {
+    match lower_parts(
+        core,
+        options,
+        &case.payload,
+        dst,
+        from.place,
+        from.behind_tag(),
+    ) {
         Ok(past) => Ok(clear_to(dst, past, end)),
         Err(fault) => Err(fault),
     }
@@ -208,7 +217,7 @@ fn clear_to(dst: &mut [ValRaw], from: Spot, end: usize) -> Spot
 }
 
 fn lower_word<T, G: Guest>(
-    cx: &mut LowerContext<'_, T, G>,
+    core: &Core<T, G>,
     word: u64,
     value: &Val,
     ty: InterfaceType,
@@ -216,11 +225,9 @@ fn lower_word<T, G: Guest>(
     from: Spot,
 ) -> Spot
     requires word { IsWordOf ty value.now word }
-    requires small { length cx.old.core.now.memory ≤ 2 ^ 32 }
-    requires room { from.word + flat (shape_of (component_types cx.old.core.now) ty) ≤ length dst.old }
-    ensures lowers { LowersTo G.seen G.moves cx.old.options cx.old.core.now cx.new.core.now dst.old dst.new from (Ok result) (shape_of (component_types cx.old.core.now) ty) value.now }
-    ensures same_reference { cx.new.core.ghost_name ≡ cx.old.core.ghost_name }
-    ensures same_options { cx.new.options ≡ cx.old.options }
+    requires small { length core.now.memory ≤ 2 ^ 32 }
+    requires room { from.word + flat (shape_of (component_types core.now) ty) ≤ length dst.old }
+    ensures lowers { (options : ℕ) → LowersTo G.seen G.moves options core.now core.now dst.old dst.new from (Ok result) (shape_of (component_types core.now) ty) value.now }
 {
     let _ = value;
     dst[from.word] = ValRaw::u64(word);
@@ -232,20 +239,18 @@ fn lower_word<T, G: Guest>(
 
 /// Lowers the handle that the guest is given for a resource.
 fn lower_handle<T, G: Guest>(
-    cx: &mut LowerContext<'_, T, G>,
+    core: &mut Core<T, G>,
     handle: HandleType,
     resource: ResourceAny,
     dst: &mut [ValRaw],
     from: Spot,
 ) -> Result<Spot, Fault>
-    requires known { Knows (component_types cx.old.core.now) (type_of_handle handle) }
-    requires small { length cx.old.core.now.memory ≤ 2 ^ 32 }
+    requires known { Knows (component_types core.old) (type_of_handle handle) }
+    requires small { length core.old.memory ≤ 2 ^ 32 }
     requires room { from.word + 1 ≤ length dst.old }
-    ensures lowers { LowersTo G.seen G.moves cx.old.options cx.old.core.now cx.new.core.now dst.old dst.new from result (shape_of_handle handle) (val.Resource resource) }
-    ensures same_reference { cx.new.core.ghost_name ≡ cx.old.core.ghost_name }
-    ensures same_options { cx.new.options ≡ cx.old.options }
+    ensures lowers { (options : ℕ) → LowersTo G.seen G.moves options core.old core.new dst.old dst.new from result (shape_of_handle handle) (val.Resource resource) }
 {
-    match give_handle(cx, handle, resource) {
+    match give_handle(core, handle, resource) {
         Ok(number) => {
             dst[from.word] = ValRaw::u32(number);
             Ok(Spot {
@@ -258,37 +263,35 @@ fn lower_handle<T, G: Guest>(
 }
 
 fn lower_text<T, G: Guest>(
-    cx: &mut LowerContext<'_, T, G>,
+    core: &mut Core<T, G>,
+    options: OptionsIndex,
     text: &String,
     dst: &mut [ValRaw],
     from: Spot,
 ) -> Result<Spot, Fault>
-    requires small { length cx.old.core.now.memory ≤ 2 ^ 32 }
+    requires small { length core.old.memory ≤ 2 ^ 32 }
     requires room { from.word + 2 ≤ length dst.old }
-    ensures lowers { LowersTo G.seen G.moves cx.old.options cx.old.core.now cx.new.core.now dst.old dst.new from result string (val.String text.now) }
-    ensures same_reference { cx.new.core.ghost_name ≡ cx.old.core.ghost_name }
-    ensures same_options { cx.new.options ≡ cx.old.options }
+    ensures lowers { LowersTo G.seen G.moves options core.old core.new dst.old dst.new from result string (val.String text.now) }
 {
-    match place_text(cx, text, from.place) {
+    match place_text(core, options, text, from.place) {
         Ok(block) => Ok(put_words(dst, from, block)),
         Err(fault) => Err(fault),
     }
 }
 
 fn lower_list<T, G: Guest>(
-    cx: &mut LowerContext<'_, T, G>,
+    core: &mut Core<T, G>,
+    options: OptionsIndex,
     list: &Elements<'_>,
     dst: &mut [ValRaw],
     from: Spot,
 ) -> Result<Spot, Fault>
-    requires known { IsKnown (component_types cx.old.core.now) (element_in list.now) }
-    requires small { length cx.old.core.now.memory ≤ 2 ^ 32 }
+    requires known { IsKnown (component_types core.old) (element_in list.now) }
+    requires small { length core.old.memory ≤ 2 ^ 32 }
     requires room { from.word + 2 ≤ length dst.old }
-    ensures lowers { LowersTo G.seen G.moves cx.old.options cx.old.core.now cx.new.core.now dst.old dst.new from result (list_shape (component_types cx.old.core.now) (element_in list.now)) (list_value list.now) }
-    ensures same_reference { cx.new.core.ghost_name ≡ cx.old.core.ghost_name }
-    ensures same_options { cx.new.options ≡ cx.old.options }
+    ensures lowers { LowersTo G.seen G.moves options core.old core.new dst.old dst.new from result (list_shape (component_types core.old) (element_in list.now)) (list_value list.now) }
 {
-    match place_list(cx, list, from.place) {
+    match place_list(core, options, list, from.place) {
         Ok(block) => Ok(put_words(dst, from, block)),
         Err(fault) => Err(fault),
     }

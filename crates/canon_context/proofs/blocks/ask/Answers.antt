@@ -2,14 +2,16 @@ use Rattle.canon_memory.specs.Realloc.{call}
 use Rattle.canon_context.proofs.Moves.{GuestLaws, asked_by}
 use Rattle.canon_context.proofs.blocks.ask.Goals as goal
 
-pub returns-clause-asked : goal.returns-clause-asked
-returns-clause-asked g c =
+pub returns : goal.returns
+returns g c =
     let a = c.args in
-    let core = a.cx.now.core.now in
-    let asked = c.realloc.new.self.core.now in
+    let core = a.core.now in
+    let asked = c.realloc.new.self in
     let L : GuestLaws _ = record { seen = g.G.Guest.seen; moves = g.G.Guest.moves; stays = g.met.G.Guest.stays; goes_on = g.met.G.Guest.goes_on } in
     record {
-      does = asked_by L core asked (call 0 0 a.align a.size) c.realloc.result c.realloc.ensures.does c.realloc.ensures.moves;
-      same = c.realloc.ensures.same;
-      small = c.realloc.ensures.small;
+      asked = record {
+        does = asked_by L core asked (call 0 0 a.align a.size) c.realloc.result c.realloc.ensures.does c.realloc.ensures.moves;
+        same = c.realloc.ensures.same;
+        small = c.realloc.ensures.small;
+      };
     }

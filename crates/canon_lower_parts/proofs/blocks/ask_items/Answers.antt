@@ -9,5 +9,5 @@ returns-in_default-clause-asked g c s layout =
 pub returns-clause-asked : goal.returns-clause-asked
 returns-clause-asked g c s layout =
     let abi = c.args.abi.now in
-    asked_items g.G.Guest.seen g.G.Guest.moves c.args.cx.now.core.now c.ask.new.cx.core.now s c.args.count c.in-Some.bytes abi.size32 abi.align32 c.ask.result (layout.size false)
+    asked_items g.G.Guest.seen g.G.Guest.moves c.args.cx.now.core.now c.ask.new.core s c.args.count c.in-Some.bytes abi.size32 abi.align32 c.ask.result (layout.size false)
     (layout.align false) c.in-Some.ensures.some c.ask.ensures.asked

@@ -10,12 +10,12 @@ use Rattle.canon_context.specs.Asks.{AsksFor}
 use Rattle.canon_passing.proofs.Far.{tuple_call, tuple_shape_of_now}
 use Rattle.canon_passing.proofs.tuple.ask_tuple.Goals as goal
 
-pub returns-clause-asked : goal.returns-clause-asked
-returns-clause-asked g c =
+pub returns : goal.returns
+returns g c =
     let a = c.args in
-    let t = component_types a.cx.now.core.now in
+    let t = component_types a.core.now in
     let ms = tuple_members t a.ty in
     let shape : shape_of c.types.result.now (ty.Tuple a.ty) ≡ product of_places ms = tuple_shape_of_now t c.types.result.now a.ty c.tuple.result.now.types.items c.types.ensures c.tuple.ensures.entry c.tuple.ensures.types in
     let same : call 0 0 c.tuple.result.now.abi.align32 c.from.result ≡ args_call false ms =
     ap (λ (n : ℕ). call 0 0 c.tuple.result.now.abi.align32 n) c.from.ensures ∙ tuple_call (shape_of c.types.result.now (ty.Tuple a.ty)) ms c.tuple.result.now.abi shape c.tuple.ensures.abi in
-    subst (λ (x : Call). AsksFor g.G.Guest.seen g.G.Guest.moves a.cx.now.core.now c.ask.new.cx.core.now x c.ask.result) same c.ask.ensures.asked
+    record { asked = subst (λ (x : Call). AsksFor g.G.Guest.seen g.G.Guest.moves a.core.now c.ask.new.core x c.ask.result) same c.ask.ensures.asked }

@@ -20,8 +20,8 @@ returns-in-Err-clause-lowered g c =
     let by = c.lower_results_by_size in
     let ms = tuple_members (component_types core) a.ty in
     let h = c.in-Err.ensures.lowered in
-    crossed core.component.types (have_handle ms) (all_passes ms a.results.now) (no_row_passes ms a.results.now) core.ledger by.new.cx.core.now.ledger c.in-Err.fault h.passed
-    (λ hs ending. LowersResults (stage_of g.G.Guest.seen g.G.Guest.moves core) (stage_of g.G.Guest.seen g.G.Guest.moves by.new.cx.core.now) (encoding_by core a.cx.now.options) ms (HaveTrees ms a.results.now) a.at by.new.dst hs ending)
+    crossed core.component.types (have_handle ms) (all_passes ms a.results.now) (no_row_passes ms a.results.now) core.ledger by.new.core.ledger c.in-Err.fault h.passed
+    (λ hs ending. LowersResults (stage_of g.G.Guest.seen g.G.Guest.moves core) (stage_of g.G.Guest.seen g.G.Guest.moves by.new.core) (encoding_by core a.cx.now.options) ms (HaveTrees ms a.results.now) a.at by.new.dst hs ending)
     h.handles c.told.result c.told.ensures h.lowered
 
 pub returns-in-Err-clause-cause : goal.returns-in-Err-clause-cause
@@ -42,7 +42,7 @@ returns-in-Err-clause-quiet g c =
     let core = a.cx.now.core.now in
     let ms = tuple_members (component_types core) a.ty in
     let h = c.in-Err.ensures in
-    quiet_but core.component.types (have_handle ms) (all_passes ms a.results.now) (no_row_passes ms a.results.now) core.ledger c.lower_results_by_size.new.cx.core.now.ledger c.in-Err.fault h.lowered.passed (have_block ms) _
+    quiet_but core.component.types (have_handle ms) (all_passes ms a.results.now) (no_row_passes ms a.results.now) core.ledger c.lower_results_by_size.new.core.ledger c.in-Err.fault h.lowered.passed (have_block ms) _
     c.told.result c.told.ensures h.quiet
 
 pub returns-in-Err-clause-quiet_near : goal.returns-in-Err-clause-quiet_near
@@ -51,5 +51,5 @@ returns-in-Err-clause-quiet_near g c =
     let core = a.cx.now.core.now in
     let ms = tuple_members (component_types core) a.ty in
     let h = c.in-Err.ensures in
-    λ near. quiet_but core.component.types (have_handle ms) (all_passes ms a.results.now) (no_row_passes ms a.results.now) core.ledger c.lower_results_by_size.new.cx.core.now.ledger c.in-Err.fault h.lowered.passed (have_block ms) _
+    λ near. quiet_but core.component.types (have_handle ms) (all_passes ms a.results.now) (no_row_passes ms a.results.now) core.ledger c.lower_results_by_size.new.core.ledger c.in-Err.fault h.lowered.passed (have_block ms) _
     c.told.result c.told.ensures (h.quiet_near near)

@@ -9,8 +9,8 @@ use Rattle.canon_value.proofs.given.lower_results_by_size.Given.{Over}
 use Rattle.canon_value.proofs.given.lower_results_by_size.Goals.{After-tuple}
 use Rattle.canon_value.proofs.given.lower_results_by_size.Goals as goal
 
-shape : (g : Over) (c : After-tuple g) → shape_of c.types.result.now (ty.Tuple c.args.ty) ≡ product of_places (tuple_members (component_types c.args.cx.now.core.now) c.args.ty)
-shape g c = tuple_shape_of_now (component_types c.args.cx.now.core.now) c.types.result.now c.args.ty c.tuple.result.now.types.items c.types.ensures c.tuple.ensures.entry c.tuple.ensures.types
+shape : (g : Over) (c : After-tuple g) → shape_of c.types.result.now (ty.Tuple c.args.ty) ≡ product of_places (tuple_members (component_types c.args.core.now) c.args.ty)
+shape g c = tuple_shape_of_now (component_types c.args.core.now) c.types.result.now c.args.ty c.tuple.result.now.types.items c.types.ensures c.tuple.ensures.entry c.tuple.ensures.types
 
 pub lower_results_near-requires-clause-words : goal.lower_results_near-requires-clause-words
 lower_results_near-requires-clause-words g c =

@@ -3,7 +3,6 @@ use Rattle.std.proofs.lemmas.Bool.{leb-false, leb-true}
 use Rattle.std.proofs.lemmas.List.{get_or_default}
 use Rattle.std.specs.Prelude.{slice_index}
 use Rattle.canon_context.specs.Core.{component_types}
-use Rattle.canon_context.specs.declared.component.Component.{Component}
 use Rattle.canon_model.specs.Layout.{members_align, size}
 use Rattle.canon_model.specs.Memory.{low}
 use Rattle.canon_model.specs.Shape.{of_places, product}
@@ -16,7 +15,7 @@ use Rattle.canon_value.proofs.given.results_area.Goals as goal
 
 shape : (g : Over) (c : After-from g) → shape_of c.types.result.now (ty.Tuple c.args.ty) ≡ product of_places (tuple_members (component_types c.args.core.now) c.args.ty)
 shape g c = tuple_shape_of_now (component_types c.args.core.now) c.types.result.now c.args.ty c.tuple-tuple.result.now.types.items
-    (c.types.ensures ∙ ap (λ (x : Component). x.types.types) c.component.ensures.component) c.tuple-tuple.ensures.entry c.tuple-tuple.ensures.types
+    c.types.ensures c.tuple-tuple.ensures.entry c.tuple-tuple.ensures.types
 
 -- what the word says, and the tuple's numbers
 record IsRead (g : Over) (c : After-from g) : Type 0 where

@@ -12,45 +12,45 @@ use Rattle.canon_value.proofs.given.store_results.Goals as goal
 
 pub store_parts-requires-clause-room : goal.store_parts-requires-clause-room
 unfolding size
-store_parts-requires-clause-room g c = omega (arith, c.requires.room, members_end-le-size false of_places (tuple_members (component_types c.args.cx.now.core.now) c.args.ty))
+store_parts-requires-clause-room g c = omega (arith, c.requires.room, members_end-le-size false of_places (tuple_members (component_types c.args.core.now) c.args.ty))
 
 pub returns-in-Ok-clause-stored : goal.returns-in-Ok-clause-stored
 returns-in-Ok-clause-stored g c =
     let a = c.args in
-    let core = a.cx.now.core.now in
+    let core = a.core.now in
     let ms = tuple_members (component_types core) a.ty in
     let vs = a.results.now in
     let low = c.in-Ok.ensures.stores in
     record {
       handles = low.handles;
-      lowered = stored_as (encoding_by core a.cx.now.options) ms (MemberNamed ms (no_names vs) vs) (HaveTrees ms vs) (λ ts have. have.1) (λ ts have. (tuple_names (component_types core) a.ty vs c.requires.count, have))
-          (stage_of g.G.Guest.seen g.G.Guest.moves core) (stage_of g.G.Guest.seen g.G.Guest.moves c.store_parts.new.cx.core.now) a.at _ low.storing;
+      lowered = stored_as (encoding_by core a.options) ms (MemberNamed ms (no_names vs) vs) (HaveTrees ms vs) (λ ts have. have.1) (λ ts have. (tuple_names (component_types core) a.ty vs c.requires.count, have))
+          (stage_of g.G.Guest.seen g.G.Guest.moves core) (stage_of g.G.Guest.seen g.G.Guest.moves c.store_parts.new.core) a.at _ low.storing;
       passed = low.handed;
     }
 
 pub returns-in-Err-clause-stored : goal.returns-in-Err-clause-stored
 returns-in-Err-clause-stored g c =
     let a = c.args in
-    let core = a.cx.now.core.now in
+    let core = a.core.now in
     let ms = tuple_members (component_types core) a.ty in
     let vs = a.results.now in
     let low = c.in-Err.ensures.stores in
     record {
       handles = low.handles;
-      lowered = stored_as (encoding_by core a.cx.now.options) ms (MemberNamed ms (no_names vs) vs) (HaveTrees ms vs) (λ ts have. have.1) (λ ts have. (tuple_names (component_types core) a.ty vs c.requires.count, have))
-          (stage_of g.G.Guest.seen g.G.Guest.moves core) (stage_of g.G.Guest.seen g.G.Guest.moves c.store_parts.new.cx.core.now) a.at _ low.storing;
+      lowered = stored_as (encoding_by core a.options) ms (MemberNamed ms (no_names vs) vs) (HaveTrees ms vs) (λ ts have. have.1) (λ ts have. (tuple_names (component_types core) a.ty vs c.requires.count, have))
+          (stage_of g.G.Guest.seen g.G.Guest.moves core) (stage_of g.G.Guest.seen g.G.Guest.moves c.store_parts.new.core) a.at _ low.storing;
       passed = low.handed;
     }
 
 pub returns-in-Err-clause-cause : goal.returns-in-Err-clause-cause
 returns-in-Err-clause-cause g c =
     let a = c.args in
-    let t = component_types a.cx.now.core.now in
-    value_count_members (encoding_by a.cx.now.core.now a.cx.now.options) 0 (tuple_members t a.ty) (no_names a.results.now) a.results.now 0 (Err c.in-Err.fault)
+    let t = component_types a.core.now in
+    value_count_members (encoding_by a.core.now a.options) 0 (tuple_members t a.ty) (no_names a.results.now) a.results.now 0 (Err c.in-Err.fault)
     (tuple_names t a.ty a.results.now c.requires.count) c.in-Err.ensures.stores.counted
 
 pub returns-in-Ok-clause-small : goal.returns-in-Ok-clause-small
 returns-in-Ok-clause-small g c =
     let a = c.args in
-    let t = component_types a.cx.now.core.now in
-    (value_count_members (encoding_by a.cx.now.core.now a.cx.now.options) 0 (tuple_members t a.ty) (no_names a.results.now) a.results.now 0 (Ok _) (tuple_names t a.ty a.results.now c.requires.count) c.in-Ok.ensures.stores.counted).1
+    let t = component_types a.core.now in
+    (value_count_members (encoding_by a.core.now a.options) 0 (tuple_members t a.ty) (no_names a.results.now) a.results.now 0 (Ok _) (tuple_names t a.ty a.results.now c.requires.count) c.in-Ok.ensures.stores.counted).1

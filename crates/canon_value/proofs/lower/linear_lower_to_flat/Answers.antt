@@ -18,7 +18,7 @@ pub returns-in-Err-clause-lowered : goal.returns-in-Err-clause-lowered
 returns-in-Err-clause-lowered g c =
     let a = c.args in
     let core = a.cx.now.core.now in
-    let now = c.lower_value.new.cx.core.now in
+    let now = c.lower_value.new.core in
     let s = shape_of (component_types core) a.ty in
     let h = c.in-Err.ensures.lowers in
     crossed core.component.types (has_handle s) (passes a.value.now s) (no_passes s a.value.now) core.ledger now.ledger c.in-Err.fault h.handed
@@ -35,7 +35,7 @@ pub returns-in-Err-clause-quiet : goal.returns-in-Err-clause-quiet
 returns-in-Err-clause-quiet g c =
     let a = c.args in
     let core = a.cx.now.core.now in
-    let now = c.lower_value.new.cx.core.now in
+    let now = c.lower_value.new.core in
     let s = shape_of (component_types core) a.ty in
     let h = c.in-Err.ensures.lowers in
     quiet_but core.component.types (has_handle s) (passes a.value.now s) (no_passes s a.value.now) core.ledger now.ledger c.in-Err.fault h.handed (has_block s) _ c.told.result c.told.ensures h.quiet

@@ -18,7 +18,7 @@ pub returns-in-Err-clause-stored : goal.returns-in-Err-clause-stored
 returns-in-Err-clause-stored g c =
     let a = c.args in
     let core = a.cx.now.core.now in
-    let now = c.store_value.new.cx.core.now in
+    let now = c.store_value.new.core in
     let s = shape_of (component_types core) a.ty in
     let h = c.in-Err.ensures.stores in
     crossed core.component.types (has_handle s) (passes a.value.now s) (no_passes s a.value.now) core.ledger now.ledger c.in-Err.fault h.handed
@@ -35,7 +35,7 @@ pub returns-in-Err-clause-quiet : goal.returns-in-Err-clause-quiet
 returns-in-Err-clause-quiet g c =
     let a = c.args in
     let core = a.cx.now.core.now in
-    let now = c.store_value.new.cx.core.now in
+    let now = c.store_value.new.core in
     let s = shape_of (component_types core) a.ty in
     let h = c.in-Err.ensures.stores in
     quiet_but core.component.types (has_handle s) (passes a.value.now s) (no_passes s a.value.now) core.ledger now.ledger c.in-Err.fault h.handed (has_block s) _ c.told.result c.told.ensures h.quiet

@@ -10,13 +10,13 @@ use Rattle.canon_context.specs.Asks.{AsksFor}
 use Rattle.canon_value_parts.proofs.Listing.{element_align}
 use Rattle.canon_value_parts.proofs.blocks.ask_items.Goals as goal
 
-pub returns-clause-asked : goal.returns-clause-asked
-returns-clause-asked g c =
+pub returns : goal.returns
+returns g c =
     let a = c.args in
-    let t = component_types a.cx.now.core.now in
+    let t = component_types a.core.now in
     let e = a.element.now in
     let s = element_shape (list_shape t e) in
     let align_is = element_align t c.types.result.now e e c.element_abi.result.now c.types.ensures refl c.element_abi.ensures in
     let same : call 0 0 c.element_abi.result.now.align32 a.bytes ≡ items_call false s a.length =
     ap (λ (n : ℕ). call 0 0 n a.bytes) align_is ∙ ap (λ (n : ℕ). call 0 0 (align false s) n) c.requires.whole in
-    subst (λ (x : Call). AsksFor g.G.Guest.seen g.G.Guest.moves a.cx.now.core.now c.ask.new.cx.core.now x c.ask.result) same c.ask.ensures.asked
+    record { asked = subst (λ (x : Call). AsksFor g.G.Guest.seen g.G.Guest.moves a.core.now c.ask.new.core x c.ask.result) same c.ask.ensures.asked }

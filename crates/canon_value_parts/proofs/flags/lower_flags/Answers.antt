@@ -17,22 +17,22 @@ put_flags-requires-clause-room g c =
     omega (arith, c.requires.room, words, flat_flags _ _ shape)
 
 pub returns-then-not-put_flags-clause-lowers : goal.returns-then-not-put_flags-clause-lowers
-returns-then-not-put_flags-clause-lowers g c =
+returns-then-not-put_flags-clause-lowers g c options =
     let a = c.args in
     let L : GuestLaws _ = record { seen = g.G.Guest.seen; moves = g.G.Guest.moves; stays = g.met.G.Guest.stays; goes_on = g.met.G.Guest.goes_on } in
     let t = c.types-types.result.now in
     let shape = ap (λ (x : TypeTable). shape_of x (ty.Flags a.i)) (sym c.types-types.ensures) ∙ flags_are t a.i c.flags.result.now c.flags.ensures.entry in
-    flags_not_lowered L a.cx.now.options a.cx.now.core.now (flag_names t a.i) a.set.now c.requires.small a.from.place a.dst.now c.put_flags.new.dst a.from refl c.put_flags.ensures.written.stays _ shape
+    flags_not_lowered L options a.core.now (flag_names t a.i) a.set.now c.requires.small a.from.place a.dst.now c.put_flags.new.dst a.from refl c.put_flags.ensures.written.stays _ shape
     (c.put_flags.ensures.unknown c.if-not-put_flags.true) (omega arith)
 
 pub returns-clause-lowers : goal.returns-clause-lowers
-returns-clause-lowers g c =
+returns-clause-lowers g c options =
     let a = c.args in
     let L : GuestLaws _ = record { seen = g.G.Guest.seen; moves = g.G.Guest.moves; stays = g.met.G.Guest.stays; goes_on = g.met.G.Guest.goes_on } in
     let t = c.types-types.result.now in
     let shape = ap (λ (x : TypeTable). shape_of x (ty.Flags a.i)) (sym c.types-types.ensures) ∙ flags_are t a.i c.flags.result.now c.flags.ensures.entry in
     let words = c.div_ceil-count.ensures ∙ flags_words_count t a.i c.flags.result.now c.len.result c.flags.ensures.entry c.len.ensures.len in
-    flags_lower L a.cx.now.options a.cx.now.core.now (flag_names t a.i) a.set.now c.requires.small a.from.place a.dst.now c.put_flags.new.dst a.from refl c.put_flags.ensures.written.stays _ shape _
+    flags_lower L options a.core.now (flag_names t a.i) a.set.now c.requires.small a.from.place a.dst.now c.put_flags.new.dst a.from refl c.put_flags.ensures.written.stays _ shape _
     (c.put_flags.ensures.put c.if-not-put_flags.false) (omega (arith, words))
     c.saturating_add.ensures
 

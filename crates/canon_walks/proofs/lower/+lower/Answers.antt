@@ -34,55 +34,53 @@ use Rattle.canon_walks.proofs.lower.+lower.Goals as goal
 
 -- the member by the table of the start
 here : (g : Over) (t0 : ℕ) (c : lower_parts-After-member_of-member g t0)
-    → IsMember (component_types c.args.cx.now.core.now) (viewed_shapes (component_types c.args.cx.now.core.now) c.args.members.now) (viewed_names c.args.members.now) (viewed_values c.args.members.now) c.loop-k.k c.member_of-member.result
+    → IsMember (component_types c.args.core.now) (viewed_shapes (component_types c.args.core.now) c.args.members.now) (viewed_names c.args.members.now) (viewed_values c.args.members.now) c.loop-k.k c.member_of-member.result
 here g t0 c =
     let ms = c.args.members.now in
     subst (λ (x : TypeTable). IsMember x (viewed_shapes x ms) (viewed_names ms) (viewed_values ms) c.loop-k.k c.member_of-member.result)
-    (c.types.ensures ∙ handles_types c.args.cx.now.core.now c.loop-k.cx.core.now c.loop-k.invariant.lowered.same) c.member_of-member.ensures
+    (c.types.ensures ∙ handles_types c.args.core.now c.loop-k.core c.loop-k.invariant.same) c.member_of-member.ensures
 
-pub lower_parts-returns-then-not-member-clause-lowers : goal.lower_parts-returns-then-not-member-clause-lowers
-lower_parts-returns-then-not-member-clause-lowers g t0 c =
+pub lower_parts-returns-then-not-member : goal.lower_parts-returns-then-not-member
+lower_parts-returns-then-not-member g t0 c =
     let L : GuestLaws _ = record { seen = g.G.Guest.seen; moves = g.G.Guest.moves; stays = g.met.G.Guest.stays; goes_on = g.met.G.Guest.goes_on } in
-    let is = here g t0 (goal.at.lower_parts-returns-then-not-member-clause-lowers g t0 c).After-member_of-member in
-    misnamed L _ _ _ _ _ _ _ _ _ _ _ _ c.loop-k.invariant.lowered c.member_of-member.result is (λ h. blocks_none _ h c.if-not-member.true)
+    let is = here g t0 (goal.at.lower_parts-returns-then-not-member g t0 c).After-member_of-member in
+    record { lowers = misnamed L _ _ _ _ _ _ _ _ _ _ _ _ c.loop-k.invariant c.member_of-member.result is (λ h. blocks_none _ h c.if-not-member.true) }
 
 pub lower_parts-lower_value-requires : goal.lower_parts-lower_value-requires
 lower_parts-lower_value-requires g t0 c =
-    let core = c.args.cx.now.core.now in
+    let core = c.args.core.now in
     let m = c.member_of-member.result in
     let L : GuestLaws _ = record { seen = g.G.Guest.seen; moves = g.G.Guest.moves; stays = g.met.G.Guest.stays; goes_on = g.met.G.Guest.goes_on } in
     let is = here g t0 (goal.at.lower_parts-lower_value-requires g t0 c).After-member_of-member in
-    let fit = has_room L _ _ _ _ _ _ _ _ _ _ _ _ c.loop-k.invariant.lowered m is in
+    let fit = has_room L _ _ _ _ _ _ _ _ _ _ _ _ c.loop-k.invariant m is in
     let shallow = member_shallow (viewed_shapes (component_types core) c.args.members.now) c.loop-k.k is.name (shape_of (component_types core) m.ty) _ is.shapes in
-    let same : depth (shape_of (component_types c.loop-k.cx.core.now) m.ty) ≡ depth (shape_of (component_types core) m.ty) =
-    ap (λ (x : TypeTable). depth (shape_of x m.ty)) (handles_types core c.loop-k.cx.core.now c.loop-k.invariant.lowered.same) in
-    let falls : 4 * depth (shape_of (component_types c.loop-k.cx.core.now) m.ty) < 4 * deepest (viewed_shapes (component_types core) c.args.members.now) + 1 = omega (arith, shallow, same) in
+    let same : depth (shape_of (component_types c.loop-k.core) m.ty) ≡ depth (shape_of (component_types core) m.ty) =
+    ap (λ (x : TypeTable). depth (shape_of x m.ty)) (handles_types core c.loop-k.core c.loop-k.invariant.same) in
+    let falls : 4 * depth (shape_of (component_types c.loop-k.core) m.ty) < 4 * deepest (viewed_shapes (component_types core) c.args.members.now) + 1 = omega (arith, shallow, same) in
     λ κs sub. (search (rules, the_lemmas, falls), (sub.0, (sub.1, (fit.known, (fit.small, fit.room)))))
 
-pub lower_parts-returns-in-Err-clause-lowers : goal.lower_parts-returns-in-Err-clause-lowers
-lower_parts-returns-in-Err-clause-lowers g t0 c =
+pub lower_parts-returns-in-Err : goal.lower_parts-returns-in-Err
+lower_parts-returns-in-Err g t0 c =
     let L : GuestLaws _ = record { seen = g.G.Guest.seen; moves = g.G.Guest.moves; stays = g.met.G.Guest.stays; goes_on = g.met.G.Guest.goes_on } in
-    let is = here g t0 (goal.at.lower_parts-returns-in-Err-clause-lowers g t0 c).After-member_of-member in
-    stop L _ _ _ _ _ _ _ _ _ _ _ _ c.loop-k.invariant.lowered c.member_of-member.result is c.lower_value.new.cx.core.now c.lower_value.new.dst c.loop-k.cx.options c.in-Err.fault
-    c.if-not-member.false c.loop-k.invariant.options c.in-Err.ensures.lowers
+    let is = here g t0 (goal.at.lower_parts-returns-in-Err g t0 c).After-member_of-member in
+    record {
+      lowers = stop L _ _ _ _ _ _ _ _ _ _ _ _ c.loop-k.invariant c.member_of-member.result is c.lower_value.new.core c.lower_value.new.dst c.in-Err.fault c.if-not-member.false
+          c.in-Err.ensures.lowers;
+    }
 
 pub lower_parts-loop-k-preserved : goal.lower_parts-loop-k-preserved
 lower_parts-loop-k-preserved g t0 c =
     let L : GuestLaws _ = record { seen = g.G.Guest.seen; moves = g.G.Guest.moves; stays = g.met.G.Guest.stays; goes_on = g.met.G.Guest.goes_on } in
     let is = here g t0 (goal.at.lower_parts-loop-k-preserved g t0 c).After-member_of-member in
-    record {
-      lowered = go_on L _ _ _ _ _ _ _ _ _ _ _ _ c.loop-k.invariant.lowered c.member_of-member.result is c.lower_value.new.cx.core.now c.lower_value.new.dst c.loop-k.cx.options c.in-Ok.after
-          c.if-not-member.false c.loop-k.invariant.options c.in-Ok.ensures.lowers;
-      options = c.in-Ok.ensures.same_options ∙ c.loop-k.invariant.options;
-      reference = c.in-Ok.ensures.same_reference ∙ c.loop-k.invariant.reference;
-    }
+    go_on L _ _ _ _ _ _ _ _ _ _ _ _ c.loop-k.invariant c.member_of-member.result is c.lower_value.new.core c.lower_value.new.dst c.in-Ok.after
+    c.if-not-member.false c.in-Ok.ensures.lowers
 
-pub lower_parts-returns-clause-lowers : goal.lower_parts-returns-clause-lowers
-lower_parts-returns-clause-lowers g t0 c =
+pub lower_parts-returns : goal.lower_parts-returns
+lower_parts-returns g t0 c =
     let ms = c.args.members.now in
     let L : GuestLaws _ = record { seen = g.G.Guest.seen; moves = g.G.Guest.moves; stays = g.met.G.Guest.stays; goes_on = g.met.G.Guest.goes_on } in
     let all : c.loop-k.k ≡ length (viewed_values ms) = omega (arith, c.loop-k-test.false, c.loop-k.auto.k-end, c.count_of-k-end.ensures) in
-    end L _ _ _ _ _ _ _ _ _ _ _ _ c.loop-k.invariant.lowered (all ∙ c.requires.count) (all ∙ sym (names_count ms)) all
+    record { lowers = end L _ _ _ _ _ _ _ _ _ _ _ _ c.loop-k.invariant (all ∙ c.requires.count) (all ∙ sym (names_count ms)) all }
 
 -- ---- a value
 
@@ -95,33 +93,35 @@ lower_value-lower_text-requires-clause-room g t0 c =
 pub lower_value-lower_handle-requires-clause-known : goal.lower_value-lower_handle-requires-clause-known
 lower_value-lower_handle-requires-clause-known g t0 c =
     let seen = rw c.in-Ok-Handle.field-0-is at (rw c.types.ensures at c.in-Ok-Handle.ensures) in
-    subst (λ (y : InterfaceType). Knows (component_types c.args.cx.now.core.now) y) seen.0 c.requires.known
+    subst (λ (y : InterfaceType). Knows (component_types c.args.core.now) y) seen.0 c.requires.known
 
 pub lower_value-lower_handle-requires-clause-room : goal.lower_value-lower_handle-requires-clause-room
 lower_value-lower_handle-requires-clause-room g t0 c =
     let seen = rw c.in-Ok-Handle.field-0-is at (rw c.types.ensures at c.in-Ok-Handle.ensures) in
     let h = c.in-Ok-Handle.handle in
-    omega (arith, c.requires.room, ap flat (handle_shape (component_types c.args.cx.now.core.now) c.args.ty h seen.0), handle_flat h.owned h.resource)
+    omega (arith, c.requires.room, ap flat (handle_shape (component_types c.args.core.now) c.args.ty h seen.0), handle_flat h.owned h.resource)
 
-pub lower_value-returns-in-Ok-Handle-clause-lowers : goal.lower_value-returns-in-Ok-Handle-clause-lowers
-lower_value-returns-in-Ok-Handle-clause-lowers g t0 c =
+pub lower_value-returns-in-Ok-Handle : goal.lower_value-returns-in-Ok-Handle
+lower_value-returns-in-Ok-Handle g t0 c =
     let a = c.args in
-    let core = a.cx.now.core.now in
+    let core = a.core.now in
     let h = c.in-Ok-Handle.handle in
     let low = c.lower_handle in
     let L : GuestLaws _ = record { seen = g.G.Guest.seen; moves = g.G.Guest.moves; stays = g.met.G.Guest.stays; goes_on = g.met.G.Guest.goes_on } in
     let seen = rw c.in-Ok-Handle.field-0-is at (rw c.types.ensures at c.in-Ok-Handle.ensures) in
-    subst (λ (v : Val). LowersTo L.seen L.moves a.cx.now.options core low.new.cx.core.now a.dst.now low.new.dst a.from low.result (shape_of (component_types core) a.ty) v) (sym seen.1)
-    (subst (λ (s : Shape). LowersTo L.seen L.moves a.cx.now.options core low.new.cx.core.now a.dst.now low.new.dst a.from low.result s (val.Resource c.in-Ok-Handle.resource)) (sym (handle_shape (component_types core) a.ty h seen.0)) low.ensures.lowers)
+    record {
+      lowers = subst (λ (v : Val). LowersTo L.seen L.moves a.options core low.new.core a.dst.now low.new.dst a.from low.result (shape_of (component_types core) a.ty) v) (sym seen.1)
+          (subst (λ (s : Shape). LowersTo L.seen L.moves a.options core low.new.core a.dst.now low.new.dst a.from low.result s (val.Resource c.in-Ok-Handle.resource)) (sym (handle_shape (component_types core) a.ty h seen.0)) (low.ensures.lowers a.options));
+    }
 
 pub lower_value-lower_list-requires-clause-room : goal.lower_value-lower_list-requires-clause-room
 lower_value-lower_list-requires-clause-room g t0 c =
     let (known, shape, is) = rw c.in-Ok-List.field-0-is at (rw c.types.ensures at c.in-Ok-List.ensures) in
-    omega (arith, c.requires.room, ap flat shape, (row (component_types c.args.cx.now.core.now) (element_in c.in-Ok-List.list) known 0).words)
+    omega (arith, c.requires.room, ap flat shape, (row (component_types c.args.core.now) (element_in c.in-Ok-List.list) known 0).words)
 
 pub lower_value-lower_parts-requires : goal.lower_value-lower_parts-requires
 lower_value-lower_parts-requires g t0 c =
-    let t = component_types c.args.cx.now.core.now in
+    let t = component_types c.args.core.now in
     let (known, lies, has, count) = rw c.in-Ok-Members.field-0-is at (rw c.types.ensures at c.in-Ok-Members.ensures) in
     let ms = viewed_shapes t c.in-Ok-Members.members in
     let s = shape_of t c.args.ty in
@@ -131,35 +131,37 @@ lower_value-lower_parts-requires g t0 c =
       (sub.0, (sub.1, (known, (count, (c.requires.small, omega (arith, c.requires.room, lies_words s ms lies, ap (λ (x : Spot). x.word) c.inside.ensures)))))),
     )
 
-pub lower_value-returns-in-Ok-Members-clause-lowers : goal.lower_value-returns-in-Ok-Members-clause-lowers
-lower_value-returns-in-Ok-Members-clause-lowers g t0 c =
+pub lower_value-returns-in-Ok-Members : goal.lower_value-returns-in-Ok-Members
+lower_value-returns-in-Ok-Members g t0 c =
     let a = c.args in
-    let core = a.cx.now.core.now in
+    let core = a.core.now in
     let t = component_types core in
     let L : GuestLaws _ = record { seen = g.G.Guest.seen; moves = g.G.Guest.moves; stays = g.met.G.Guest.stays; goes_on = g.met.G.Guest.goes_on } in
     let seen = rw c.in-Ok-Members.field-0-is at (rw c.types.ensures at c.in-Ok-Members.ensures) in
     let (known, lies, has, count) = seen in
     let ms = c.in-Ok-Members.members in
     let r = c.lower_parts in
-    members_lower L a.cx.now.options core r.new.cx.core.now a.dst.now r.new.dst a.from (shape_of t a.ty) (viewed_shapes t ms) (viewed_names ms) (viewed_values ms) a.value.now r.result
-    (omega arith) lies has count (members_passes t a.ty a.value.now ms seen)
-    (subst (λ (x : Spot). PartsLowerTo L.seen L.moves a.cx.now.options core r.new.cx.core.now a.dst.now r.new.dst x r.result a.from.place (viewed_shapes t ms) (viewed_names ms) (viewed_values ms)) c.inside.ensures r.ensures.lowers)
+    record {
+      lowers = members_lower L a.options core r.new.core a.dst.now r.new.dst a.from (shape_of t a.ty) (viewed_shapes t ms) (viewed_names ms) (viewed_values ms) a.value.now r.result
+          (omega arith) lies has count (members_passes t a.ty a.value.now ms seen)
+          (subst (λ (x : Spot). PartsLowerTo L.seen L.moves a.options core r.new.core a.dst.now r.new.dst x r.result a.from.place (viewed_shapes t ms) (viewed_names ms) (viewed_values ms)) c.inside.ensures r.ensures.lowers);
+    }
 
 pub lower_value-lower_case-requires : goal.lower_value-lower_case-requires
 lower_value-lower_case-requires g t0 c =
-    let t = component_types c.args.cx.now.core.now in
+    let t = component_types c.args.core.now in
     let seen = rw c.in-Ok-Case.field-0-is at (rw c.types.ensures at c.in-Ok-Case.ensures) in
     let wants = case_wants t (shape_of t c.args.ty) c.args.value.now c.in-Ok-Case.case 0 seen in
     let falls : 4 * deepest (viewed_shapes t c.in-Ok-Case.case.payload) + 2 < 4 * depth (shape_of t c.args.ty) = wants.falls in
     λ κs sub. (search (rules, the_lemmas, falls), (sub.0, (sub.1, (c.requires.known, (seen, (c.requires.small, c.requires.room))))))
 
-pub lower_value-returns-in-Err-clause-lowers : goal.lower_value-returns-in-Err-clause-lowers
-lower_value-returns-in-Err-clause-lowers g t0 c =
+pub lower_value-returns-in-Err : goal.lower_value-returns-in-Err
+lower_value-returns-in-Err g t0 c =
     let a = c.args in
-    let core = a.cx.now.core.now in
+    let core = a.core.now in
     let L : GuestLaws _ = record { seen = g.G.Guest.seen; moves = g.G.Guest.moves; stays = g.met.G.Guest.stays; goes_on = g.met.G.Guest.goes_on } in
     let (is, blames) = blames_itself (shape_of (component_types core) a.ty) a.value.now a.from.place (omega arith) c.in-Err.fault (rw c.types.ensures at c.in-Err.ensures) in
-    value_refused L a.cx.now.options core a.dst.now a.from (shape_of (component_types core) a.ty) a.value.now c.in-Err.fault c.requires.small is (blames (encoding_by core a.cx.now.options))
+    record { lowers = value_refused L a.options core a.dst.now a.from (shape_of (component_types core) a.ty) a.value.now c.in-Err.fault c.requires.small is (blames (encoding_by core a.options)) }
 
 -- ---- a case
 
@@ -170,7 +172,7 @@ lower_case-word_after-end-requires g t0 c = record {
 }
 
 pub lower_case-bounds-dst-from : goal.lower_case-bounds-dst-from
-lower_case-bounds-dst-from g t0 c = omega (arith, c.requires.room, value_case_room (component_types c.args.cx.now.core.now) (shape_of (component_types c.args.cx.now.core.now) c.args.ty.now) c.args.value.now c.args.case.now c.requires.seen)
+lower_case-bounds-dst-from g t0 c = omega (arith, c.requires.room, value_case_room (component_types c.args.core.now) (shape_of (component_types c.args.core.now) c.args.ty.now) c.args.value.now c.args.case.now c.requires.seen)
 
 pub lower_case-behind_tag-requires : goal.lower_case-behind_tag-requires
 lower_case-behind_tag-requires g t0 c =
@@ -179,13 +181,13 @@ lower_case-behind_tag-requires g t0 c =
       c.word_after-end.ensures,
       c.word_after-end.type_inv,
       ap (λ (x : TypeTable). flat (shape_of x c.args.ty.now)) c.types.ensures,
-      value_case_room (component_types c.args.cx.now.core.now)
-          (shape_of (component_types c.args.cx.now.core.now) c.args.ty.now) c.args.value.now c.args.case.now c.requires.seen,
+      value_case_room (component_types c.args.core.now)
+          (shape_of (component_types c.args.core.now) c.args.ty.now) c.args.value.now c.args.case.now c.requires.seen,
     )
 
 pub lower_case-lower_parts-requires : goal.lower_case-lower_parts-requires
 lower_case-lower_parts-requires g t0 c =
-    let t = component_types c.args.cx.now.core.now in
+    let t = component_types c.args.core.now in
     let s = shape_of t c.args.ty.now in
     let wants = case_wants t s c.args.value.now c.args.case.now 0 c.requires.seen in
     let room = value_case_room t s c.args.value.now c.args.case.now c.requires.seen in
@@ -206,7 +208,7 @@ lower_case-lower_parts-requires g t0 c =
 
 pub lower_case-clear_to-requires : goal.lower_case-clear_to-requires
 lower_case-clear_to-requires g t0 c =
-    let t = component_types c.args.cx.now.core.now in
+    let t = component_types c.args.core.now in
     let h = c.in-Ok.ensures.lowers in
     let words = ap (λ (x : TypeTable). flat (shape_of x c.args.ty.now)) c.types.ensures in
     record {
@@ -214,23 +216,27 @@ lower_case-clear_to-requires g t0 c =
       room = omega (arith, h.stays.same_length, length-set c.args.dst.now c.args.from.word c.u32.result, c.requires.room, c.word_after-end.ensures, words);
     }
 
-pub lower_case-returns-in-Ok-clause-lowers : goal.lower_case-returns-in-Ok-clause-lowers
-lower_case-returns-in-Ok-clause-lowers g t0 c =
+pub lower_case-returns-in-Ok : goal.lower_case-returns-in-Ok
+lower_case-returns-in-Ok g t0 c =
     let a = c.args in
-    let core = a.cx.now.core.now in
+    let core = a.core.now in
     let t = component_types core in
     let s = shape_of t a.ty.now in
     let L : GuestLaws _ = record { seen = g.G.Guest.seen; moves = g.G.Guest.moves; stays = g.met.G.Guest.stays; goes_on = g.met.G.Guest.goes_on } in
     let end : c.word_after-end.result ≡ a.from.word + flat s = c.word_after-end.ensures ∙ ap (λ (x : TypeTable). a.from.word + flat (shape_of x a.ty.now)) c.types.ensures in
-    case_lowered L a.cx.now.options t core c.lower_parts.new.cx.core.now a.dst.now (set a.dst.now a.from.word c.u32.result) c.lower_parts.new.dst a.from c.behind_tag.result s a.case.now a.value.now c.requires.seen
-    (ap (set a.dst.now a.from.word) c.u32.ensures) c.behind_tag.ensures (case_passes t a.ty.now a.value.now a.case.now c.requires.seen)
-    c.clear_to.new.dst c.in-Ok.past c.clear_to.result c.word_after-end.result c.requires.room end c.clear_to.ensures.clears c.clear_to.ensures.spot c.in-Ok.ensures.lowers
+    record {
+      lowers = case_lowered L a.options t core c.lower_parts.new.core a.dst.now (set a.dst.now a.from.word c.u32.result) c.lower_parts.new.dst a.from c.behind_tag.result s a.case.now a.value.now c.requires.seen
+          (ap (set a.dst.now a.from.word) c.u32.ensures) c.behind_tag.ensures (case_passes t a.ty.now a.value.now a.case.now c.requires.seen)
+          c.clear_to.new.dst c.in-Ok.past c.clear_to.result c.word_after-end.result c.requires.room end c.clear_to.ensures.clears c.clear_to.ensures.spot c.in-Ok.ensures.lowers;
+    }
 
-pub lower_case-returns-in-Err-clause-lowers : goal.lower_case-returns-in-Err-clause-lowers
-lower_case-returns-in-Err-clause-lowers g t0 c =
+pub lower_case-returns-in-Err : goal.lower_case-returns-in-Err
+lower_case-returns-in-Err g t0 c =
     let a = c.args in
-    let core = a.cx.now.core.now in
+    let core = a.core.now in
     let t = component_types core in
     let L : GuestLaws _ = record { seen = g.G.Guest.seen; moves = g.G.Guest.moves; stays = g.met.G.Guest.stays; goes_on = g.met.G.Guest.goes_on } in
-    case_stopped L a.cx.now.options t core c.lower_parts.new.cx.core.now a.dst.now (set a.dst.now a.from.word c.u32.result) c.lower_parts.new.dst a.from c.behind_tag.result (shape_of t a.ty.now) a.case.now a.value.now c.requires.seen
-    (ap (set a.dst.now a.from.word) c.u32.ensures) c.behind_tag.ensures (case_passes t a.ty.now a.value.now a.case.now c.requires.seen) c.in-Err.fault c.in-Err.ensures.lowers
+    record {
+      lowers = case_stopped L a.options t core c.lower_parts.new.core a.dst.now (set a.dst.now a.from.word c.u32.result) c.lower_parts.new.dst a.from c.behind_tag.result (shape_of t a.ty.now) a.case.now a.value.now c.requires.seen
+          (ap (set a.dst.now a.from.word) c.u32.ensures) c.behind_tag.ensures (case_passes t a.ty.now a.value.now a.case.now c.requires.seen) c.in-Err.fault c.in-Err.ensures.lowers;
+    }

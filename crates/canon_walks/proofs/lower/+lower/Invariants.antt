@@ -1,5 +1,5 @@
 -- A type is deeper than its members; between them stand its members, or its case.
-use Rattle.std.proofs.Common.{◌≡◌, ◌+◌, ◌*◌}
+use Rattle.std.proofs.Common.{◌+◌, ◌*◌}
 use Rattle.canon_types.specs.Depth.{deepest, depth}
 use Rattle.canon_types.specs.Table.{shape_of}
 use Rattle.canon_context.specs.Core.{component_types}
@@ -8,18 +8,14 @@ use Rattle.canon_value_parts.proofs.WordLoops.{PartsAreLowered}
 use Rattle.canon_walks.proofs.lower.+lower.Given as goal
 
 abbrev pub decreases-lower_value : goal.decreases-lower_value
-decreases-lower_value g l = 4 * depth (shape_of (component_types l.cx.now.core.now) l.ty)
+decreases-lower_value g l = 4 * depth (shape_of (component_types l.core.now) l.ty)
 
 abbrev pub decreases-lower_parts : goal.decreases-lower_parts
-decreases-lower_parts g l = 4 * deepest (viewed_shapes (component_types l.cx.now.core.now) l.members.now) + 1
+decreases-lower_parts g l = 4 * deepest (viewed_shapes (component_types l.core.now) l.members.now) + 1
 
 abbrev pub decreases-lower_case : goal.decreases-lower_case
-decreases-lower_case g l = 4 * deepest (viewed_shapes (component_types l.cx.now.core.now) l.case.now.payload) + 2
+decreases-lower_case g l = 4 * deepest (viewed_shapes (component_types l.core.now) l.case.now.payload) + 2
 
 abbrev pub invariant-lower_parts-loop-k : goal.invariant-lower_parts-loop-k
-invariant-lower_parts-loop-k g l = record {
-  lowered : PartsAreLowered g.G.Guest.seen g.G.Guest.moves l.fn.cx.options l.place (viewed_shapes (component_types l.fn.cx.core.now) l.members) (viewed_names l.members) (viewed_values l.members)
-      l.fn.cx.core.now l.fn.dst l.fn.first l.cx.core.now l.dst l.next l.k;
-  options : l.cx.options ≡ l.fn.cx.options;
-  reference : l.cx.core.ghost_name ≡ l.fn.cx.core.ghost_name;
-}
+invariant-lower_parts-loop-k g l = PartsAreLowered g.G.Guest.seen g.G.Guest.moves l.options l.place (viewed_shapes (component_types l.fn.core) l.members) (viewed_names l.members) (viewed_values l.members)
+    l.fn.core l.fn.dst l.fn.first l.core l.dst l.next l.k

@@ -15,8 +15,8 @@ returns-in-Ok-clause-lowered g c =
     let low = c.in-Ok.ensures.lowers in
     record {
       handles = low.handles;
-      lowered = near_lowered L a.cx.now.options a.cx.now.core.now c.lower_parts.new.cx.core.now a.dst.now c.lower_parts.new.dst _ a.args.now _
-          (tuple_names (component_types a.cx.now.core.now) a.ty a.args.now c.requires.count) _ refl low c.requires.near c.requires.words;
+      lowered = near_lowered L a.options a.core.now c.lower_parts.new.core a.dst.now c.lower_parts.new.dst _ a.args.now _
+          (tuple_names (component_types a.core.now) a.ty a.args.now c.requires.count) _ refl low c.requires.near c.requires.words;
       passed = low.handed;
     }
 
@@ -27,19 +27,19 @@ returns-in-Err-clause-lowered g c =
     let low = c.in-Err.ensures.lowers in
     record {
       handles = low.handles;
-      lowered = near_lowered L a.cx.now.options a.cx.now.core.now c.lower_parts.new.cx.core.now a.dst.now c.lower_parts.new.dst _ a.args.now (Err c.in-Err.fault)
-          (tuple_names (component_types a.cx.now.core.now) a.ty a.args.now c.requires.count) _ refl low c.requires.near c.requires.words;
+      lowered = near_lowered L a.options a.core.now c.lower_parts.new.core a.dst.now c.lower_parts.new.dst _ a.args.now (Err c.in-Err.fault)
+          (tuple_names (component_types a.core.now) a.ty a.args.now c.requires.count) _ refl low c.requires.near c.requires.words;
       passed = low.handed;
     }
 
 pub returns-in-Err-clause-cause : goal.returns-in-Err-clause-cause
 returns-in-Err-clause-cause g c =
     let a = c.args in
-    let t = component_types a.cx.now.core.now in
-    value_count_members (encoding_by a.cx.now.core.now a.cx.now.options) 0 (tuple_members t a.ty) (no_names a.args.now) a.args.now 0 (Err c.in-Err.fault) (tuple_names t a.ty a.args.now c.requires.count) c.in-Err.ensures.lowers.counted
+    let t = component_types a.core.now in
+    value_count_members (encoding_by a.core.now a.options) 0 (tuple_members t a.ty) (no_names a.args.now) a.args.now 0 (Err c.in-Err.fault) (tuple_names t a.ty a.args.now c.requires.count) c.in-Err.ensures.lowers.counted
 
 pub returns-in-Ok-clause-small : goal.returns-in-Ok-clause-small
 returns-in-Ok-clause-small g c =
     let a = c.args in
-    let t = component_types a.cx.now.core.now in
-    (value_count_members (encoding_by a.cx.now.core.now a.cx.now.options) 0 (tuple_members t a.ty) (no_names a.args.now) a.args.now 0 (Ok _) (tuple_names t a.ty a.args.now c.requires.count) c.in-Ok.ensures.lowers.counted).1
+    let t = component_types a.core.now in
+    (value_count_members (encoding_by a.core.now a.options) 0 (tuple_members t a.ty) (no_names a.args.now) a.args.now 0 (Ok _) (tuple_names t a.ty a.args.now c.requires.count) c.in-Ok.ensures.lowers.counted).1

@@ -8,17 +8,19 @@ use Rattle.canon_context.proofs.Moves.{GuestLaws}
 use Rattle.canon_value_parts.proofs.WordSteps.{placed_lowers, placed_refused}
 use Rattle.canon_walks.proofs.lower.lower_text.Goals as goal
 
-pub returns-in-Ok-clause-lowers : goal.returns-in-Ok-clause-lowers
+pub returns-in-Ok : goal.returns-in-Ok
 unfolding flat
-returns-in-Ok-clause-lowers g c =
+returns-in-Ok g c =
     let a = c.args in
     let put = c.put_words in
     let L : GuestLaws _ = record { seen = g.G.Guest.seen; moves = g.G.Guest.moves; stays = g.met.G.Guest.stays; goes_on = g.met.G.Guest.goes_on } in
-    subst (λ (to : Spot). LowersTo L.seen L.moves a.cx.now.options a.cx.now.core.now c.place_text.new.cx.core.now a.dst.now put.new.dst a.from (Ok to) string (val.String a.text.now)) (sym put.ensures.spot)
-    (placed_lowers L a.cx.now.options a.cx.now.core.now c.place_text.new.cx.core.now a.dst.now put.new.dst a.from string (val.String a.text.now) c.in-Ok.block refl refl put.ensures.stays put.ensures.there c.in-Ok.ensures.places)
+    record {
+      lowers = subst (λ (to : Spot). LowersTo L.seen L.moves a.options a.core.now c.place_text.new.core a.dst.now put.new.dst a.from (Ok to) string (val.String a.text.now)) (sym put.ensures.spot)
+          (placed_lowers L a.options a.core.now c.place_text.new.core a.dst.now put.new.dst a.from string (val.String a.text.now) c.in-Ok.block refl refl put.ensures.stays put.ensures.there c.in-Ok.ensures.places);
+    }
 
-pub returns-in-Err-clause-lowers : goal.returns-in-Err-clause-lowers
-returns-in-Err-clause-lowers g c =
+pub returns-in-Err : goal.returns-in-Err
+returns-in-Err g c =
     let a = c.args in
     let L : GuestLaws _ = record { seen = g.G.Guest.seen; moves = g.G.Guest.moves; stays = g.met.G.Guest.stays; goes_on = g.met.G.Guest.goes_on } in
-    placed_refused L a.cx.now.options a.cx.now.core.now c.place_text.new.cx.core.now a.dst.now a.from string (val.String a.text.now) c.in-Err.fault refl c.in-Err.ensures.places
+    record { lowers = placed_refused L a.options a.core.now c.place_text.new.core a.dst.now a.from string (val.String a.text.now) c.in-Err.fault refl c.in-Err.ensures.places }

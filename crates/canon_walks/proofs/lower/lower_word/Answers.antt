@@ -12,11 +12,13 @@ pub bounds-dst-from : goal.bounds-dst-from
 unfolding flat
 bounds-dst-from g c =
     let (k, t, e, has, is, least) = c.requires.word in
-    omega (arith, c.requires.room, ap flat (scalar_shape (component_types c.args.cx.now.core.now) c.args.ty k e))
+    omega (arith, c.requires.room, ap flat (scalar_shape (component_types c.args.core.now) c.args.ty k e))
 
-pub returns-clause-lowers : goal.returns-clause-lowers
-returns-clause-lowers g c =
+pub returns : goal.returns
+returns g c =
     let a = c.args in
     let L : GuestLaws _ = record { seen = g.G.Guest.seen; moves = g.G.Guest.moves; stays = g.met.G.Guest.stays; goes_on = g.met.G.Guest.goes_on } in
-    scalar_lowers L a.cx.now.options a.cx.now.core.now a.dst.now a.from _ a.ty a.value.now c.u64.result c.requires.small c.requires.room
-    (subst (λ (w : ℕ). IsWordOf a.ty a.value.now w) (sym c.u64.ensures) c.requires.word) refl c.saturating_add.ensures (scalar_passes (component_types a.cx.now.core.now) a.ty a.value.now a.word c.requires.word)
+    record {
+      lowers = λ options. scalar_lowers L options a.core.now a.dst.now a.from _ a.ty a.value.now c.u64.result c.requires.small c.requires.room
+          (subst (λ (w : ℕ). IsWordOf a.ty a.value.now w) (sym c.u64.ensures) c.requires.word) refl c.saturating_add.ensures (scalar_passes (component_types a.core.now) a.ty a.value.now a.word c.requires.word);
+    }

@@ -1,5 +1,5 @@
 -- A type is deeper than its members; between them stand its members, or its block and its items.
-use Rattle.std.proofs.Common.{◌≡◌, ◌+◌, ◌*◌, ◌-◌}
+use Rattle.std.proofs.Common.{◌+◌, ◌*◌, ◌-◌}
 use Rattle.canon_types.specs.Depth.{deepest, depth}
 use Rattle.canon_types.specs.Table.{shape_of}
 use Rattle.canon_context.specs.Core.{component_types}
@@ -10,21 +10,17 @@ use Rattle.canon_value_parts.proofs.WalkLoops.{PartsAreStored}
 use Rattle.canon_walks.proofs.store.+store.Given as goal
 
 abbrev pub decreases-store_value : goal.decreases-store_value
-decreases-store_value g l = 4 * depth (shape_of (component_types l.cx.now.core.now) l.ty)
+decreases-store_value g l = 4 * depth (shape_of (component_types l.core.now) l.ty)
 
 abbrev pub decreases-store_parts : goal.decreases-store_parts
-decreases-store_parts g l = 4 * deepest (viewed_shapes (component_types l.cx.now.core.now) l.members.now) + 1
+decreases-store_parts g l = 4 * deepest (viewed_shapes (component_types l.core.now) l.members.now) + 1
 
 abbrev pub decreases-store_list : goal.decreases-store_list
-decreases-store_list g l = 4 * depth (list_shape (component_types l.cx.now.core.now) (element_in l.list.now)) - 1
+decreases-store_list g l = 4 * depth (list_shape (component_types l.core.now) (element_in l.list.now)) - 1
 
 abbrev pub decreases-place_list : goal.decreases-place_list
-decreases-place_list g l = 4 * depth (list_shape (component_types l.cx.now.core.now) (element_in l.list.now)) - 2
+decreases-place_list g l = 4 * depth (list_shape (component_types l.core.now) (element_in l.list.now)) - 2
 
 abbrev pub invariant-store_parts-loop-k : goal.invariant-store_parts-loop-k
-invariant-store_parts-loop-k g l = record {
-  stored : PartsAreStored g.G.Guest.seen g.G.Guest.moves l.fn.cx.options l.place (viewed_shapes (component_types l.fn.cx.core.now) l.members) (viewed_names l.members) (viewed_values l.members)
-      l.fn.cx.core.now l.at l.first l.cx.core.now l.next l.end l.k;
-  options : l.cx.options ≡ l.fn.cx.options;
-  reference : l.cx.core.ghost_name ≡ l.fn.cx.core.ghost_name;
-}
+invariant-store_parts-loop-k g l = PartsAreStored g.G.Guest.seen g.G.Guest.moves l.options l.place (viewed_shapes (component_types l.fn.core) l.members) (viewed_names l.members) (viewed_values l.members)
+    l.fn.core l.at l.first l.core l.next l.end l.k
