@@ -3,6 +3,7 @@ pub mod Agreeing
 pub mod Alongside
 pub mod Asks
 pub mod Behind
+pub mod Blockless
 pub mod Comparing
 pub mod Departing
 pub mod Ending
@@ -11,6 +12,7 @@ pub mod Following
 pub mod Growing
 pub mod Homes
 pub mod Lawfully
+pub mod Literals
 pub mod Looping
 pub mod Making
 pub mod Places
