@@ -1,6 +1,12 @@
 pub mod Accepting
 pub mod Agreeing
 pub mod Alongside
+pub mod Answered
+pub mod AskedAgreeing
+pub mod AskedAlongside
+pub mod AskedFollowing
+pub mod AskedRuns
+pub mod AskedStops
 pub mod Asks
 pub mod Behind
 pub mod Blockless
@@ -8,6 +14,7 @@ pub mod Comparing
 pub mod Departing
 pub mod Ending
 pub mod Faithful
+pub mod FaithfulAsks
 pub mod Following
 pub mod Growing
 pub mod Homes

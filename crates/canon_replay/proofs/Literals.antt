@@ -207,9 +207,16 @@ mutual
   same_trees (member name s ms) vs (w ∷ ws) ts quiet plain e (v, others, t, rest, ev, et, has, have) =
       let both : literals_view (v ∷ others) ≡ literals_view (w ∷ ws) = ap literals_view (sym ev) ∙ e in
       let first : literal_view v ≡ literal_view w = cc in
-      let more : literals_view others ≡ literals_view ws = cc in
-      (w, ws, t, rest, refl, et, same_tree s v w t (first_none (has_block s) (have_block ms) quiet) (first_none (has_handle s) (have_handle ms) plain) first has,
-      same_trees ms others ws rest (later_none (has_block s) (have_block ms) quiet) (later_none (has_handle s) (have_handle ms) plain) more have)
+      let more : literals_view others ≡ literals_view ws = cc in (
+        w,
+        ws,
+        t,
+        rest,
+        refl,
+        et,
+        same_tree s v w t (first_none (has_block s) (have_block ms) quiet) (first_none (has_handle s) (have_handle ms) plain) first has,
+        same_trees ms others ws rest (later_none (has_block s) (have_block ms) quiet) (later_none (has_handle s) (have_handle ms) plain) more have,
+      )
 
   same_case : (cs : Cases) (d : ℕ) (vs ws : List Val) (ts : Trees) → cases_have_block cs ≡ false → cases_have_handle cs ≡ false → literals_view vs ≡ literals_view ws → CaseHas false cs d vs ts → CaseHas false cs d ws ts
   same_case no_cases d vs ws ts quiet plain e h = h
