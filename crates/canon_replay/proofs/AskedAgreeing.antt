@@ -98,7 +98,7 @@ module _ (post : Option ℕ) (returned after : List ℕ) where
   module _ {T U : Type 0} (answers_so : Answering U) (callee : Callee) (plain : HasPlainImports callee) (fuel spent : ℕ) (asks : List ServedAsk) (tail : List Event) (on_end : Agrees tail (recorded_end post returned after))
       (on_ask : (j : ℕ) (vs n : List ℕ) (us : List AskTurn) (ws m : List ℕ) → Agrees tail (event.Ask j vs n ∷ event.Resume ws m ∷ asked_events us ++ recorded_end post returned after)) where
     abbrev Given : List AskTurn → List LoggedEntry → List LoggedEntry → Type 0
-    Given = AnsweredTurns (GivesNext {T} asks).answers callee fuel
+    Given = AnsweredTurns (GivesNext {T = T} asks).answers callee fuel
 
     abbrev Logged : List AskTurn → List LoggedEntry → List LoggedEntry → Type 0
     Logged = AnsweredTurns answers_so callee spent

@@ -160,7 +160,7 @@ module _ {U : Type 0} (answers_so : Answering U) (callee : Callee) (fuel turns :
     (plain : HaveNoHandle callee.params) (no_handle : HaveNoHandle callee.results) (imports : HasPlainImports callee)
     {T : Type 0} (asks : List ServedAsk) (Lives : List Leg → List Event → Type 0) (Leaves_ : List ℕ → List ℕ → Type 0) (before after : Moment) (host left : HostSide T)
     (entries : List LoggedEntry) (told : host.log ≡ Some entries) (more_asks : List ServedAsk) (next : drop (length entries) asks ≡ served ++ more_asks) (answer : Result (Unit {0}) Error) (vs : List Val) (events : List Event)
-    (n : IsCallOf (dynamic callee params) (dynamic_results callee) Lives Leaves_ (GivesNext {T} asks) callee (allowed fuel turns) before after host left (with_results answer vs) events) where
+    (n : IsCallOf (dynamic callee params) (dynamic_results callee) Lives Leaves_ (GivesNext {T = T} asks) callee (allowed fuel turns) before after host left (with_results answer vs) events) where
   abbrev asked_for : List Request
   asked_for = params_requests false (host_asks callee.encoding) callee.params q.trees
 
@@ -193,15 +193,15 @@ module _ {U : Type 0} (answers_so : Answering U) (callee : Callee) (fuel turns :
     at_start : (P : Event → Type 0) → Each P events → P (event.Start callee.func s.words s.memory) × Each P (events_in n.turns ++ n.tail)
     at_start P h = each_seam P (events_of n.answers n.trap) (event.Start callee.func s.words s.memory) (events_in n.turns ++ n.tail) (subst (Each P) in_whole h)
 
-    on : AfterStart (dynamic callee params) (dynamic_results callee) (GivesNext {T} asks) callee fuel n.turns n.late_guest after n.late n.late_trap host left n.given (with_results answer vs) n.tail
-    on = after_start (dynamic callee params) (dynamic_results callee) (GivesNext {T} asks) callee fuel n.turns n.late_guest after n.late n.late_trap host left n.given (with_results answer vs) events n.tail
+    on : AfterStart (dynamic callee params) (dynamic_results callee) (GivesNext {T = T} asks) callee fuel n.turns n.late_guest after n.late n.late_trap host left n.given (with_results answer vs) n.tail
+    on = after_start (dynamic callee params) (dynamic_results callee) (GivesNext {T = T} asks) callee fuel n.turns n.late_guest after n.late n.late_trap host left n.given (with_results answer vs) events n.tail
         (λ none. (at_start IsNoStart none).0) n.handles
 
-    its_asks : AnswersTurns (GivesNext {T} asks).answers callee fuel n.turns entries (record host { ledger = on.lowered }) on.served
-    its_asks = turns_answered (GivesNext {T} asks) callee fuel imports n.turns (record host { ledger = on.lowered }) on.served entries told on.are
+    its_asks : AnswersTurns (GivesNext {T = T} asks).answers callee fuel n.turns entries (record host { ledger = on.lowered }) on.served
+    its_asks = turns_answered (GivesNext {T = T} asks) callee fuel imports n.turns (record host { ledger = on.lowered }) on.served entries told on.are
 
     asks_are : events_in n.turns ≡ asked_events n.turns
-    asks_are = asked_are (GivesNext {T} asks).answers callee fuel n.turns entries its_asks.gained its_asks.are
+    asks_are = asked_are (GivesNext {T = T} asks).answers callee fuel n.turns entries its_asks.gained its_asks.are
 
     later_is : events ≡ events_of n.answers n.trap ++ (event.Start callee.func s.words s.memory ∷ (asked_events n.turns ++ n.tail))
     later_is = in_whole ∙ ap (λ (es : List Event). events_of n.answers n.trap ++ (event.Start callee.func s.words s.memory ∷ (es ++ n.tail))) asks_are
@@ -227,16 +227,16 @@ module _ {U : Type 0} (answers_so : Answering U) (callee : Callee) (fuel turns :
 
     -- one more ask, which isn't resumed, is the last event
     alone_by : (a : Result (List Val) Error) → OnOk a (IsOneRun callee.func callee.post events)
-        → IfErr a (λ e. StopsStartedOf (dynamic_results callee) (GivesNext {T} asks) callee fuel e n.late_guest after n.late n.late_trap on.served left n.tail) → OnAsk (λ i ws m more. more ≡ []) n.tail
+        → IfErr a (λ e. StopsStartedOf (dynamic_results callee) (GivesNext {T = T} asks) callee fuel e n.late_guest after n.late n.late_trap on.served left n.tail) → OnAsk (λ i ws m more. more ≡ []) n.tail
     alone_by (Ok xs) run stops = subst (OnAsk (λ i ws m more. more ≡ [])) (sym (ok_end run).is) tt
-    alone_by (Err e) run stops = ask_alone (GivesNext {T} asks).answers callee fuel imports (dynamic_results callee) n.late_guest after n.late n.late_trap on.served left e n.tail s.asking stops
+    alone_by (Err e) run stops = ask_alone (GivesNext {T = T} asks).answers callee fuel imports (dynamic_results callee) n.late_guest after n.late n.late_trap on.served left e n.tail s.asking stops
 
     tail_agrees : Agrees n.tail its_end
     tail_agrees = let b = runs_on in subst (λ (es : List Event). Agrees es its_end) (sym b.is)
         (front_agrees callee.post q.returned q.after b.front b.rest b.trap b.len n.late n.late_trap b.runs b.may (subst (EndsAsking n.late n.late_trap) b.is s.asking))
 
     later_asks_agree : Agrees (asked_events n.turns ++ n.tail) (asked_events q.asks ++ its_end)
-    later_asks_agree = asks_agree callee.post q.returned q.after {T} answers_so callee imports fuel fuel asks n.tail tail_agrees
+    later_asks_agree = asks_agree callee.post q.returned q.after {T = T} answers_so callee imports fuel fuel asks n.tail tail_agrees
         (λ j us m ts ws2 m2. tail_on_ask callee.post q.returned q.after n.tail n.late n.late_trap runs_on s.asking (alone_by (with_results answer vs) n.one_run on.stops) j us m ts ws2 m2)
         n.turns q.asks entries its_asks.gained others served more_asks its_asks.are log_is next (resumes_fit q.asks (at_recorded (OnResume (λ ws m. AreWords ws)) resumed).1)
 
@@ -295,15 +295,15 @@ module _ {U : Type 0} (answers_so : Answering U) (callee : Callee) (fuel turns :
     -- ---- no function of the host refuses
 
     refuses_not : (s : Starts) (e : Error) (k : ℕ) → e ≡ error.HostRefused k → (tail : List Event) → EndsAsking n.late n.late_trap tail → OnAsk (λ i ws m more. IsRecordedAsk callee fuel asks (length entries + length n.turns) i ws m) tail
-        → BeginsInAsk (λ i ws m more. ⊤) tail → StopsStartedOf (dynamic_results callee) (GivesNext {T} asks) callee fuel e n.late_guest after n.late n.late_trap (on s).served left tail → ⊥
+        → BeginsInAsk (λ i ws m more. ⊤) tail → StopsStartedOf (dynamic_results callee) (GivesNext {T = T} asks) callee fuel e n.late_guest after n.late n.late_trap (on s).served left tail → ⊥
     refuses_not s e k is [] ends there begins stops = begins
     refuses_not s e k is (event.Ask i ws m ∷ more) ends there begins stops =
         let a = its_asks s in
         let at : IsRecordedAsk callee fuel asks (length (entries ++ a.gained)) i ws m =
-        subst (λ (j : ℕ). IsRecordedAsk callee fuel asks j i ws m) (as_long a.gained (as_many_gained (GivesNext {T} asks).answers callee fuel n.turns entries a.gained a.are)) there in
-        not_refused {T} callee fuel imports asks (entries ++ a.gained) i ws m at (moment n.late_guest m) after n.late n.late_trap (on s).served left a.log k
-        (subst (λ (x : Error). AskStops (GivesNext {T} asks) callee fuel x i ws (moment n.late_guest m) after n.late n.late_trap (on s).served left) is
-        (stops_there (dynamic_results callee) (GivesNext {T} asks) callee fuel n.late_guest after n.late n.late_trap (on s).served left e i ws m more ends stops))
+        subst (λ (j : ℕ). IsRecordedAsk callee fuel asks j i ws m) (as_long a.gained (as_many_gained (GivesNext {T = T} asks).answers callee fuel n.turns entries a.gained a.are)) there in
+        not_refused {T = T} callee fuel imports asks (entries ++ a.gained) i ws m at (moment n.late_guest m) after n.late n.late_trap (on s).served left a.log k
+        (subst (λ (x : Error). AskStops (GivesNext {T = T} asks) callee fuel x i ws (moment n.late_guest m) after n.late n.late_trap (on s).served left) is
+        (stops_there (dynamic_results callee) (GivesNext {T = T} asks) callee fuel n.late_guest after n.late n.late_trap (on s).served left e i ws m more ends stops))
     refuses_not s e k is (event.Start f ws m ∷ more) ends there begins stops = begins
     refuses_not s e k is (event.Resume ws m ∷ more) ends there begins stops = begins
     refuses_not s e k is (event.Return ws m ∷ more) ends there begins stops = begins
@@ -324,7 +324,7 @@ module _ {U : Type 0} (answers_so : Answering U) (callee : Callee) (fuel turns :
     begins_so P (event.Trap asked at ∷ more) h = h
 
     unrefused_by : (a : Result (List Val) Error) → IfErr a (Cause (dynamic callee params) (dynamic_results callee) callee (allowed fuel turns) before after events n.tail)
-        → MayStart callee.func n.turns n.late n.late_trap n.tail n.later → ((s : Starts) → IfErr a (λ e. StopsStartedOf (dynamic_results callee) (GivesNext {T} asks) callee fuel e n.late_guest after n.late n.late_trap (on s).served left n.tail))
+        → MayStart callee.func n.turns n.late n.late_trap n.tail n.later → ((s : Starts) → IfErr a (λ e. StopsStartedOf (dynamic_results callee) (GivesNext {T = T} asks) callee fuel e n.late_guest after n.late n.late_trap (on s).served left n.tail))
         → IfErr a IsUnrefused
     unrefused_by (Ok xs) cause starts stops = tt
     unrefused_by (Err e) cause (inl (none, turns_none, late_none, trap_none, tail_none)) stops = λ k is.
@@ -334,20 +334,20 @@ module _ {U : Type 0} (answers_so : Answering U) (callee : Callee) (fuel turns :
 
     -- ---- the ledger accepts it
 
-    accepts : Accepts (dynamic callee params) (dynamic_results callee) (GivesNext {T} asks) callee fuel n.turns host n.tail
+    accepts : Accepts (dynamic callee params) (dynamic_results callee) (GivesNext {T = T} asks) callee fuel n.turns host n.tail
     accepts = ([], enter host.ledger, subst (λ ps. LeavesTake (enter host.ledger) ps [] (enter host.ledger)) (sym none_passed) (refl, refl), later)
       where
-        asks_accepted : (after_asks : HostSide T) (a : AnswersTurns (GivesNext {T} asks).answers callee fuel n.turns entries (record host { ledger = enter host.ledger }) after_asks)
-            → MayStart callee.func n.turns n.late n.late_trap n.tail n.later → OnAsk (λ i ws m more. AcceptsAsk (GivesNext {T} asks) callee fuel i ws m after_asks) n.tail
-        asks_accepted after_asks a (inl (none, turns_none, late_none, trap_none, tail_none)) = subst (OnAsk (λ i ws m more. AcceptsAsk (GivesNext {T} asks) callee fuel i ws m after_asks)) (sym tail_none) tt
-        asks_accepted after_asks a (inr s) = on_each_ask (λ i ws m more. IsRecordedAsk callee fuel asks (length entries + length n.turns) i ws m) (λ i ws m more. AcceptsAsk (GivesNext {T} asks) callee fuel i ws m after_asks)
-            (λ i ws m more there. accepts_recorded {T} callee fuel imports asks (entries ++ a.gained) i ws m
-            (subst (λ (j : ℕ). IsRecordedAsk callee fuel asks j i ws m) (as_long a.gained (as_many_gained (GivesNext {T} asks).answers callee fuel n.turns entries a.gained a.are)) there) after_asks a.log)
+        asks_accepted : (after_asks : HostSide T) (a : AnswersTurns (GivesNext {T = T} asks).answers callee fuel n.turns entries (record host { ledger = enter host.ledger }) after_asks)
+            → MayStart callee.func n.turns n.late n.late_trap n.tail n.later → OnAsk (λ i ws m more. AcceptsAsk (GivesNext {T = T} asks) callee fuel i ws m after_asks) n.tail
+        asks_accepted after_asks a (inl (none, turns_none, late_none, trap_none, tail_none)) = subst (OnAsk (λ i ws m more. AcceptsAsk (GivesNext {T = T} asks) callee fuel i ws m after_asks)) (sym tail_none) tt
+        asks_accepted after_asks a (inr s) = on_each_ask (λ i ws m more. IsRecordedAsk callee fuel asks (length entries + length n.turns) i ws m) (λ i ws m more. AcceptsAsk (GivesNext {T = T} asks) callee fuel i ws m after_asks)
+            (λ i ws m more there. accepts_recorded {T = T} callee fuel imports asks (entries ++ a.gained) i ws m
+            (subst (λ (j : ℕ). IsRecordedAsk callee fuel asks j i ws m) (as_long a.gained (as_many_gained (GivesNext {T = T} asks).answers callee fuel n.turns entries a.gained a.are)) there) after_asks a.log)
             n.tail (there_recorded s)
 
-        later : (after_asks : HostSide T) → AreServed (GivesNext {T} asks) callee fuel n.turns (record host { ledger = enter host.ledger }) after_asks → AcceptsLater (dynamic_results callee) (GivesNext {T} asks) callee fuel after_asks n.tail
+        later : (after_asks : HostSide T) → AreServed (GivesNext {T = T} asks) callee fuel n.turns (record host { ledger = enter host.ledger }) after_asks → AcceptsLater (dynamic_results callee) (GivesNext {T = T} asks) callee fuel after_asks n.tail
         later after_asks h =
-            let a = turns_answered (GivesNext {T} asks) callee fuel imports n.turns (record host { ledger = enter host.ledger }) after_asks entries told h in (
+            let a = turns_answered (GivesNext {T = T} asks) callee fuel imports n.turns (record host { ledger = enter host.ledger }) after_asks entries told h in (
               asks_accepted after_asks a n.starts,
               returns_accepted callee host.ledger after_asks.ledger a.ledger n.tail
                   (in_tail (OnReturn (λ words memory. returned_leaves callee words memory ≡ [])) (returns_so (λ words memory. returned_leaves callee words memory ≡ []) q.leaves) n.starts),
@@ -360,9 +360,9 @@ module _ {U : Type 0} (answers_so : Answering U) (callee : Callee) (fuel turns :
     -- ---- of a call that answered Ok
 
     module _ (ok : with_results answer vs ≡ Ok vs) where
-      its_run : AskedRun (GivesNext {T} asks).answers callee fuel turns params vs entries events
-      its_run = (asked_run Lives Leaves_ (GivesNext {T} asks) callee fuel turns params vs before after host left events
-          (subst (λ (a : Result (List Val) Error). IsCallOf (dynamic callee params) (dynamic_results callee) Lives Leaves_ (GivesNext {T} asks) callee (allowed fuel turns) before after host left a events) ok n) no_handle imports entries told).0
+      its_run : AskedRun (GivesNext {T = T} asks).answers callee fuel turns params vs entries events
+      its_run = (asked_run Lives Leaves_ (GivesNext {T = T} asks) callee fuel turns params vs before after host left events
+          (subst (λ (a : Result (List Val) Error). IsCallOf (dynamic callee params) (dynamic_results callee) Lives Leaves_ (GivesNext {T = T} asks) callee (allowed fuel turns) before after host left a events) ok n) no_handle imports entries told).0
 
       -- it followed all recorded events
       pub follows_all : length recorded ≤ place

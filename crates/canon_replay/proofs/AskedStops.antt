@@ -120,9 +120,9 @@ within fuel left cost e = omega (arith, e)
 module _ {T : Type 0} (callee : Callee) (fuel : ℕ) (imports : HasPlainImports callee) (asks : List ServedAsk) (entries : List LoggedEntry) (index : ℕ) (words memory : List ℕ) (r : IsRecordedAsk callee fuel asks (length entries) index words memory) where
   -- it isn't refused
   pub not_refused : (from to : Moment) (answers : List Answer) (trap : Option Trap) (before after : HostSide T) → before.log ≡ Some entries → (n : ℕ)
-      → ¬ AskStops (GivesNext {T} asks) callee fuel (error.HostRefused n) index words from to answers trap before after
+      → ¬ AskStops (GivesNext {T = T} asks) callee fuel (error.HostRefused n) index words from to answers trap before after
   not_refused from to answers trap before after logged n h =
-      let (params, from2, to2, (none, same)) = refused_so (GivesNext {T} asks).answers callee fuel imports index words from to answers trap before after entries logged n h in
+      let (params, from2, to2, (none, same)) = refused_so (GivesNext {T = T} asks).answers callee fuel imports index words from to answers trap before after entries logged n h in
       some_not (literals_view r.ask.results) (sym (given_at asks (length entries) index r.ask r.there r.import_is) ∙ none)
 
   abbrev turn : AskTurn
@@ -136,10 +136,10 @@ module _ {T : Type 0} (callee : Callee) (fuel : ℕ) (imports : HasPlainImports 
 
   module _ (h : HostSide T) (logged : h.log ≡ Some entries) where
     -- where the function may give these results by the log, they are the recorded ones
-    its_results : (params results : List Val) (from to : T) → (GivesNext {T} asks).answers entries turn.index from params (Ok results) to → literals_view r.ask.results ≡ literals_view results
+    its_results : (params results : List Val) (from to : T) → (GivesNext {T = T} asks).answers entries turn.index from params (Ok results) to → literals_view r.ask.results ≡ literals_view results
     its_results params results from to gave = inside (literals_view r.ask.results) (literals_view results) (sym (given_at asks (length entries) turn.index r.ask r.there (r.import_is ∙ sym r.index_is)) ∙ gave.0)
 
-    accepts_turn : AcceptsHost (GivesNext {T} asks) callee fuel a.asked turn.index turn.words turn.memory h
+    accepts_turn : AcceptsHost (GivesNext {T = T} asks) callee fuel a.asked turn.index turn.words turn.memory h
     accepts_turn = record {
       is = a.is;
       liftable = record {
@@ -151,7 +151,7 @@ module _ {T : Type 0} (callee : Callee) (fuel : ℕ) (imports : HasPlainImports 
         lifts = subst (λ (ls : List Leaf). LeavesLift callee.types (enter h.ledger) ls [] (enter h.ledger)) (sym a.leaves) (refl, refl);
       };
       given = λ params results from called state lift steps gave.
-          let by = subst (λ (o : Option (List LoggedEntry)). IfSome o (λ es. (called ≡ from) × (GivesNext {T} asks).answers es turn.index h.state params.items (Ok results) state)) logged gave.1 in
+          let by = subst (λ (o : Option (List LoggedEntry)). IfSome o (λ es. (called ≡ from) × (GivesNext {T = T} asks).answers es turn.index h.state params.items (Ok results) state)) logged gave.1 in
           let there : called ≡ enter h.ledger = by.0 ∙ lifts_none callee.types (enter h.ledger) from _ _ a.leaves lift.1.handles in
           let same = its_results params.items results h.state state by.1 in
           record {
@@ -172,10 +172,10 @@ module _ {T : Type 0} (callee : Callee) (fuel : ℕ) (imports : HasPlainImports 
     }
 
     -- it is accepted
-    pub accepts_recorded : AcceptsAsk (GivesNext {T} asks) callee fuel index words memory h
+    pub accepts_recorded : AcceptsAsk (GivesNext {T = T} asks) callee fuel index words memory h
     accepts_recorded = inr (
       a.asked,
-      subst (λ (i : ℕ). AcceptsHost (GivesNext {T} asks) callee fuel a.asked i words memory h) r.index_is
-          (subst (λ (ws : List ℕ). AcceptsHost (GivesNext {T} asks) callee fuel a.asked turn.index ws memory h) r.words_are
-          (subst (λ (m : List ℕ). AcceptsHost (GivesNext {T} asks) callee fuel a.asked turn.index turn.words m h) r.memory_is accepts_turn)),
+      subst (λ (i : ℕ). AcceptsHost (GivesNext {T = T} asks) callee fuel a.asked i words memory h) r.index_is
+          (subst (λ (ws : List ℕ). AcceptsHost (GivesNext {T = T} asks) callee fuel a.asked turn.index ws memory h) r.words_are
+          (subst (λ (m : List ℕ). AcceptsHost (GivesNext {T = T} asks) callee fuel a.asked turn.index turn.words m h) r.memory_is accepts_turn)),
     )

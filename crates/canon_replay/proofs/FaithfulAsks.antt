@@ -173,9 +173,9 @@ module _ {T G I P : Type 0} (seen : G → Seen) (moves : GuestIn G → List Even
     -- ---- the next call
 
     module _ (next : ReplayStore) (r : CallReplayed (made_call_of call) before next) where
-      its_run : (x : AskedRun (GivesNext {Unit {0}} (asks_in_store before)).answers again before.core.fuel before.turns call.params r.results (answered_asks before) r.events)
+      its_run : (x : AskedRun (GivesNext {T = Unit {0}} (asks_in_store before)).answers again before.core.fuel before.turns call.params r.results (answered_asks before) r.events)
           × ((replay_host next).log ≡ Some (answered_asks before ++ x.gained))
-      its_run = asked_run (LivesUntil {U = Unit {0}} journaled_seen JournaledReplays (guest_of before.core) (guest_of next.core) (Ok tt)) (λ m k. k ≡ m) (GivesNext {Unit {0}} (asks_in_store before)) again before.core.fuel before.turns
+      its_run = asked_run (LivesUntil {U = Unit {0}} journaled_seen JournaledReplays (guest_of before.core) (guest_of next.core) (Ok tt)) (λ m k. k ≡ m) (GivesNext {T = Unit {0}} (asks_in_store before)) again before.core.fuel before.turns
           call.params r.results (moment_of journaled_seen before.core) (moment_of journaled_seen next.core) (replay_host before) (replay_host next) r.events r.made.is plain_results again_imports (answered_asks before) refl
 
       answered_more : answered_asks next ≡ answered_asks before ++ its_run.0.gained
@@ -185,7 +185,7 @@ module _ {T G I P : Type 0} (seen : G → Seen) (moves : GuestIn G → List Even
       as_many : length its_run.0.gained ≡ length call.served
       as_many =
           let x = its_run.0 in
-          as_many_gained (GivesNext {Unit {0}} (asks_in_store before)).answers again before.core.fuel x.asks (answered_asks before) x.gained x.asked
+          as_many_gained (GivesNext {T = Unit {0}} (asks_in_store before)).answers again before.core.fuel x.asks (answered_asks before) x.gained x.asked
           ∙ (sym (ap asks_in x.is ∙ run_asks again.post x.returned x.after again.func x.words x.memory x.asks x.answers)
           ∙ (asks_alike r.events call.events r.alike
           ∙ (ap asks_in run.run.is ∙ run_asks again.post run.run.returned run.run.after again.func run.run.words run.run.memory run.run.asks run.run.answers
