@@ -58,7 +58,7 @@ use Rattle.canon_func.specs.Stores.{Callee, callee_in, params_in, results_in}
 use Rattle.canon_func.specs.declared.asks.Builtin.{Builtin}
 use Rattle.canon_recording.specs.Fits.{IsHost, IsRecordable}
 use Rattle.canon_recording.specs.Recordings.{import_type, imports_of}
-use Rattle.canon_replay.proofs.Accepting.{scope_ends}
+use Rattle.canon_replay.proofs.Accepting.{scope_exits}
 use Rattle.canon_replay.proofs.Homes.{start_words_same}
 use Rattle.canon_replay.proofs.Literals.{same_trees}
 use Rattle.canon_replay.proofs.Runs.{no_leaves}
@@ -147,7 +147,7 @@ pub entered_ends : (l : LedgerState) → asked_exit (enter l) ≡ record { answe
 entered_ends l =
     let scopes : slice_set (l.handles.scopes ++ no_scope ∷ []) (length (l.handles.scopes ++ no_scope ∷ []) - 1) no_scope ≡ l.handles.scopes ++ no_scope ∷ [] =
     ap (λ (n : ℕ). slice_set (l.handles.scopes ++ no_scope ∷ []) n no_scope) (last_place l.handles.scopes) ∙ set-append_seam l.handles.scopes no_scope [] no_scope in
-    (scope_ends l).1
+    scope_exits l
     ∙ ap (λ (ss : List handles.OpenScope). record { answer = Ok tt; after = record { handles = record { tables = l.handles.tables; counter = l.handles.counter; scopes = ss }; host = l.host } }) scopes
 
 lifts_none : (i : Instance) (l m : LedgerState) (leaves : List Leaf) (xs : List Any) → leaves ≡ [] → LeavesLift i l leaves xs m → m ≡ l

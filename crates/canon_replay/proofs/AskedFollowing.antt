@@ -76,7 +76,7 @@ module _ (post : Option ℕ) (returned after : List ℕ) where
   asks_counted [] = posts_ask_nothing post
   asks_counted (t ∷ ts) = ap suc (asks_counted ts)
 
-  pub run_asks : (func : ℕ) (words memory : List ℕ) (ts : List AskTurn) (answers : List Answer) → asks_in (events_of answers None ++ event.Start func words memory ∷ asked_events ts ++ recorded_end post returned after) ≡ length ts
+  pub run_asks : (func : ℕ) (words memory : List ℕ) (ts : List AskTurn) (answers : List Answer) → asks_in (events_of answers None ++ (event.Start func words memory ∷ (asked_events ts ++ recorded_end post returned after))) ≡ length ts
   run_asks func words memory ts [] = asks_counted ts
   run_asks func words memory ts (x ∷ xs) = run_asks func words memory ts xs
 
@@ -122,11 +122,11 @@ module _ (post : Option ℕ) (returned after told left : List ℕ) where
       (λ alike. completes_more (event.Resume t.resumed_words t.resumed_memory) (event.Resume u.resumed_words u.resumed_memory) (asked_events ts ++ its_end) (asked_events us ++ other_end) (λ same. asks_complete ts us))
 
   pub asked_completes : (f g : ℕ) (ws m vs n : List ℕ) (ts us : List AskTurn) (xs ys : List Answer)
-      → Completes (events_of xs None ++ event.Start f ws m ∷ asked_events ts ++ its_end) (events_of ys None ++ event.Start g vs n ∷ asked_events us ++ other_end)
+      → Completes (events_of xs None ++ (event.Start f ws m ∷ (asked_events ts ++ its_end))) (events_of ys None ++ (event.Start g vs n ∷ (asked_events us ++ other_end)))
   asked_completes f g ws m vs n ts us [] [] = completes_more (event.Start f ws m) (event.Start g vs n) (asked_events ts ++ its_end) (asked_events us ++ other_end) (λ alike. asks_complete ts us)
-  asked_completes f g ws m vs n ts us [] (y ∷ ys) = completes_more (event.Start f ws m) (answer_event y.call y.at) (asked_events ts ++ its_end) (events_of ys None ++ event.Start g vs n ∷ asked_events us ++ other_end)
+  asked_completes f g ws m vs n ts us [] (y ∷ ys) = completes_more (event.Start f ws m) (answer_event y.call y.at) (asked_events ts ++ its_end) (events_of ys None ++ (event.Start g vs n ∷ (asked_events us ++ other_end)))
       (λ alike. absurd (start_no_answer f ws m y alike))
-  asked_completes f g ws m vs n ts us (x ∷ xs) [] = completes_more (answer_event x.call x.at) (event.Start g vs n) (events_of xs None ++ event.Start f ws m ∷ asked_events ts ++ its_end) (asked_events us ++ other_end)
+  asked_completes f g ws m vs n ts us (x ∷ xs) [] = completes_more (answer_event x.call x.at) (event.Start g vs n) (events_of xs None ++ (event.Start f ws m ∷ (asked_events ts ++ its_end))) (asked_events us ++ other_end)
       (λ alike. absurd (answer_no_start x g vs n alike))
-  asked_completes f g ws m vs n ts us (x ∷ xs) (y ∷ ys) = completes_more (answer_event x.call x.at) (answer_event y.call y.at) (events_of xs None ++ event.Start f ws m ∷ asked_events ts ++ its_end)
-      (events_of ys None ++ event.Start g vs n ∷ asked_events us ++ other_end) (λ alike. asked_completes f g ws m vs n ts us xs ys)
+  asked_completes f g ws m vs n ts us (x ∷ xs) (y ∷ ys) = completes_more (answer_event x.call x.at) (answer_event y.call y.at) (events_of xs None ++ (event.Start f ws m ∷ (asked_events ts ++ its_end)))
+      (events_of ys None ++ (event.Start g vs n ∷ (asked_events us ++ other_end))) (λ alike. asked_completes f g ws m vs n ts us xs ys)

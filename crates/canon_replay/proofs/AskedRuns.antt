@@ -81,7 +81,7 @@ pub record AskedRun {T : Type 0} (answers_so : Answering T) (callee : Callee) (f
   pub few : asks_in events ≤ turns
   pub returned : List ℕ
   pub after : List ℕ
-  pub is : events ≡ events_of answers None ++ event.Start callee.func words memory ∷ asked_events asks ++ event.Return returned after ∷ posts callee.post returned
+  pub is : events ≡ events_of answers None ++ (event.Start callee.func words memory ∷ (asked_events asks ++ event.Return returned after ∷ posts callee.post returned))
   pub trees : Trees
   pub have : HaveTrees callee.params params trees
   pub small : AreSmall callee.encoding callee.params params
