@@ -55,7 +55,6 @@ use Rattle.canon_func.specs.Asks.{AreServed, builtin_at, builtin_of}
 use Rattle.canon_func.specs.HostAsks.{IsHostAsk, IsHostServedBy, asked_exit, resumed_with}
 use Rattle.canon_func.specs.Runs.{AskTurn}
 use Rattle.canon_func.specs.Stores.{Callee, callee_in, params_in, results_in}
-use Rattle.canon_func.specs.declared.asks.Builtin.{Builtin}
 use Rattle.canon_recording.specs.Fits.{IsHost, IsRecordable}
 use Rattle.canon_recording.specs.Recordings.{import_type, imports_of}
 use Rattle.canon_replay.proofs.Accepting.{scope_exits}
@@ -73,17 +72,20 @@ pub record IsPlainAsk (callee : Callee) (asked : Asked) : Type 0 where
 
 -- so it is of each import, none of which is a builtin
 pub record HasPlainImports (callee : Callee) : Type 0 where
-  pub hosts : (index : ℕ) (called : Builtin) → ¬ (builtin_at callee index ≡ Some called)
+  pub hosts : (index : ℕ) → builtin_at callee index ≡ None
   pub plain : (index : ℕ) (words : List ℕ) (asked : Asked) → IsHostAsk callee index words asked → IsPlainAsk callee asked
 
-no_builtin : (xs : List Import) (i : ℕ) (called : Builtin) → All IsHost xs → ¬ (option_and_then builtin_of (slice_get xs i) ≡ Some called)
-no_builtin [] zero called all e = cc
-no_builtin [] (suc i) called all e = cc
-no_builtin (import.Host type options ∷ xs) zero called all e = cc
-no_builtin (import.ResourceNew r ∷ xs) zero called all e = All-head IsHost (import.ResourceNew r) xs all
-no_builtin (import.ResourceRep r ∷ xs) zero called all e = All-head IsHost (import.ResourceRep r) xs all
-no_builtin (import.ResourceDrop r ∷ xs) zero called all e = All-head IsHost (import.ResourceDrop r) xs all
-no_builtin (x ∷ xs) (suc i) called all e = no_builtin xs i called (All-tail IsHost x xs all) e
+no_builtin : (xs : List Import) (i : ℕ) → All IsHost xs → option_and_then builtin_of (slice_get xs i) ≡ None
+no_builtin [] zero all = refl
+no_builtin [] (suc i) all = refl
+no_builtin (import.Host type options ∷ xs) zero all = refl
+no_builtin (import.ResourceNew r ∷ xs) zero all = absurd (All-head IsHost (import.ResourceNew r) xs all)
+no_builtin (import.ResourceRep r ∷ xs) zero all = absurd (All-head IsHost (import.ResourceRep r) xs all)
+no_builtin (import.ResourceDrop r ∷ xs) zero all = absurd (All-head IsHost (import.ResourceDrop r) xs all)
+no_builtin (x ∷ xs) (suc i) all = no_builtin xs i (All-tail IsHost x xs all)
+
+none_or_some : {A : Type 0} (o : Option A) (x : A) → o ≡ None → o ≡ Some x → ⊥
+none_or_some o x e f = let both : None ≡ Some x = sym e ∙ f in cc
 
 module _ (c : Component) (recordable : IsRecordable c) where
   plain_ask : (index : ℕ) (asked : Asked) → slice_get c.imports.items index ≡ Some (import.Host asked.ty asked.options) → slice_get c.types.types.funcs asked.ty ≡ Some asked.func
@@ -100,11 +102,11 @@ module _ (c : Component) (recordable : IsRecordable c) where
 
   pub plain_imports : (o : Option Export) → HasPlainImports (callee_in c o)
   plain_imports None = record {
-    hosts = λ index called e. no_builtin c.imports.items index called recordable.hosts e;
+    hosts = λ index. no_builtin c.imports.items index recordable.hosts;
     plain = λ index words asked is. let (p, r, q) = plain_ask index asked is.known is.func in record { params = p; results = r; quiet = q };
   }
   plain_imports (Some x) = record {
-    hosts = λ index called e. no_builtin c.imports.items index called recordable.hosts e;
+    hosts = λ index. no_builtin c.imports.items index recordable.hosts;
     plain = λ index words asked is. let (p, r, q) = plain_ask index asked is.known is.func in record { params = p; results = r; quiet = q };
   }
 
@@ -275,7 +277,7 @@ module _ {T : Type 0} (gives : Giving T) (callee : Callee) (fuel : ℕ) (plain :
     log = ap (λ (s : HostSide T). s.log) is ∙ (told ∙ ap (λ (es : List LoggedEntry). Some es) (sym (append-nil entries)));
     ledger = ap (λ (s : HostSide T). s.ledger) is;
   }
-  turns_answered (t ∷ ts) before after entries told (mid, inl b, rest) = absurd (plain.hosts t.index b.called b.is.known)
+  turns_answered (t ∷ ts) before after entries told (mid, inl b, rest) = absurd (none_or_some (builtin_at callee t.index) b.called (plain.hosts t.index) b.is.known)
   turns_answered (t ∷ ts) before after entries told (mid, inr h, rest) =
       let one = answers_by_form (gives.form t.index) gives.answers callee fuel plain t before mid entries told h in
       let this : LoggedEntry = entry t.index one.params one.results in

@@ -10,13 +10,13 @@ use Rattle.canon_lowering.specs.Lowering.{Answer, Trap, events_of}
 use Rattle.canon_literals.specs.Literals.{Literal, literals_view}
 use Rattle.canon_val.specs.declared.val.Val.{Val}
 use Rattle.canon_host.specs.HostSide.{Answering, LoggedEntry}
-use Rattle.canon_func.specs.Runs.{AskTurn, Each, EndsAsking, OnAsk, posts}
+use Rattle.canon_func.specs.Runs.{AskTurn, Each, EndsAsking, OnAsk, posts as post_events}
 use Rattle.canon_func.specs.Stores.{Callee}
 use Rattle.canon_script.specs.Imports.{HostAnswer}
 use Rattle.canon_recording.specs.Recordings.{ServedAsk}
 use Rattle.canon_recording.specs.Stages.{RunsOn}
 use Rattle.canon_replay_guest.specs.Following.{IsOfRequest}
-use Rattle.canon_replay_guest.specs.Moves.{GuestRequest, HasWords, TellsRequest, destroys, posts as posts_words, reallocates, resumes, starts}
+use Rattle.canon_replay_guest.specs.Moves.{GuestRequest, HasWords, TellsRequest, destroys, posts, reallocates, resumes, starts}
 use Rattle.canon_replay_guest.specs.Passing.{AreAlike, IsAlike}
 use Rattle.canon_replay.specs.Faithful.{OnResume, entry_of_ask}
 use Rattle.canon_replay.specs.Imports.{GivesNext, answer_of_ask}
@@ -44,7 +44,7 @@ resume_told : (ws m vs n : List ℕ) (q : GuestRequest) → (AreWords ws → vs 
 resume_told ws m vs n (starts g us) same h words = h
 resume_told ws m vs n (resumes us) same h words = same (subst AreWords (sym h) words) ∙ h
 resume_told ws m vs n (reallocates c) same h words = h
-resume_told ws m vs n (posts_words g us) same h words = h
+resume_told ws m vs n (posts g us) same h words = h
 resume_told ws m vs n (destroys g r) same h words = h
 
 -- ---- what is given
@@ -108,7 +108,7 @@ module _ (post : Option ℕ) (returned after : List ℕ) where
     asks_agree [] [] entries es others bs more g l e fit = on_end
     asks_agree [] (u ∷ us) entries es others bs more g l e fit = on_ask u.index u.words u.memory us u.resumed_words u.resumed_memory
     asks_agree (t ∷ ts) [] entries es others bs more g l e fit =
-        agrees_more (event.Ask t.index t.words t.memory) (event.Return returned after) (event.Resume t.resumed_words t.resumed_memory ∷ asked_events ts ++ tail) (posts post returned)
+        agrees_more (event.Ask t.index t.words t.memory) (event.Return returned after) (event.Resume t.resumed_words t.resumed_memory ∷ asked_events ts ++ tail) (post_events post returned)
         (λ q of words. absurd (no_request_of_ask t.index t.words t.memory q of)) (λ alike. absurd (ask_alike t.index t.words t.memory (event.Return returned after) alike tt))
     asks_agree (t ∷ ts) (u ∷ us) entries [] others bs more g l e fit = absurd g
     asks_agree (t ∷ ts) (u ∷ us) entries (x ∷ es) others [] more g l e fit = absurd l
@@ -146,7 +146,7 @@ answer_no_start x f ws m h = cc
 pub alike_rest : (p : ℕ) (e r : Event) (es rs : List Event) → AreAlike (e ∷ es) (take p (r ∷ rs)) → IsAlike e r × ((q : ℕ) × AreAlike es (take q rs))
 alike_rest zero e r es rs (s, ss, is, one, more) = absurd (none_there s ss is)
 alike_rest (suc p) e r es rs (s, ss, is, one, more) =
-    (subst (IsAlike e) (sym (same_head r s (take p rs) ss is)) one, p, subst (AreAlike es) (sym (same_tail r s (take p rs) ss is)) more)
+    (subst (IsAlike e) (sym (same_head r s (take p rs) ss is)) one, (p, subst (AreAlike es) (sym (same_tail r s (take p rs) ss is)) more))
 
 -- behind a start
 pub alike_behind_start : (f g : ℕ) (ws m vs n : List ℕ) (later recorded : List Event) (xs : List Answer) (asked : Option Trap) (ys : List Answer) (p : ℕ)
@@ -179,12 +179,12 @@ module _ {U : Type 0} (answers_so : Answering U) (callee : Callee) (spent : ℕ)
   pub ask_recorded : (ts us : List AskTurn) (tail : List Event) (k p : ℕ) (others : List LoggedEntry) (bs more : List ServedAsk) → AnsweredTurns answers_so callee spent us others (map entry_of_ask bs) → drop k asks ≡ bs ++ more
       → AreAlike (asked_events ts ++ tail) (take p (asked_events us ++ recorded_end post returned after)) → OnAsk (λ i ws m rest. IsRecordedAsk callee spent asks (k + length ts) i ws m) tail
   ask_recorded (t ∷ ts) [] tail k p others bs more l e h =
-      absurd (ask_alike t.index t.words t.memory (event.Return returned after) (alike_rest p (event.Ask t.index t.words t.memory) (event.Return returned after) (event.Resume t.resumed_words t.resumed_memory ∷ asked_events ts ++ tail) (posts post returned) h).0 tt)
+      absurd (ask_alike t.index t.words t.memory (event.Return returned after) (alike_rest p (event.Ask t.index t.words t.memory) (event.Return returned after) (event.Resume t.resumed_words t.resumed_memory ∷ asked_events ts ++ tail) (post_events post returned) h).0 tt)
   ask_recorded (t ∷ ts) (u ∷ us) tail k p others [] more l e h = absurd l
   ask_recorded (t ∷ ts) (u ∷ us) tail k p others (a ∷ bs) more l e h =
-      let (first, q, behind) = alike_rest p (event.Ask t.index t.words t.memory) (event.Ask u.index u.words u.memory) (event.Resume t.resumed_words t.resumed_memory ∷ asked_events ts ++ tail)
+      let (first, (q, behind)) = alike_rest p (event.Ask t.index t.words t.memory) (event.Ask u.index u.words u.memory) (event.Resume t.resumed_words t.resumed_memory ∷ asked_events ts ++ tail)
       (event.Resume u.resumed_words u.resumed_memory ∷ asked_events us ++ recorded_end post returned after) h in
-      let (second, r, rest) = alike_rest q (event.Resume t.resumed_words t.resumed_memory) (event.Resume u.resumed_words u.resumed_memory) (asked_events ts ++ tail) (asked_events us ++ recorded_end post returned after) behind in
+      let (second, (r, rest)) = alike_rest q (event.Resume t.resumed_words t.resumed_memory) (event.Resume u.resumed_words u.resumed_memory) (asked_events ts ++ tail) (asked_events us ++ recorded_end post returned after) behind in
       subst (λ (n : ℕ). OnAsk (λ i ws m others2. IsRecordedAsk callee spent asks n i ws m) tail) (moved k (length ts))
       (ask_recorded ts us tail (k + 1) r (others ++ entry_of_ask a ∷ []) bs more l.3 (drop_rest asks k a (bs ++ more) e) rest)
     where
@@ -199,7 +199,7 @@ module _ {U : Type 0} (answers_so : Answering U) (callee : Callee) (spent : ℕ)
   ask_recorded [] us (event.Dtor f rep ∷ tail) k p others bs more l e h = tt
   ask_recorded [] us (event.Trap told at ∷ tail) k p others bs more l e h = tt
   ask_recorded [] [] (event.Ask i ws m ∷ tail) k p others bs more l e h =
-      absurd (ask_alike i ws m (event.Return returned after) (alike_rest p (event.Ask i ws m) (event.Return returned after) tail (posts post returned) h).0 tt)
+      absurd (ask_alike i ws m (event.Return returned after) (alike_rest p (event.Ask i ws m) (event.Return returned after) tail (post_events post returned) h).0 tt)
   ask_recorded [] (u ∷ us) (event.Ask i ws m ∷ tail) k p others [] more l e h = absurd l
   ask_recorded [] (u ∷ us) (event.Ask i ws m ∷ tail) k p others (a ∷ bs) more l e h =
       let (first, behind) = alike_rest p (event.Ask i ws m) (event.Ask u.index u.words u.memory) tail (event.Resume u.resumed_words u.resumed_memory ∷ asked_events us ++ recorded_end post returned after) h in
