@@ -1,6 +1,6 @@
 -- Asks that were served by functions over values, where the log is exposed: what each was asked with, what it gave, and with which words the guest was
 -- resumed.
-use Rattle.std.proofs.Common.{All, Bool, List, None, Ok, Option, Some, Vec, [], ap, append_assoc, append-nil, arith, ext_get_or, false, inl, inr, length, map, refl, slice_set, subst, suc, sym, take, true, zero, ℕ, ◌+◌, ◌++◌, ◌-◌, ◌<◌, ◌∙◌, ◌∷◌, ◌≡◌, ◌≤◌}
+use Rattle.std.proofs.Common.{All, Bool, List, None, Ok, Option, Some, Vec, [], ap, append_assoc, append-nil, arith, ext_get_or, false, inl, inr, length, length-append, map, refl, slice_set, subst, suc, sym, take, true, zero, ℕ, ◌+◌, ◌++◌, ◌-◌, ◌<◌, ◌∙◌, ◌∷◌, ◌≡◌, ◌≤◌}
 use Rattle.std.proofs.Math.Seq.{set-append_seam}
 use Rattle.std.proofs.lemmas.Bool.{le-leb, leb-false, leb-true}
 use Rattle.std.proofs.lemmas.List.Elements.{All-head, All-tail}
@@ -138,11 +138,7 @@ pub record IsAnswered (callee : Callee) (fuel : ℕ) (t : AskTurn) (params resul
 -- ---- the scope of an ask
 
 last_place : (xs : List handles.OpenScope) → length (xs ++ no_scope ∷ []) - 1 ≡ length xs
-last_place xs = let n = length_more xs in omega (arith, n)
-  where
-    length_more : (ys : List handles.OpenScope) → length (ys ++ no_scope ∷ []) ≡ length ys + 1
-    length_more [] = refl
-    length_more (y ∷ ys) = ap suc (length_more ys)
+last_place xs = let more : length (xs ++ no_scope ∷ []) ≡ length xs + 1 = length-append xs (no_scope ∷ []) in omega (arith, more)
 
 -- it ends as it was entered
 pub entered_ends : (l : LedgerState) → asked_exit (enter l) ≡ record { answer = Ok tt; after = enter l }
@@ -152,7 +148,7 @@ entered_ends l =
     scope_exits l
     ∙ ap (λ (ss : List handles.OpenScope). record { answer = Ok tt; after = record { handles = record { tables = l.handles.tables; counter = l.handles.counter; scopes = ss }; host = l.host } }) scopes
 
-lifts_none : (i : Instance) (l m : LedgerState) (leaves : List Leaf) (xs : List Any) → leaves ≡ [] → LeavesLift i l leaves xs m → m ≡ l
+pub lifts_none : (i : Instance) (l m : LedgerState) (leaves : List Leaf) (xs : List Any) → leaves ≡ [] → LeavesLift i l leaves xs m → m ≡ l
 lifts_none i l m leaves xs e h = (subst (λ (ls : List Leaf). LeavesLift i l ls xs m) e h).1
 
 takes_none : (i : Instance) (l m : LedgerState) (ps : List PassedResource) (hs : List ℕ) → ps ≡ [] → LeavesTake l (map (lower_parts i) ps) hs m → m ≡ l

@@ -67,7 +67,7 @@ drop_later asks more entries e a h = ap (λ (n : ℕ). drop n asks) (one_later e
 module _ (post : Option ℕ) (returned after : List ℕ) where
   calm_rest : (us : List AskTurn) → Each IsNoTrap (asked_events us ++ recorded_end post returned after)
   calm_rest [] = (tt, posts_trap_nothing post returned)
-  calm_rest (u ∷ us) = (tt, tt, calm_rest us)
+  calm_rest (u ∷ us) = (tt, (tt, calm_rest us))
 
   -- a resume and what comes behind it; and an ask before them
   abbrev resumed_then : List AskTurn → List ℕ → List ℕ → List Event
@@ -82,7 +82,7 @@ module _ (post : Option ℕ) (returned after : List ℕ) where
   tail_on_ask tail late asked b ends alone j vs n us ws m = subst (λ (es : List Event). Agrees es (asked_then j vs n us ws m)) (sym b.is) (by b.front (subst (EndsAsking late asked) b.is ends) (subst (OnAsk (λ i vs2 n2 more. more ≡ [])) b.is alone) b.runs)
     where
       by : (front : List Event) → EndsAsking late asked (front ++ b.trap) → OnAsk (λ i vs2 n2 more. more ≡ []) (front ++ b.trap) → RunsOn post (front ++ b.rest) → Agrees (front ++ b.trap) (asked_then j vs n us ws m)
-      by [] ends_so alone_so runs = trap_agrees b.len b.trap (asked_then j vs n us ws m) b.may (trap_unasked late asked b.len b.trap b.may ends_so) (tt, tt, calm_rest us)
+      by [] ends_so alone_so runs = trap_agrees b.len b.trap (asked_then j vs n us ws m) b.may (trap_unasked late asked b.len b.trap b.may ends_so) (tt, (tt, calm_rest us))
       by (event.Ask i us2 m2 ∷ front) ends_so alone_so runs = agrees_more (event.Ask i us2 m2) (event.Ask j vs n) (front ++ b.trap) (resumed_then us ws m) (λ q of words. absurd (no_request_of_ask i us2 m2 q of))
           (λ alike. subst (λ (es : List Event). Agrees es (resumed_then us ws m)) (sym alone_so) (agrees_none (resumed_then us ws m)))
       by (event.Return us2 m2 ∷ front) ends_so alone_so runs = agrees_more (event.Return us2 m2) (event.Ask j vs n) (front ++ b.trap) (resumed_then us ws m) (λ q of words. absurd (no_request_of_return us2 m2 q of))
@@ -97,13 +97,8 @@ module _ (post : Option ℕ) (returned after : List ℕ) where
   -- Asks that were served by the recorded ones, and the recorded asks.
   module _ {T U : Type 0} (answers_so : Answering U) (callee : Callee) (plain : HasPlainImports callee) (fuel spent : ℕ) (asks : List ServedAsk) (tail : List Event) (on_end : Agrees tail (recorded_end post returned after))
       (on_ask : (j : ℕ) (vs n : List ℕ) (us : List AskTurn) (ws m : List ℕ) → Agrees tail (event.Ask j vs n ∷ event.Resume ws m ∷ asked_events us ++ recorded_end post returned after)) where
-    abbrev Given : List AskTurn → List LoggedEntry → List LoggedEntry → Type 0
-    Given = AnsweredTurns (GivesNext {T = T} asks).answers callee fuel
-
-    abbrev Logged : List AskTurn → List LoggedEntry → List LoggedEntry → Type 0
-    Logged = AnsweredTurns answers_so callee spent
-
-    pub asks_agree : (ts us : List AskTurn) (entries es others : List LoggedEntry) (bs more : List ServedAsk) → Given ts entries es → Logged us others (map entry_of_ask bs) → drop (length entries) asks ≡ bs ++ more
+    pub asks_agree : (ts us : List AskTurn) (entries es others : List LoggedEntry) (bs more : List ServedAsk) → AnsweredTurns (GivesNext {T = T} asks).answers callee fuel ts entries es
+        → AnsweredTurns answers_so callee spent us others (map entry_of_ask bs) → drop (length entries) asks ≡ bs ++ more
         → Each (OnResume (λ ws m. AreWords ws)) (asked_events us) → Agrees (asked_events ts ++ tail) (asked_events us ++ recorded_end post returned after)
     asks_agree [] [] entries es others bs more g l e fit = on_end
     asks_agree [] (u ∷ us) entries es others bs more g l e fit = on_ask u.index u.words u.memory us u.resumed_words u.resumed_memory

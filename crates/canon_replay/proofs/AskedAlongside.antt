@@ -181,7 +181,7 @@ module _ {U : Type 0} (answers_so : Answering U) (callee : Callee) (fuel turns :
 
   resumes_fit : (us : List AskTurn) → Each (OnResume (λ ws m. AreWords ws)) (asked_events us ++ its_end) → Each (OnResume (λ ws m. AreWords ws)) (asked_events us)
   resumes_fit [] h = tt
-  resumes_fit (u ∷ us) h = (tt, h.1.0, resumes_fit us h.1.1)
+  resumes_fit (u ∷ us) h = (tt, (h.1.0, resumes_fit us h.1.1))
 
   abbrev Starts : Type 0
   Starts = StartsCall callee.func n.turns n.late n.late_trap n.tail n.later
@@ -301,7 +301,7 @@ module _ {U : Type 0} (answers_so : Answering U) (callee : Callee) (fuel turns :
         let a = its_asks s in
         let at : IsRecordedAsk callee fuel asks (length (entries ++ a.gained)) i ws m =
         subst (λ (j : ℕ). IsRecordedAsk callee fuel asks j i ws m) (as_long a.gained (as_many_gained (GivesNext {T = T} asks).answers callee fuel n.turns entries a.gained a.are)) there in
-        not_refused {T = T} callee fuel imports asks (entries ++ a.gained) i ws m at (moment n.late_guest m) after n.late n.late_trap (on s).served left a.log k
+        not_refused callee fuel imports asks (entries ++ a.gained) i ws m at (moment n.late_guest m) after n.late n.late_trap (on s).served left a.log k
         (subst (λ (x : Error). AskStops (GivesNext {T = T} asks) callee fuel x i ws (moment n.late_guest m) after n.late n.late_trap (on s).served left) is
         (stops_there (dynamic_results callee) (GivesNext {T = T} asks) callee fuel n.late_guest after n.late n.late_trap (on s).served left e i ws m more ends stops))
     refuses_not s e k is (event.Start f ws m ∷ more) ends there begins stops = begins
@@ -341,7 +341,7 @@ module _ {U : Type 0} (answers_so : Answering U) (callee : Callee) (fuel turns :
             → MayStart callee.func n.turns n.late n.late_trap n.tail n.later → OnAsk (λ i ws m more. AcceptsAsk (GivesNext {T = T} asks) callee fuel i ws m after_asks) n.tail
         asks_accepted after_asks a (inl (none, turns_none, late_none, trap_none, tail_none)) = subst (OnAsk (λ i ws m more. AcceptsAsk (GivesNext {T = T} asks) callee fuel i ws m after_asks)) (sym tail_none) tt
         asks_accepted after_asks a (inr s) = on_each_ask (λ i ws m more. IsRecordedAsk callee fuel asks (length entries + length n.turns) i ws m) (λ i ws m more. AcceptsAsk (GivesNext {T = T} asks) callee fuel i ws m after_asks)
-            (λ i ws m more there. accepts_recorded {T = T} callee fuel imports asks (entries ++ a.gained) i ws m
+            (λ i ws m more there. accepts_recorded callee fuel imports asks (entries ++ a.gained) i ws m
             (subst (λ (j : ℕ). IsRecordedAsk callee fuel asks j i ws m) (as_long a.gained (as_many_gained (GivesNext {T = T} asks).answers callee fuel n.turns entries a.gained a.are)) there) after_asks a.log)
             n.tail (there_recorded s)
 

@@ -12,19 +12,19 @@ use Rattle.canon_replay.proofs.Following.{Completes, completes_more, posts_compl
 
 -- ---- how many asks there are
 
-is_ask : Event → ℕ
+abbrev is_ask : Event → ℕ
 is_ask (event.Ask i ws m) = 1
 is_ask _ = 0
 
 asks_more : (e : Event) (es : List Event) → asks_in (e ∷ es) ≡ is_ask e + asks_in es
 asks_more (event.Ask i ws m) es = refl
-asks_more (event.Start f ws m) es = refl
-asks_more (event.Resume ws m) es = refl
-asks_more (event.Return ws m) es = refl
-asks_more (event.Realloc o os al ns a) es = refl
-asks_more (event.Post f ws) es = refl
-asks_more (event.Dtor f rep) es = refl
-asks_more (event.Trap told at) es = refl
+asks_more (event.Start f ws m) es = omega arith
+asks_more (event.Resume ws m) es = omega arith
+asks_more (event.Return ws m) es = omega arith
+asks_more (event.Realloc o os al ns a) es = omega arith
+asks_more (event.Post f ws) es = omega arith
+asks_more (event.Dtor f rep) es = omega arith
+asks_more (event.Trap told at) es = omega arith
 
 start_asks : (f : ℕ) (ws m : List ℕ) (r : Event) → IsAlike (event.Start f ws m) r → 0 ≡ is_ask r
 start_asks f ws m (event.Start g vs n) h = refl
@@ -74,7 +74,7 @@ module _ (post : Option ℕ) (returned after : List ℕ) where
 
   asks_counted : (ts : List AskTurn) → asks_in (asked_events ts ++ recorded_end post returned after) ≡ length ts
   asks_counted [] = posts_ask_nothing post
-  asks_counted (t ∷ ts) = ap suc (asks_counted ts)
+  asks_counted (t ∷ ts) = let more = asks_counted ts in omega (arith, more)
 
   pub run_asks : (func : ℕ) (words memory : List ℕ) (ts : List AskTurn) (answers : List Answer) → asks_in (events_of answers None ++ (event.Start func words memory ∷ (asked_events ts ++ recorded_end post returned after))) ≡ length ts
   run_asks func words memory ts [] = asks_counted ts
@@ -84,7 +84,7 @@ module _ (post : Option ℕ) (returned after : List ℕ) where
 
 pub each_asked : (P : List ℕ → List ℕ → Type 0) (ts : List AskTurn) (more : List Event) → Each (OnReturn P) more → Each (OnReturn P) (asked_events ts ++ more)
 each_asked P [] more h = h
-each_asked P (t ∷ ts) more h = (tt, tt, each_asked P ts more h)
+each_asked P (t ∷ ts) more h = (tt, (tt, each_asked P ts more h))
 
 -- ---- answers
 

@@ -1,6 +1,6 @@
 -- What is known of a call that answered Ok and whose imports are functions of the host that want no blocks: its events, its asks, and what its parameters
 -- and its results are.
-use Rattle.std.proofs.Common.{List, None, Ok, Option, Some, [], ap, append_assoc, false, inl, inr, length, refl, subst, sym, ℕ, ◌++◌, ◌∙◌, ◌∷◌, ◌≡◌, ◌≤◌}
+use Rattle.std.proofs.Common.{List, None, Ok, Option, Some, [], ap, append_assoc, false, inl, inr, length, refl, subst, sym, true, ℕ, ◌++◌, ◌∙◌, ◌∷◌, ◌≡◌, ◌≤◌}
 use Rattle.std.specs.Prelude.{⊤}
 use Rattle.canon_model.specs.Flat.{AreWords, max_params}
 use Rattle.canon_model.specs.Homes.{AnyPointer, ParamsHome, host_texts}

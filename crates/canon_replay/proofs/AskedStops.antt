@@ -117,11 +117,11 @@ inside xs ys e = cc
 within : (fuel left cost : ℕ) → fuel ≡ left + cost → cost ≤ fuel
 within fuel left cost e = omega (arith, e)
 
-module _ {T : Type 0} (callee : Callee) (fuel : ℕ) (imports : HasPlainImports callee) (asks : List ServedAsk) (entries : List LoggedEntry) (index : ℕ) (words memory : List ℕ) (r : IsRecordedAsk callee fuel asks (length entries) index words memory) where
+module _ (callee : Callee) (fuel : ℕ) (imports : HasPlainImports callee) (asks : List ServedAsk) (entries : List LoggedEntry) (index : ℕ) (words memory : List ℕ) (r : IsRecordedAsk callee fuel asks (length entries) index words memory) where
   -- it isn't refused
-  pub not_refused : (from to : Moment) (answers : List Answer) (trap : Option Trap) (before after : HostSide T) → before.log ≡ Some entries → (n : ℕ)
+  pub not_refused : {T : Type 0} (from to : Moment) (answers : List Answer) (trap : Option Trap) (before after : HostSide T) → before.log ≡ Some entries → (n : ℕ)
       → ¬ AskStops (GivesNext {T = T} asks) callee fuel (error.HostRefused n) index words from to answers trap before after
-  not_refused from to answers trap before after logged n h =
+  not_refused {T = T} from to answers trap before after logged n h =
       let (params, from2, to2, (none, same)) = refused_so (GivesNext {T = T} asks).answers callee fuel imports index words from to answers trap before after entries logged n h in
       some_not (literals_view r.ask.results) (sym (given_at asks (length entries) index r.ask r.there r.import_is) ∙ none)
 
@@ -134,7 +134,7 @@ module _ {T : Type 0} (callee : Callee) (fuel : ℕ) (imports : HasPlainImports 
   its : IsPlainAsk callee a.asked
   its = imports.plain turn.index turn.words a.asked a.is
 
-  module _ (h : HostSide T) (logged : h.log ≡ Some entries) where
+  module _ {T : Type 0} (h : HostSide T) (logged : h.log ≡ Some entries) where
     -- where the function may give these results by the log, they are the recorded ones
     its_results : (params results : List Val) (from to : T) → (GivesNext {T = T} asks).answers entries turn.index from params (Ok results) to → literals_view r.ask.results ≡ literals_view results
     its_results params results from to gave = inside (literals_view r.ask.results) (literals_view results) (sym (given_at asks (length entries) turn.index r.ask r.there (r.import_is ∙ sym r.index_is)) ∙ gave.0)

@@ -49,12 +49,18 @@ use Rattle.canon_replay.proofs.Steady.{IsBeforeCall, before_next, lawful_is_give
 inside : {A : Type 0} (xs ys : List A) → Some xs ≡ Some ys → xs ≡ ys
 inside xs ys e = cc
 
+none_left : {A : Type 0} (k : ℕ) → ◌≡◌ {A = List A} (drop k []) []
+none_left zero = refl
+none_left (suc k) = refl
+
+drop_both : {A : Type 0} (m k : ℕ) (xs : List A) → drop (m + k) xs ≡ drop k (drop m xs)
+drop_both zero k xs = let same : 0 + k ≡ k = omega arith in ap (λ (i : ℕ). drop i xs) same
+drop_both (suc m) k [] = none_left (suc m + k) ∙ sym (none_left k)
+drop_both (suc m) k (x ∷ xs) = let same : suc m + k ≡ suc (m + k) = omega arith in ap (λ (i : ℕ). drop i (x ∷ xs)) same ∙ drop_both m k xs
+
 -- what is left behind some more
 drop_more : {A : Type 0} (n : ℕ) (xs front rest : List A) → drop n xs ≡ front ++ rest → drop (n + length front) xs ≡ rest
-drop_more zero xs front rest e = ap (drop (length front)) e ∙ drop-append_seam front rest
-drop_more (suc n) [] [] rest e = e
-drop_more (suc n) [] (x ∷ front) rest e = cc
-drop_more (suc n) (x ∷ xs) front rest e = drop_more n xs front rest e
+drop_more n xs front rest e = drop_both n (length front) xs ∙ (ap (drop (length front)) e ∙ drop-append_seam front rest)
 
 -- ---- the recorded call, in the component
 
