@@ -95,7 +95,7 @@ module _ (post : Option ℕ) (returned after : List ℕ) where
       by (event.Trap told at ∷ front) ends_so alone_so runs = absurd (no_first post (event.Trap told at) (front ++ b.rest) (λ i vs2 n2 e. cc) (λ vs2 n2 e. cc) runs)
 
   -- Asks that were served by the recorded ones, and the recorded asks.
-  module _ {T U : Type 0} (answers_so : Answering U) (callee : Callee) (plain : HasPlainImports callee) (fuel spent : ℕ) (asks : List ServedAsk) (tail : List Event) (on_end : Agrees tail (recorded_end post returned after))
+  module _ (T : Type 0) {U : Type 0} (answers_so : Answering U) (callee : Callee) (plain : HasPlainImports callee) (fuel spent : ℕ) (asks : List ServedAsk) (tail : List Event) (on_end : Agrees tail (recorded_end post returned after))
       (on_ask : (j : ℕ) (vs n : List ℕ) (us : List AskTurn) (ws m : List ℕ) → Agrees tail (event.Ask j vs n ∷ event.Resume ws m ∷ asked_events us ++ recorded_end post returned after)) where
     pub asks_agree : (ts us : List AskTurn) (entries es others : List LoggedEntry) (bs more : List ServedAsk) → AnsweredTurns (GivesNext {T = T} asks).answers callee fuel ts entries es
         → AnsweredTurns answers_so callee spent us others (map entry_of_ask bs) → drop (length entries) asks ≡ bs ++ more

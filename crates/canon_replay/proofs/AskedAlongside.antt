@@ -236,7 +236,7 @@ module _ {U : Type 0} (answers_so : Answering U) (callee : Callee) (fuel turns :
         (front_agrees callee.post q.returned q.after b.front b.rest b.trap b.len n.late n.late_trap b.runs b.may (subst (EndsAsking n.late n.late_trap) b.is s.asking))
 
     later_asks_agree : Agrees (asked_events n.turns ++ n.tail) (asked_events q.asks ++ its_end)
-    later_asks_agree = asks_agree callee.post q.returned q.after {T = T} answers_so callee imports fuel fuel asks n.tail tail_agrees
+    later_asks_agree = asks_agree callee.post q.returned q.after T answers_so callee imports fuel fuel asks n.tail tail_agrees
         (λ j us m ts ws2 m2. tail_on_ask callee.post q.returned q.after n.tail n.late n.late_trap runs_on s.asking (alone_by (with_results answer vs) n.one_run on.stops) j us m ts ws2 m2)
         n.turns q.asks entries its_asks.gained others served more_asks its_asks.are log_is next (resumes_fit q.asks (at_recorded (OnResume (λ ws m. AreWords ws)) resumed).1)
 

@@ -143,33 +143,36 @@ module _ {T : Type 0} (Lives : List Leg → List Event → Type 0) (Leaves : Lis
         subst (λ (t : Option Trap). Meets last (params_requests false (host_asks callee.encoding) callee.params start.trees) r.answers t []) run_later.0
         (subst (λ l. Meets last (params_requests false (host_asks callee.encoding) callee.params start.trees) r.answers r.trap l) ended (m.met last))
 
-    from_start : AskedRun gives.answers callee fuel turns params results entries events
-    from_start = record {
-      answers = r.answers;
-      words = s.words;
-      memory = s.memory;
-      asks = r.turns;
-      gained = its_asks.gained;
-      asked = its_asks.are;
-      few = r.asks (λ e. cc);
-      returned = end.returned;
-      after = end.after;
-      is = whole ∙ ap (λ (es : List Event). events_of r.answers None ++ event.Start callee.func s.words s.memory ∷ es) behind_is;
-      trees = start.trees;
-      have = start.have;
-      small = start.small;
-      met = all_met;
-      homes = start.homes;
-      count = start.count;
-      left = represented.0;
-      are = represented.1;
-      leaves = no_leaves callee.types concludes.lifts.ended (returned_leaves callee end.returned end.after) (all_resources results) concludes.lifted
-          (no_member_resources true callee.results results represented.1.its_trees (members_handles callee.results no_handle) represented.1.have) concludes.lifts.lifts;
-    }
+    from_start : (run : AskedRun gives.answers callee fuel turns params results entries events) × (left.log ≡ Some (entries ++ run.gained))
+    from_start = (
+      record {
+        answers = r.answers;
+        words = s.words;
+        memory = s.memory;
+        asks = r.turns;
+        gained = its_asks.gained;
+        asked = its_asks.are;
+        few = r.asks (λ e. cc);
+        returned = end.returned;
+        after = end.after;
+        is = whole ∙ ap (λ (es : List Event). events_of r.answers None ++ event.Start callee.func s.words s.memory ∷ es) behind_is;
+        trees = start.trees;
+        have = start.have;
+        small = start.small;
+        met = all_met;
+        homes = start.homes;
+        count = start.count;
+        left = represented.0;
+        are = represented.1;
+        leaves = no_leaves callee.types concludes.lifts.ended (returned_leaves callee end.returned end.after) (all_resources results) concludes.lifted
+            (no_member_resources true callee.results results represented.1.its_trees (members_handles callee.results no_handle) represented.1.have) concludes.lifts.lifts;
+      },
+      log_is,
+    )
 
   pub asked_run : (run : AskedRun gives.answers callee fuel turns params results entries events) × (left.log ≡ Some (entries ++ run.gained))
   asked_run = by r.starts
     where
       by : MayStart callee.func r.turns r.late r.late_trap r.tail r.later → (run : AskedRun gives.answers callee fuel turns params results entries events) × (left.log ≡ Some (entries ++ run.gained))
       by (inl (e, turns, late, late_trap, tail)) = absurd (no_run callee.func callee.post (subst (IsOneRun callee.func callee.post) e run_later.1))
-      by (inr s) = (from_start s, log_is)
+      by (inr s) = from_start s
