@@ -1,6 +1,6 @@
 -- Asks that were served by functions over values, where the log is exposed: what each was asked with, what it gave, and with which words the guest was
 -- resumed.
-use Rattle.std.proofs.Common.{All, Bool, List, None, Ok, Option, Some, Vec, [], ap, append_assoc, append-nil, arith, ext_get_or, false, inl, inr, length, length-append, map, refl, slice_set, subst, suc, sym, take, true, zero, ℕ, ◌+◌, ◌++◌, ◌-◌, ◌<◌, ◌∙◌, ◌∷◌, ◌≡◌, ◌≤◌}
+use Rattle.std.proofs.Common.{All, Bool, List, None, Ok, Option, Some, Vec, [], ap, append_assoc, append-nil, arith, false, inl, inr, length, length-append, map, refl, slice_set, subst, suc, sym, take, true, zero, ℕ, ◌+◌, ◌++◌, ◌-◌, ◌<◌, ◌∙◌, ◌∷◌, ◌≡◌, ◌≤◌}
 use Rattle.std.proofs.Math.Seq.{set-append_seam}
 use Rattle.std.proofs.lemmas.Bool.{le-leb, leb-false, leb-true}
 use Rattle.std.proofs.lemmas.List.Elements.{All-head, All-tail}
@@ -52,7 +52,7 @@ use Rattle.canon_func.proofs.Scoped.{leave_entered}
 use Rattle.canon_func.specs.AskForms.{ask_form, ask_values}
 use Rattle.canon_func.specs.AskValues.{asked_params, asked_results}
 use Rattle.canon_func.specs.Asks.{AreServed, builtin_at, builtin_of}
-use Rattle.canon_func.specs.HostAsks.{IsHostAsk, IsHostServedBy, asked_exit, resumed_with}
+use Rattle.canon_func.specs.HostAsks.{IsHostAsk, IsHostServedBy, asked_exit}
 use Rattle.canon_func.specs.Runs.{AskTurn}
 use Rattle.canon_func.specs.Stores.{Callee, callee_in, params_in, results_in}
 use Rattle.canon_recording.specs.Fits.{IsHost, IsRecordable}

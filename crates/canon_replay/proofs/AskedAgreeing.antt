@@ -1,18 +1,16 @@
 -- Asks of a call that is made again beside the recorded ones: as long as both are alike, each is resumed with the recorded words.
-use Rattle.std.proofs.Common.{Bool, List, None, Ok, Option, Some, [], ap, arith, drop, inl, inr, length, length-append, map, refl, subst, suc, sym, take, zero, ℕ, ◌+◌, ◌++◌, ◌∙◌, ◌∷◌, ◌≡◌}
+use Rattle.std.proofs.Common.{Bool, List, None, Option, Some, [], ap, arith, drop, length, length-append, map, subst, suc, sym, take, zero, ℕ, ◌+◌, ◌++◌, ◌∙◌, ◌∷◌, ◌≡◌}
 use Rattle.std.proofs.lemmas.Bool.{eq-eqb}
-use Rattle.std.specs.Prelude.{if◌then◌else◌, slice_get, ⊤}
+use Rattle.std.specs.Prelude.{if◌then◌else◌, slice_get}
 use Rattle.canon_model.specs.Flat.{AreWords}
 use Rattle.canon_memory.specs.declared.event.Event.{Event}
 use Rattle.canon_memory.specs.declared.event.Event.TheVariants as event
 use Rattle.canon_memory.specs.Journal.{answer_event, asked_trap}
 use Rattle.canon_lowering.specs.Lowering.{Answer, Trap, events_of}
 use Rattle.canon_literals.specs.Literals.{Literal, literals_view}
-use Rattle.canon_val.specs.declared.val.Val.{Val}
 use Rattle.canon_host.specs.HostSide.{Answering, LoggedEntry}
 use Rattle.canon_func.specs.Runs.{AskTurn, Each, EndsAsking, OnAsk, posts as post_events}
 use Rattle.canon_func.specs.Stores.{Callee}
-use Rattle.canon_script.specs.Imports.{HostAnswer}
 use Rattle.canon_recording.specs.Recordings.{ServedAsk}
 use Rattle.canon_recording.specs.Stages.{RunsOn}
 use Rattle.canon_replay_guest.specs.Following.{IsOfRequest}

@@ -1,6 +1,6 @@
 -- A call with the parameters of a recorded call, whose asks are answered by the recorded ones, beside that call: it asks for the same, and where it follows
 -- the recorded events to their end it answers the same.
-use Rattle.std.proofs.Common.{Err, List, None, Ok, Option, Result, Some, [], ap, append_assoc, arith, drop, false, inl, inr, length, length-append, map, refl, subst, subst₂, sym, take, ℕ, ◌+◌, ◌++◌, ◌∙◌, ◌∷◌, ◌≡◌, ◌≤◌, ◌⊎◌}
+use Rattle.std.proofs.Common.{Err, List, None, Ok, Option, Result, Some, [], ap, arith, drop, false, inl, inr, length, length-append, map, refl, subst, subst₂, sym, take, ℕ, ◌+◌, ◌++◌, ◌∙◌, ◌∷◌, ◌≡◌, ◌≤◌, ◌⊎◌}
 use Rattle.std.specs.Prelude.{IfErr, IfOk, IsOkUnless, OnOk, slice_get, ⊤}
 use Rattle.canon_model.specs.Flat.{AreWords}
 use Rattle.canon_model.specs.Homes.{AnyPointer, ParamsHome, host_texts}
@@ -24,11 +24,11 @@ use Rattle.canon_value_parts.proofs.PassesOf.{no_row_passes}
 use Rattle.canon_value_parts.proofs.WordSteps.{have_fit}
 use Rattle.canon_value_parts.specs.Lifts.{AreResults}
 use Rattle.canon_host.specs.HostSide.{Answering, Giving, HostSide, LoggedEntry, gives_values}
-use Rattle.canon_func.specs.Asks.{AcceptsAsk, AreServed, AskStops, Limits, allowed}
-use Rattle.canon_func.specs.Call.{Accepts, AcceptsLater, Cause, HandlesPassOf, IsCallOf, IsStart, MetFirst, StopsLater, StopsStartedOf, dynamic, dynamic_results, param_parts, returned_leaves, stopped_by, with_results}
+use Rattle.canon_func.specs.Asks.{AcceptsAsk, AreServed, AskStops, allowed}
+use Rattle.canon_func.specs.Call.{Accepts, AcceptsLater, Cause, HandlesPassOf, IsCallOf, IsStart, MetFirst, StopsStartedOf, dynamic, dynamic_results, param_parts, returned_leaves, with_results}
 use Rattle.canon_func.specs.HostAsks.{IsUnrefused}
 use Rattle.canon_func.specs.Passing.{Arguments, ReturnedValues}
-use Rattle.canon_func.specs.Runs.{AskTurn, BeginsInAsk, Each, EndsAsking, IsNoPost, IsNoStart, IsOneRun, Leg, MayStart, MayTrap, OnAsk, OnReturn, OnStart, SomeReturn, StartsCall, answers_in, asks_in, events_in, last_len, posts as post_events}
+use Rattle.canon_func.specs.Runs.{AskTurn, BeginsInAsk, Each, EndsAsking, IsNoStart, IsOneRun, Leg, MayStart, MayTrap, OnAsk, OnReturn, OnStart, SomeReturn, StartsCall, answers_in, asks_in, events_in, last_len}
 use Rattle.canon_func.specs.Stores.{Callee}
 use Rattle.canon_func.specs.declared.error.Error.{Error}
 use Rattle.canon_func.specs.declared.error.Error.TheVariants as error
@@ -36,7 +36,7 @@ use Rattle.canon_recording.proofs.Rows.{take_all}
 use Rattle.canon_recording.proofs.Staging.{answers_run, asks_leads, runs_leads}
 use Rattle.canon_recording.specs.Recordings.{ServedAsk}
 use Rattle.canon_recording.specs.Stages.{IsServedOn, RunsOn}
-use Rattle.canon_replay_guest.specs.Following.{IsOfRequest, Leaves}
+use Rattle.canon_replay_guest.specs.Following.{Leaves}
 use Rattle.canon_replay_guest.specs.Passing.{AreAlike}
 use Rattle.canon_replay_guest.specs.declared.stop.Stop.TheVariants as stop
 use Rattle.canon_replay.specs.Calls.{HaveOtherImages}

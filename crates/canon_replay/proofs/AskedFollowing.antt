@@ -1,5 +1,5 @@
 -- Of runs with asks that want no blocks: how many asks there are, what holds of their returns, and that one that is alike a front of another is alike all of it.
-use Rattle.std.proofs.Common.{List, None, Option, Some, [], ap, arith, length, refl, subst, suc, sym, take, zero, ℕ, ◌+◌, ◌++◌, ◌∙◌, ◌∷◌, ◌≡◌, ◌≤◌}
+use Rattle.std.proofs.Common.{List, None, Option, Some, [], ap, arith, length, refl, suc, sym, take, zero, ℕ, ◌+◌, ◌++◌, ◌∙◌, ◌∷◌, ◌≡◌, ◌≤◌}
 use Rattle.canon_memory.specs.declared.event.Event.{Event}
 use Rattle.canon_memory.specs.declared.event.Event.TheVariants as event
 use Rattle.canon_memory.specs.Journal.{answer_event}

@@ -1,8 +1,7 @@
 -- What is known of a call that answered Ok and whose imports are functions of the host that want no blocks: its events, its asks, and what its parameters
 -- and its results are.
-use Rattle.std.proofs.Common.{List, None, Ok, Option, Some, [], ap, append_assoc, false, inl, inr, length, refl, subst, sym, true, ℕ, ◌++◌, ◌∙◌, ◌∷◌, ◌≡◌, ◌≤◌}
-use Rattle.std.specs.Prelude.{⊤}
-use Rattle.canon_model.specs.Flat.{AreWords, max_params}
+use Rattle.std.proofs.Common.{List, None, Ok, Option, Some, [], ap, false, inl, inr, length, refl, subst, true, ℕ, ◌++◌, ◌∙◌, ◌∷◌, ◌≡◌, ◌≤◌}
+use Rattle.canon_model.specs.Flat.{max_params}
 use Rattle.canon_model.specs.Homes.{AnyPointer, ParamsHome, host_texts}
 use Rattle.canon_model.specs.Requests.{host_asks, params_requests}
 use Rattle.canon_model.specs.Tree.{Trees}
@@ -19,7 +18,7 @@ use Rattle.canon_value_parts.specs.Fails.{AreSmall}
 use Rattle.canon_value_parts.specs.Lifts.{AreResults}
 use Rattle.canon_value_parts.specs.Resources.{all_resources}
 use Rattle.canon_host.specs.HostSide.{Answering, Giving, HostSide, LoggedEntry}
-use Rattle.canon_func.specs.Asks.{AreServed, allowed}
+use Rattle.canon_func.specs.Asks.{allowed}
 use Rattle.canon_func.specs.Call.{Concludes, IsCallOf, IsStart, MetFirst, dynamic, dynamic_results, returned_leaves, words_within}
 use Rattle.canon_func.specs.Runs.{AskTurn, Each, IsNoResume, IsOneRun, Leg, MayStart, OnReturn, OnStart, StartsCall, asks_in, events_in, posts}
 use Rattle.canon_func.specs.Stores.{Callee}

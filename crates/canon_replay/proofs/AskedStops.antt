@@ -1,23 +1,18 @@
 -- Asks of functions over values that want no blocks: none is asked for where one isn't resumed; and the ask that is the recorded one isn't refused.
-use Rattle.std.proofs.Common.{Err, List, None, Ok, Option, Some, [], ap, arith, inl, inr, length, map, refl, subst, sym, ℕ, ◌+◌, ◌++◌, ◌∙◌, ◌∷◌, ◌≡◌, ◌≤◌, ◌⊎◌}
+use Rattle.std.proofs.Common.{Err, List, None, Ok, Option, Some, [], ap, arith, inl, inr, length, map, refl, subst, sym, ℕ, ◌+◌, ◌∙◌, ◌≡◌, ◌≤◌}
 use Rattle.std.specs.Prelude.{IfSome}
 use Rattle.canon_model.specs.Cost.{members_cost}
 use Rattle.canon_model.specs.Leaves.{Leaf}
-use Rattle.canon_model.specs.Tree.{Trees}
-use Rattle.canon_memory.specs.declared.event.Event.{Event}
-use Rattle.canon_memory.specs.declared.event.Event.TheVariants as event
-use Rattle.canon_memory.specs.Guest.{Moment, moment}
+use Rattle.canon_memory.specs.Guest.{Moment}
 use Rattle.canon_ledger.specs.Ledger.{LedgerState, enter, leave}
-use Rattle.canon_lowering.specs.Lowering.{Answer, Trap, events_of}
+use Rattle.canon_lowering.specs.Lowering.{Answer, Trap}
 use Rattle.canon_resources.specs.Parts.{LeavesLift, LeavesTake, PassedResource, lower_parts}
 use Rattle.canon_context.specs.declared.fault.Fault.TheVariants as fault
 use Rattle.canon_context.specs.declared.host.HostStop.TheVariants as stop
 use Rattle.canon_literals.specs.Literals.{Literal, literals_view}
-use Rattle.canon_val.specs.Value.{HaveTrees}
 use Rattle.canon_val.specs.declared.val.Val.{Val}
 use Rattle.canon_value_parts.proofs.NoResources.{members_handles}
 use Rattle.canon_value_parts.proofs.PassesOf.{no_row_passes}
-use Rattle.canon_value_parts.specs.Resources.{all_passes}
 use Rattle.canon_host.specs.Forms.{AnyValues}
 use Rattle.canon_host.specs.HostSide.{Answering, HostSide, LoggedEntry, gives_values}
 use Rattle.canon_host.specs.declared.asked.Asked.{Asked}
@@ -31,7 +26,7 @@ use Rattle.canon_func.specs.Stores.{Callee}
 use Rattle.canon_func.specs.declared.error.Error.{Error}
 use Rattle.canon_func.specs.declared.error.Error.TheVariants as error
 use Rattle.canon_recording.specs.Recordings.{ServedAsk}
-use Rattle.canon_replay.specs.Imports.{GivesNext, answer_of_ask}
+use Rattle.canon_replay.specs.Imports.{GivesNext}
 use Rattle.canon_replay.proofs.Answered.{HasPlainImports, IsAnswered, IsPlainAsk, entered_ends, lifts_none}
 use Rattle.canon_replay.proofs.AskedAgreeing.{IsRecordedAsk, given_at}
 use Rattle.canon_replay.proofs.Blockless.{all_small}

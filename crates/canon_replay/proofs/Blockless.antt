@@ -1,5 +1,5 @@
 -- Values of types that reach no text, no list and no map: none is too large for memory.
-use Rattle.std.proofs.Common.{Bool, List, [], false, inl, inr, refl, suc, true, true≢false, zero, ℕ, ◌||◌, ◌∷◌, ◌≡◌, ◌⊎◌}
+use Rattle.std.proofs.Common.{Bool, List, [], false, inl, inr, refl, suc, true, true≢false, zero, ℕ, ◌||◌, ◌∷◌, ◌≡◌}
 use Rattle.canon_context.specs.Quiet.{cases_have_block, has_block, have_block}
 use Rattle.canon_model.specs.Shape.{Cases, Members, Shape, bare, borrow, fixed, flags, list, member, no_cases, no_members, own, payload, product, scalar, string, variant}
 use Rattle.canon_model.specs.Text.{Encoding}

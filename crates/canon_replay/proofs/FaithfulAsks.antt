@@ -1,39 +1,37 @@
 -- Recordings of calls that `Func::call` made, whose imports exposed the log that is recorded, are replayed without a difference.
-use Rattle.std.proofs.Common.{All, Bool, Err, List, None, Ok, Option, Result, Some, [], ap, append_assoc, arith, drop, inl, inr, length, length-append, map, refl, subst, subst₂, suc, sym, take, zero, ℕ, ◌+◌, ◌++◌, ◌∙◌, ◌∷◌, ◌≡◌, ◌≤◌, ◌⊎◌}
+use Rattle.std.proofs.Common.{All, Err, List, Ok, Option, Result, Some, [], ap, arith, drop, inl, inr, length, length-append, map, refl, subst, subst₂, suc, sym, take, zero, ℕ, ◌+◌, ◌++◌, ◌∙◌, ◌∷◌, ◌≡◌, ◌≤◌, ◌⊎◌}
 use Rattle.std.proofs.Math.Seq.{drop-append_seam}
 use Rattle.std.proofs.lemmas.List.{append_cancel_left}
 use Rattle.std.proofs.lemmas.List.Elements.{All-head, All-tail}
 use Rattle.std.specs.Prelude.{slice_get}
-use Rattle.canon_model.specs.Flat.{AreWords}
-use Rattle.canon_memory.specs.Guest.{GuestIn, Recorded, Seen}
+use Rattle.canon_memory.specs.Guest.{GuestIn, Seen}
 use Rattle.canon_memory.specs.declared.event.Event.{Event}
 use Rattle.canon_context.specs.Component.{IsComponent}
-use Rattle.canon_context.specs.Core.{Parts, guest_of, moment_of}
+use Rattle.canon_context.specs.Core.{guest_of, moment_of}
 use Rattle.canon_context.specs.declared.component.Component.{Component}
 use Rattle.canon_plan.specs.NoHandle.{HaveNoHandle}
 use Rattle.canon_val.specs.declared.val.Val.{Val}
-use Rattle.canon_host.specs.HostSide.{Giving, HostSide, LoggedEntry, host_side}
+use Rattle.canon_host.specs.HostSide.{Giving, LoggedEntry, host_side}
 use Rattle.canon_imports.specs.Imports.{entries_of}
 use Rattle.canon_imports.specs.declared.imports.Line.{Line}
 use Rattle.canon_func.specs.Call.{LivesUntil}
-use Rattle.canon_func.specs.Runs.{Each, OnStart, asks_in}
+use Rattle.canon_func.specs.Runs.{Each, asks_in}
 use Rattle.canon_func.specs.Stores.{Callee, callee_of, type_in}
 use Rattle.canon_func.specs.declared.error.Error.{Error}
 use Rattle.canon_recording.proofs.Rows.{map_length}
 use Rattle.canon_recording.specs.Fits.{IsRecordable, IsRecordedCallOf, callee_of_call}
 use Rattle.canon_recording.specs.Recordings.{RecordedCall, ServedAsk, exports_of, imports_of}
-use Rattle.canon_replay_guest.specs.Fitting.{CanReplayAll}
 use Rattle.canon_replay_guest.specs.Passing.{AreAlike}
-use Rattle.canon_replay_guest.specs.Replaying.{Replaying, passed_events}
+use Rattle.canon_replay_guest.specs.Replaying.{passed_events}
 use Rattle.canon_replay_guest.specs.declared.stop.Stop.TheVariants as stop
-use Rattle.canon_replay.specs.Calls.{AnswersOtherwise, CallDiffers, CallReplayed, DepartsAt, EndsOtherwise, IsNotEntered, IsNotShort, LeavesAt, MadeCall, ReplaysFrom, WasMadeAgain, asks_of_calls, events_of_call, made_call_of, replay_host, results_shape_in}
-use Rattle.canon_replay.specs.Faithful.{AreLogged, HaveLawfulAnswers, IsFaithfulCall, IsLoggedCall, IsNoDifference, LoggedAreSame, LoggedNeverDiffer, OnResume, entry_of_ask}
+use Rattle.canon_replay.specs.Calls.{AnswersOtherwise, CallDiffers, CallReplayed, DepartsAt, EndsOtherwise, IsNotEntered, IsNotShort, LeavesAt, ReplaysFrom, WasMadeAgain, asks_of_calls, events_of_call, made_call_of, replay_host, results_shape_in}
+use Rattle.canon_replay.specs.Faithful.{AreLogged, HaveLawfulAnswers, IsFaithfulCall, IsLoggedCall, IsNoDifference, LoggedAreSame, LoggedNeverDiffer, entry_of_ask}
 use Rattle.canon_replay.specs.Imports.{GivesNext}
 use Rattle.canon_replay.specs.Stores.{IsNewStore, JournaledReplays, ReplayStore, asks_in_store, guest_in_store, journaled_seen, named_export}
 use Rattle.canon_replay.specs.declared.outcome.Outcome.{Outcome}
 use Rattle.canon_replay.specs.declared.outcome.Outcome.TheVariants as outcome
 use Rattle.canon_replay.proofs.Accepting.{marks_lawful}
-use Rattle.canon_replay.proofs.Answered.{AnsweredTurns, HasPlainImports, as_many_gained, plain_imports}
+use Rattle.canon_replay.proofs.Answered.{HasPlainImports, as_many_gained, plain_imports}
 use Rattle.canon_replay.proofs.AskedAlongside.{ends_ok, follows_all, leaves_nowhere, same_results}
 use Rattle.canon_replay.proofs.AskedFollowing.{asks_alike, run_asks}
 use Rattle.canon_replay.proofs.AskedRuns.{AskedRun, asked_events, asked_run}
@@ -41,7 +39,6 @@ use Rattle.canon_replay.proofs.Behind.{IsNoTrap, recorded_end}
 use Rattle.canon_replay.proofs.Departing.{unless_short}
 use Rattle.canon_replay.proofs.Faithful.{IsGoing, before_first, callee_same, goes_on, is_entered, recorded_entered, written_calm}
 use Rattle.canon_replay.proofs.Lawfully.{asks_live, asks_unanswered}
-use Rattle.canon_replay.proofs.Running.{runs_can}
 use Rattle.canon_replay.proofs.Steady.{IsBeforeCall, before_next, lawful_is_given}
 
 -- ---- lists

@@ -1,10 +1,10 @@
 -- Values with the same literals have the same trees, where their types reach no text, no list, no map and no handle.
-use Rattle.std.proofs.Common.{Box, Err, List, None, Ok, Option, Result, Some, String, Vec, [], ap, ap₂, false, length, map, refl, string_bytes, subst, suc, sym, true, true≢false, zero, ℕ, ◌∙◌, ◌∷◌, ◌≡◌}
+use Rattle.std.proofs.Common.{Box, Err, List, None, Ok, Option, Some, String, Vec, [], ap, ap₂, false, length, map, refl, string_bytes, subst, suc, sym, true≢false, zero, ℕ, ◌∙◌, ◌∷◌, ◌≡◌}
 use Rattle.std.specs.Prelude.{⊤}
 use Rattle.std.specs.declared.alloc.Global.{Global}
 use Rattle.canon_context.specs.Quiet.{cases_have_block, cases_have_handle, has_block, has_handle, have_block, have_handle}
 use Rattle.canon_literals.proofs.Views.{literal-Enum, literal-Err, literal-FixedLengthList, literal-Flags, literal-Ok, literal-Option, literal-Record, literal-Tuple, literal-Variant}
-use Rattle.canon_literals.specs.Literals.{Fields, Literal, Payload, bool, char, enum, error, f32, f64, fields, fields_of, fields_view, fixed, flags, literal_step, literal_view, literals_of, literals_view, ok, option, payload_view, s16, s32, s64, s8, tuple, u16, u32, u64, u8, variant}
+use Rattle.canon_literals.specs.Literals.{Literal, bool, char, enum, error, f32, f64, fields, fields_of, fields_view, fixed, flags, literal_step, literal_view, literals_of, literals_view, ok, option, payload_view, s16, s32, s64, s8, tuple, u16, u32, u64, u8, variant}
 use Rattle.canon_model.specs.Shape as shape
 use Rattle.canon_model.specs.Shape.{Cases, Members, Name, ProductKind, Scalar, Shape, VariantKind, bare, borrow, list, member, no_cases, no_members, of_cases, of_fields, of_names, of_option, of_places, of_result, own, payload, product, scalar, string}
 use Rattle.canon_model.specs.Tree.{Tree, Trees}
