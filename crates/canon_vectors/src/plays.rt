@@ -59,15 +59,21 @@ fn ends_as_told(alloc: Global, row: &Row, chunk: usize) -> Result<bool, Fail> {
     ends(alloc, row, moves, moves, status, text.as_bytes())
 }
 
-/// Whether a row whose source fails as it tells its end is a read fault that wrote nothing; faulty words read nothing.
-fn ends_at_a_read(alloc: Global, row: &Row) -> Result<bool, Fail> {
+/// Whether a row whose source gives a byte a call and fails any one of its calls, that of the end too, is a read fault that wrote nothing. Faulty words
+/// read nothing.
+fn ends_at_each_read(alloc: Global, row: &Row) -> Result<bool, Fail> {
     let (_, _, input, status, _) = *row;
-    let reads = Moves {
-        chunk: 4096,
-        fails: if input.is_empty() { 1 } else { 2 },
-    };
     let wanted = if status == 2 { 2 } else { 3 };
-    ends(alloc, row, reads, WHOLE, wanted, &[])
+    for given in 0..input.len() + 1 {
+        let reads = Moves {
+            chunk: 1,
+            fails: given as u64 + 1,
+        };
+        if !ends(alloc, row, reads, WHOLE, wanted, &[])? {
+            return Ok(false);
+        }
+    }
+    Ok(true)
 }
 
 /// Whether a row whose sink takes a byte a call and fails any one of its calls is a write fault that wrote the bytes before.
@@ -93,7 +99,7 @@ fn wrong_way(alloc: Global, row: &Row) -> Result<Option<&'static str>, Fail> {
     if !ends_as_told(alloc, row, 1)? {
         return Ok(Some("a byte at a time"));
     }
-    if !ends_at_a_read(alloc, row)? {
+    if !ends_at_each_read(alloc, row)? {
         return Ok(Some("where a read fails"));
     }
     if !ends_at_each_write(alloc, row)? {
@@ -108,6 +114,16 @@ fn each_row_ends_as_it_says(rt: HostRuntime) -> Result<(), Fail> {
         let wrong = wrong_way(rt.alloc(), row)?;
         assert!(rt; wrong.is_none(), "{} {}", row.0, wrong.unwrap_or(""));
     }
+    Ok(())
+}
+
+#[test]
+fn a_sink_that_fails_its_second_call_took_the_first_four_bytes(
+    rt: HostRuntime,
+) -> Result<(), Fail> {
+    let writes = Moves { chunk: 4, fails: 2 };
+    let told = ends(rt.alloc(), &ROWS[0], WHOLE, writes, 4, b"call")?;
+    assert!(rt; told);
     Ok(())
 }
 
