@@ -64,10 +64,10 @@ fn ends_as_told(alloc: Global, row: &Row, chunk: usize) -> Result<bool, Fail> {
 fn ends_at_each_read(alloc: Global, row: &Row) -> Result<bool, Fail> {
     let (_, _, input, status, _) = *row;
     let wanted = if status == 2 { 2 } else { 3 };
-    for given in 0..input.len() + 1 {
+    for given in 0..input.len().saturating_add(1) {
         let reads = Moves {
             chunk: 1,
-            fails: given as u64 + 1,
+            fails: (given as u64).saturating_add(1),
         };
         if !ends(alloc, row, reads, WHOLE, wanted, &[])? {
             return Ok(false);
