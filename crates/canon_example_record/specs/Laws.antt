@@ -27,7 +27,7 @@ use Rattle.canon_reading.specs.RowsOfTrees.{AreOfTrees, ArePriced, end_priced, e
 use Rattle.canon_reading.specs.Scopes.{AllKeep, IsKept, none_kept}
 use Rattle.canon_reading.specs.Spots.{Faulty, Represents, Spot, flat_in, spot_members, stored}
 use Rattle.canon_reading.specs.Taken.{end_taken, more_taken, product_taken, scalar_taken, tree_taken}
-use Rattle.canon_example_record.specs.Notes.{IsNoteType, IsScore, NoteMeans, fields_reading, note_cost, note_reading, note_shape}
+use Rattle.canon_example_record.specs.Notes.{IsNoteType, IsScore, NoteMeans, fields_reading, note_cost, note_reading, note_shape, score_reading, scores_reading, title_reading}
 use Rattle.canon_example_record.specs.declared.note.Note.{Note}
 
 pub note_shape_is : (i : Instance) (type : InterfaceType) → IsNoteType i type → shape_of i.types type ≡ note_shape
@@ -64,11 +64,12 @@ pub note_kept : IsKept IsNoteType note_reading
 note_kept = record { kept = λ w at type f none. subst (λ (s : Shape). AllKeep (note_reading.steps w at s)) (sym (note_shape_is w.types type f)) (keeps w at) }
 
 pub note_taken : AreTaken note_reading
-note_taken = product_taken (λ n. n) fields_reading (more_taken (λ (n : Note). n.title) (λ n. n) _ _ (tree_taken TextMeans text_charge true)
-    (more_taken (λ (n : Note). n.score) (λ n. n) _ none_reading (scalar_taken IsScore) end_taken))
+note_taken = product_taken (λ n. n) fields_reading (more_taken (λ (n : Note). n.title) (λ n. n) title_reading scores_reading (tree_taken TextMeans text_charge true)
+    (more_taken (λ (n : Note). n.score) (λ n. n) score_reading none_reading (scalar_taken IsScore) end_taken))
 
 pub note_apart : IsApart note_reading
-note_apart = product_apart (λ n. n) (more_apart tree_apart (more_apart tree_apart end_apart))
+note_apart = product_apart (λ n. n) (more_apart {first = λ (n : Note). n.title} {others_of = λ (n : Note). n} {R = title_reading} {S = scores_reading} (tree_apart {Lifts = TextMeans})
+    (more_apart {first = λ (n : Note). n.score} {others_of = λ (n : Note). n} {R = score_reading} {S = none_reading} (tree_apart {Lifts = IsScore}) end_apart))
 
 note_faulty : (w : Setting) (at : Spot) (k : Kind) (x : At) → note_reading.faults w at note_shape k x → Faulty w.memory w.encoding at note_shape k x
 note_faulty w (stored a) k x h = h
@@ -88,11 +89,12 @@ abbrev types : List InterfaceType
 types = ty.String ∷ ty.U32 ∷ []
 
 fields_priced : ArePriced fits fields_reading (text_length ∷ free ∷ [])
-fields_priced = more_priced (text_priced (λ w at s. refl)) (more_priced (scalar_priced free refl) end_priced)
+fields_priced = more_priced {first = λ (n : Note). n.title} {others_of = λ (n : Note). n} {R = title_reading} {S = scores_reading} (text_priced (λ w at s. refl))
+    (more_priced {first = λ (n : Note). n.score} {others_of = λ (n : Note). n} {R = score_reading} {S = none_reading} (scalar_priced {Lifts = IsScore} free refl) end_priced)
 
 note_reached : (w : Setting) (at : Spot) (u : Tree) → Represents w.memory w.encoding at note_shape u → note_reading.reach w at note_shape ≡ note_cost u
-note_reached w (stored a) u ((ts, is, fields), room) = fields_priced.reach w (spot_members (stored a)) types ts (refl, refl, tt) fields ∙ ap (λ (x : Tree). note_cost x) (sym is)
-note_reached w (flat_in ws i) u (ts, is, fields) = fields_priced.reach w (spot_members (flat_in ws i)) types ts (refl, refl, tt) fields ∙ ap (λ (x : Tree). note_cost x) (sym is)
+note_reached w (stored a) u (room, (ts, is, each)) = fields_priced.reach w (spot_members (stored a)) types ts (refl, refl, tt) each ∙ ap (λ (x : Tree). note_cost x) (sym is)
+note_reached w (flat_in ws i) u (ts, is, each) = fields_priced.reach w (spot_members (flat_in ws i)) types ts (refl, refl, tt) each ∙ ap (λ (x : Tree). note_cost x) (sym is)
 
 pub note_priced : IsPriced IsNoteType note_reading note_cost
 note_priced = record {
@@ -101,7 +103,8 @@ note_priced = record {
 }
 
 fields_told : AreOfTrees fits fields_reading (λ n. FirstAnd (TextMeans n.title) (FirstAnd (IsScore n.score) NoTrees))
-fields_told = more_told text_told (more_told (scalar_told shape.u32 (scalar_of ty.U32 shape.u32 (λ i. refl))) end_told)
+fields_told = more_told {first = λ (n : Note). n.title} {others_of = λ (n : Note). n} {R = title_reading} {S = scores_reading} {Lifts = TextMeans} text_told
+    (more_told {first = λ (n : Note). n.score} {others_of = λ (n : Note). n} {R = score_reading} {S = none_reading} {Lifts = IsScore} (scalar_told shape.u32 (scalar_of ty.U32 shape.u32 (λ i. refl))) end_told)
 
 note_read : (w : Setting) (at : Spot) (before after : LedgerState) (n : Note) → note_reading.reads w at note_shape before n after → (u : Tree) × Represents w.memory w.encoding at note_shape u × NoteMeans n u
 note_read w (stored a) before after n (room, fields) =

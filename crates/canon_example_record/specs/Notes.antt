@@ -1,7 +1,8 @@
 -- A note as a record of WIT: its component type, its trees, and what is read as one.
-use Rattle.std.specs.Prelude.{[], ◌∷◌, ◌≡◌, ◌+◌, codes, pos, ℕ}
+use Rattle.std.specs.Prelude.{String, [], ◌∷◌, ◌≡◌, codes, pos, ℕ}
+use Rattle.std.specs.Global.{Global}
 use Rattle.canon_model.specs.Shape as shape
-use Rattle.canon_model.specs.Shape.{Shape, Members, member, no_members, record_of, scalar, string}
+use Rattle.canon_model.specs.Shape.{Members, Shape, member, no_members, record_of, scalar, string}
 use Rattle.canon_model.specs.Tree.{Tree, number, text_length}
 use Rattle.canon_types.specs.Instance.{Instance}
 use Rattle.canon_types.specs.Table.{Definition, IsDefined, RecordType}
@@ -39,11 +40,17 @@ abbrev pub note_cost : Tree → ℕ
 note_cost = product_cost (text_length ∷ free ∷ [])
 
 -- a value for each field, in order
-abbrev pub score_reading : RestReading Note
-score_reading = first_reading (λ n. n.score) (λ n. n) (scalar_reading IsScore) none_reading
+abbrev pub title_reading : Reading (String Global)
+title_reading = text_reading TextMeans
+
+abbrev pub score_reading : Reading ℕ
+score_reading = scalar_reading IsScore
+
+abbrev pub scores_reading : RestReading Note
+scores_reading = first_reading (λ n. n.score) (λ n. n) score_reading none_reading
 
 abbrev pub fields_reading : RestReading Note
-fields_reading = first_reading (λ n. n.title) (λ n. n) (text_reading TextMeans) score_reading
+fields_reading = first_reading (λ n. n.title) (λ n. n) title_reading scores_reading
 
 abbrev pub note_reading : Reading Note
 note_reading = product_reading (λ n. n) fields_reading
