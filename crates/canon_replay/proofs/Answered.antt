@@ -84,7 +84,7 @@ no_builtin (import.ResourceRep r ∷ xs) zero all = absurd (All-head IsHost (imp
 no_builtin (import.ResourceDrop r ∷ xs) zero all = absurd (All-head IsHost (import.ResourceDrop r) xs all)
 no_builtin (x ∷ xs) (suc i) all = no_builtin xs i (All-tail IsHost x xs all)
 
-none_or_some : {A : Type 0} (o : Option A) (x : A) → o ≡ None → o ≡ Some x → ⊥
+pub none_or_some : {A : Type 0} (o : Option A) (x : A) → o ≡ None → o ≡ Some x → ⊥
 none_or_some o x e f = let both : None ≡ Some x = sym e ∙ f in cc
 
 module _ (c : Component) (recordable : IsRecordable c) where

@@ -7,7 +7,7 @@ use Rattle.canon_memory.specs.declared.event.Event.{Event}
 use Rattle.canon_memory.specs.declared.event.Event.TheVariants as event
 use Rattle.canon_memory.specs.Journal.{answer_event, asked_trap}
 use Rattle.canon_lowering.specs.Lowering.{Answer, Trap, events_of}
-use Rattle.canon_literals.specs.Literals.{Literal, literals_view}
+use Rattle.canon_literals.specs.Literals.{literals_view}
 use Rattle.canon_host.specs.HostSide.{Answering, LoggedEntry}
 use Rattle.canon_func.specs.Runs.{AskTurn, Each, EndsAsking, OnAsk, posts as post_events}
 use Rattle.canon_func.specs.Stores.{Callee}
@@ -22,6 +22,8 @@ use Rattle.canon_replay.proofs.Agreeing.{Agrees, agrees_more, agrees_none, no_re
 use Rattle.canon_replay.proofs.Answered.{AnsweredTurns, HasPlainImports, IsAnswered, words_same}
 use Rattle.canon_replay.proofs.AskedRuns.{asked_events}
 use Rattle.canon_replay.proofs.Behind.{IsNoTrap, RunsBehind, ask_alike, no_first, posts_trap_nothing, recorded_end, trap_agrees, trap_unasked}
+use Rattle.canon_replay.proofs.Following.{answer_no_start, no_return_asks, start_no_answer}
+use Rattle.canon_replay.proofs.Requesting.{trap_no_answer}
 use Rattle.canon_replay.proofs.Rows.{drop_rest, get_first}
 
 -- ---- alike asks
@@ -34,9 +36,6 @@ asked_same i j ws vs m n h = cc
 
 memory_same : (i j : ℕ) (ws vs m n : List ℕ) → IsAlike (event.Ask i ws m) (event.Ask j vs n) → m ≡ n
 memory_same i j ws vs m n h = cc
-
-no_return_asks : (ws m : List ℕ) (j : ℕ) (vs n : List ℕ) → ¬ IsAlike (event.Return ws m) (event.Ask j vs n)
-no_return_asks ws m j vs n h = cc
 
 resume_told : (ws m vs n : List ℕ) (q : GuestRequest) → (AreWords ws → vs ≡ ws) → IsOfRequest (event.Resume ws m) q → HasWords q → TellsRequest (event.Resume vs n) q
 resume_told ws m vs n (starts g us) same h words = h
@@ -51,8 +50,8 @@ resume_told ws m vs n (destroys g r) same h words = h
 pub given_at : (asks : List ServedAsk) (k n : ℕ) (a : ServedAsk) → slice_get asks k ≡ Some a → a.import ≡ n → answer_of_ask n (slice_get asks k) ≡ Some (literals_view a.results)
 given_at asks k n a e is = ap (answer_of_ask n) e ∙ ap (λ (b : Bool). if b then Some (literals_view a.results) else None) (eq-eqb a.import n is)
 
-inside : (xs ys : List Literal) → Some xs ≡ Some ys → xs ≡ ys
-inside xs ys e = cc
+pub inside : {A : Type 0} (x y : A) → Some x ≡ Some y → x ≡ y
+inside x y e = cc
 
 one_later : (entries : List LoggedEntry) (e : LoggedEntry) → length (entries ++ e ∷ []) ≡ length entries + 1
 one_later entries e = length-append entries (e ∷ [])
@@ -126,15 +125,6 @@ module _ (post : Option ℕ) (returned after : List ℕ) where
 trap_no_start : (x : Trap) (f : ℕ) (ws m : List ℕ) → ¬ IsAlike (asked_trap x.call x.len) (event.Start f ws m)
 trap_no_start x f ws m h = cc
 
-trap_no_answer : (x : Trap) (y : Answer) → ¬ IsAlike (asked_trap x.call x.len) (answer_event y.call y.at)
-trap_no_answer x y h = cc
-
-start_no_answer : (f : ℕ) (ws m : List ℕ) (y : Answer) → ¬ IsAlike (event.Start f ws m) (answer_event y.call y.at)
-start_no_answer f ws m y h = cc
-
-answer_no_start : (x : Answer) (f : ℕ) (ws m : List ℕ) → ¬ IsAlike (answer_event x.call x.at) (event.Start f ws m)
-answer_no_start x f ws m h = cc
-
 -- one event less
 pub alike_rest : (p : ℕ) (e r : Event) (es rs : List Event) → AreAlike (e ∷ es) (take p (r ∷ rs)) → IsAlike e r × ((q : ℕ) × AreAlike es (take q rs))
 alike_rest zero e r es rs (s, ss, is, one, more) = absurd (none_there s ss is)
@@ -148,7 +138,7 @@ alike_behind_start f g ws m vs n later recorded [] None [] p h = (alike_rest p (
 alike_behind_start f g ws m vs n later recorded [] None (y ∷ ys) p h = absurd (start_no_answer f ws m y (alike_rest p (event.Start f ws m) (answer_event y.call y.at) later (events_of ys None ++ event.Start g vs n ∷ recorded) h).0)
 alike_behind_start f g ws m vs n later recorded [] (Some t) [] p h = absurd (trap_no_start t g vs n (alike_rest p (asked_trap t.call t.len) (event.Start g vs n) (event.Start f ws m ∷ later) recorded h).0)
 alike_behind_start f g ws m vs n later recorded [] (Some t) (y ∷ ys) p h =
-    absurd (trap_no_answer t y (alike_rest p (asked_trap t.call t.len) (answer_event y.call y.at) (event.Start f ws m ∷ later) (events_of ys None ++ event.Start g vs n ∷ recorded) h).0)
+    absurd (trap_no_answer t.call y.call t.len y.at (alike_rest p (asked_trap t.call t.len) (answer_event y.call y.at) (event.Start f ws m ∷ later) (events_of ys None ++ event.Start g vs n ∷ recorded) h).0)
 alike_behind_start f g ws m vs n later recorded (x ∷ xs) asked [] p h =
     absurd (answer_no_start x g vs n (alike_rest p (answer_event x.call x.at) (event.Start g vs n) (events_of xs asked ++ event.Start f ws m ∷ later) recorded h).0)
 alike_behind_start f g ws m vs n later recorded (x ∷ xs) asked (y ∷ ys) p h =

@@ -8,7 +8,7 @@ use Rattle.canon_func.specs.Runs.{AskTurn, Each, OnReturn, asks_in, posts}
 use Rattle.canon_replay_guest.specs.Passing.{AreAlike, IsAlike}
 use Rattle.canon_replay.proofs.AskedRuns.{asked_events}
 use Rattle.canon_replay.proofs.Behind.{ask_alike, recorded_end}
-use Rattle.canon_replay.proofs.Following.{Completes, completes_more, posts_complete}
+use Rattle.canon_replay.proofs.Following.{Completes, answer_no_start, completes_more, no_return_asks, posts_complete, start_no_answer}
 
 -- ---- how many asks there are
 
@@ -94,15 +94,6 @@ lawful_ends [] (y ∷ ys) zs h = lawful_ends [] ys zs h.1
 lawful_ends (x ∷ xs) ys zs h = (h.0, lawful_ends xs ys zs h.1)
 
 -- ---- whole runs
-
-no_return_asks : (ws m : List ℕ) (j : ℕ) (vs n : List ℕ) → ¬ IsAlike (event.Return ws m) (event.Ask j vs n)
-no_return_asks ws m j vs n h = cc
-
-start_no_answer : (f : ℕ) (ws m : List ℕ) (y : Answer) → ¬ IsAlike (event.Start f ws m) (answer_event y.call y.at)
-start_no_answer f ws m y h = cc
-
-answer_no_start : (x : Answer) (f : ℕ) (ws m : List ℕ) → ¬ IsAlike (answer_event x.call x.at) (event.Start f ws m)
-answer_no_start x f ws m h = cc
 
 module _ (post : Option ℕ) (returned after told left : List ℕ) where
   abbrev its_end : List Event

@@ -1,5 +1,5 @@
 -- Asks of functions over values that want no blocks: none is asked for where one isn't resumed; and the ask that is the recorded one isn't refused.
-use Rattle.std.proofs.Common.{Err, List, None, Ok, Option, Some, [], ap, arith, inl, inr, length, map, refl, subst, sym, ℕ, ◌+◌, ◌∙◌, ◌≡◌, ◌≤◌}
+use Rattle.std.proofs.Common.{Err, List, None, Ok, Option, Some, [], ap, inl, inr, length, map, refl, subst, sym, ℕ, ◌∙◌, ◌≡◌}
 use Rattle.std.specs.Prelude.{IfSome}
 use Rattle.canon_model.specs.Cost.{members_cost}
 use Rattle.canon_model.specs.Leaves.{Leaf}
@@ -9,7 +9,7 @@ use Rattle.canon_lowering.specs.Lowering.{Answer, Trap}
 use Rattle.canon_resources.specs.Parts.{LeavesLift, LeavesTake, PassedResource, lower_parts}
 use Rattle.canon_context.specs.declared.fault.Fault.TheVariants as fault
 use Rattle.canon_context.specs.declared.host.HostStop.TheVariants as stop
-use Rattle.canon_literals.specs.Literals.{Literal, literals_view}
+use Rattle.canon_literals.specs.Literals.{literals_view}
 use Rattle.canon_val.specs.declared.val.Val.{Val}
 use Rattle.canon_value_parts.proofs.NoResources.{members_handles}
 use Rattle.canon_value_parts.proofs.PassesOf.{no_row_passes}
@@ -27,8 +27,9 @@ use Rattle.canon_func.specs.declared.error.Error.{Error}
 use Rattle.canon_func.specs.declared.error.Error.TheVariants as error
 use Rattle.canon_recording.specs.Recordings.{ServedAsk}
 use Rattle.canon_replay.specs.Imports.{GivesNext}
-use Rattle.canon_replay.proofs.Answered.{HasPlainImports, IsAnswered, IsPlainAsk, entered_ends, lifts_none}
-use Rattle.canon_replay.proofs.AskedAgreeing.{IsRecordedAsk, given_at}
+use Rattle.canon_replay.proofs.Alongside.{within_fuel}
+use Rattle.canon_replay.proofs.Answered.{HasPlainImports, IsAnswered, IsPlainAsk, entered_ends, lifts_none, none_or_some}
+use Rattle.canon_replay.proofs.AskedAgreeing.{IsRecordedAsk, given_at, inside}
 use Rattle.canon_replay.proofs.Blockless.{all_small}
 use Rattle.canon_replay.proofs.Literals.{same_trees}
 
@@ -103,22 +104,13 @@ module _ {T : Type 0} (answers_so : Answering T) (callee : Callee) (fuel : ℕ) 
 
 -- ---- the recorded ask
 
-some_not : (xs : List Literal) → ¬ (Some xs ≡ None)
-some_not xs e = cc
-
-inside : (xs ys : List Literal) → Some xs ≡ Some ys → xs ≡ ys
-inside xs ys e = cc
-
-within : (fuel left cost : ℕ) → fuel ≡ left + cost → cost ≤ fuel
-within fuel left cost e = omega (arith, e)
-
 module _ (callee : Callee) (fuel : ℕ) (imports : HasPlainImports callee) (asks : List ServedAsk) (entries : List LoggedEntry) (index : ℕ) (words memory : List ℕ) (r : IsRecordedAsk callee fuel asks (length entries) index words memory) where
   -- it isn't refused
   pub not_refused : {T : Type 0} (from to : Moment) (answers : List Answer) (trap : Option Trap) (before after : HostSide T) → before.log ≡ Some entries → (n : ℕ)
       → ¬ AskStops (GivesNext {T = T} asks) callee fuel (error.HostRefused n) index words from to answers trap before after
   not_refused {T = T} from to answers trap before after logged n h =
       let (params, from2, to2, (none, same)) = refused_so (GivesNext {T = T} asks).answers callee fuel imports index words from to answers trap before after entries logged n h in
-      some_not (literals_view r.ask.results) (sym (given_at asks (length entries) index r.ask r.there r.import_is) ∙ none)
+      none_or_some _ (literals_view r.ask.results) none (given_at asks (length entries) index r.ask r.there r.import_is)
 
   abbrev turn : AskTurn
   turn = r.turn
@@ -140,7 +132,7 @@ module _ (callee : Callee) (fuel : ℕ) (imports : HasPlainImports callee) (asks
       liftable = record {
         trees = a.are.its_trees;
         represented = a.are.represented;
-        cheap = within fuel a.left (members_cost (asked_params callee a.asked) a.are.its_trees) a.are.spent;
+        cheap = within_fuel fuel a.left (members_cost (asked_params callee a.asked) a.are.its_trees) a.are.spent;
         resources = [];
         lifted = enter h.ledger;
         lifts = subst (λ (ls : List Leaf). LeavesLift callee.types (enter h.ledger) ls [] (enter h.ledger)) (sym a.leaves) (refl, refl);

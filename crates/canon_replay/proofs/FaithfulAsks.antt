@@ -32,6 +32,7 @@ use Rattle.canon_replay.specs.declared.outcome.Outcome.{Outcome}
 use Rattle.canon_replay.specs.declared.outcome.Outcome.TheVariants as outcome
 use Rattle.canon_replay.proofs.Accepting.{marks_lawful}
 use Rattle.canon_replay.proofs.Answered.{HasPlainImports, as_many_gained, plain_imports}
+use Rattle.canon_replay.proofs.AskedAgreeing.{inside}
 use Rattle.canon_replay.proofs.AskedAlongside.{ends_ok, follows_all, leaves_nowhere, same_results}
 use Rattle.canon_replay.proofs.AskedFollowing.{asks_alike, run_asks}
 use Rattle.canon_replay.proofs.AskedRuns.{AskedRun, asked_events, asked_run}
@@ -42,9 +43,6 @@ use Rattle.canon_replay.proofs.Lawfully.{asks_live, asks_unanswered}
 use Rattle.canon_replay.proofs.Steady.{IsBeforeCall, before_next, lawful_is_given}
 
 -- ---- lists
-
-inside : {A : Type 0} (xs ys : List A) → Some xs ≡ Some ys → xs ≡ ys
-inside xs ys e = cc
 
 none_left : {A : Type 0} (k : ℕ) → ◌≡◌ {A = List A} (drop k []) []
 none_left zero = refl
@@ -94,7 +92,7 @@ module _ {T G I P : Type 0} (seen : G → Seen) (moves : GuestIn G → List Even
   abbrev Goes : ReplayStore → Type 0
   Goes store = IsGoing seen moves leaves plan gives log refusals c fuel turns sound recordable store
 
-  -- how many asks were answered
+  -- the asks that were answered
   abbrev answered_asks : ReplayStore → List LoggedEntry
   answered_asks store = entries_of store.imports.lines.items
 

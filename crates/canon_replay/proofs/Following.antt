@@ -95,8 +95,14 @@ completes_more e r es rs on (suc place) (s, ss, is, one, more) =
     let le = on (subst (IsAlike e) there one) place (subst (AreAlike es) those more) in
     omega (arith, le)
 
-start_no_answer : (f : ℕ) (ws m : List ℕ) (x : Answer) → ¬ IsAlike (event.Start f ws m) (answer_event x.call x.at)
+pub start_no_answer : (f : ℕ) (ws m : List ℕ) (x : Answer) → ¬ IsAlike (event.Start f ws m) (answer_event x.call x.at)
 start_no_answer f ws m x h = cc
+
+pub answer_no_start : (x : Answer) (f : ℕ) (ws m : List ℕ) → ¬ IsAlike (answer_event x.call x.at) (event.Start f ws m)
+answer_no_start x f ws m h = cc
+
+pub no_return_asks : (ws m : List ℕ) (i : ℕ) (vs n : List ℕ) → ¬ IsAlike (event.Return ws m) (event.Ask i vs n)
+no_return_asks ws m i vs n h = cc
 
 pub posts_complete : (post : Option ℕ) (returned told : List ℕ) → Completes (posts post returned) (posts post told)
 posts_complete None returned told = completes_none []
