@@ -28,7 +28,7 @@ use Rattle.canon_example_record.specs.declared.note.Note.{Note}
 abbrev pub score_shape : Shape
 score_shape = scalar shape.u32
 
-abbrev score_members : Members
+abbrev pub score_members : Members
 score_members = member (codes "score") score_shape no_members
 
 -- ---- how the fields lie

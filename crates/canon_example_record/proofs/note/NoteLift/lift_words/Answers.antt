@@ -14,7 +14,7 @@ pub returns-in-Ok-lift_words-clause-lifts : goal.returns-in-Ok-lift_words-clause
 returns-in-Ok-lift_words-clause-lifts g c =
     let cx = c.args.cx.now in
     let mid = c.lift_words.new.cx in
-    let after = c.lift_words-in-Ok.new.cx in
+    let after = c.lift_words-in-Ok.new._cx in
     note_lifted cx.core.now cx.options c.args._ty c.requires.fits cx.fuel (flat_in c.args.src.now c.args.at) (flat_in c.args.src.now (c.args.at + 2)) tt
     refl (score_in_words cx.core.now cx.options cx.fuel c.args.src.now c.args.at)
     c.in-Ok.title mid.core.now mid.fuel c.in-Ok.ensures.same_core mid.options c.in-Ok.ensures.same_options c.in-Ok.ensures.lifts
