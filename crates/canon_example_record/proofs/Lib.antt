@@ -1,2 +1,3 @@
 mod Lifting
 mod Lowering
+mod Types

@@ -8,6 +8,7 @@ use Rattle.canon_lowering.specs.Storing.{narrow}
 use Rattle.canon_model.specs.Layout.{align, begins, ends, flat, size}
 use Rattle.canon_model.specs.Shape as shape
 use Rattle.canon_model.specs.Shape.{Shape, no_members, string}
+use Rattle.canon_types.specs.Instance.{Instance}
 use Rattle.canon_types.specs.Table.{shape_of}
 use Rattle.canon_types.specs.declared.types.InterfaceType.{InterfaceType}
 use Rattle.canon_typed.specs.Meaning.{TextMeans}
@@ -100,3 +101,16 @@ module _ {D G : Type 0} (a : Parts D G) (o fuel : ℕ) where
   pub score_in_words : (ws : List ℕ) (i : ℕ) → score_spot (setting_in a o) (spot_members (flat_in ws i)) a.ledger fuel ≡ flat_in ws (i + 2)
   unfolding flat
   score_in_words ws i = refl
+
+module _ (i : Instance) (type : InterfaceType) (f : IsNoteType i type) (at : ℕ) (aligned : at % align false (shape_of i.types type) ≡ 0) where
+  by_four : at % 4 ≡ 0
+  unfolding align
+  by_four = subst (λ (s : Shape). at % align false s ≡ 0) (note_shape_is i type f) aligned
+
+  pub title_aligned : at % align false string ≡ 0
+  unfolding align
+  title_aligned = by_four
+
+  pub score_aligned : (at + 8) % align false score_shape ≡ 0
+  unfolding align
+  score_aligned = omega (arith, by_four)

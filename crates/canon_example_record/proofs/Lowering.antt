@@ -28,7 +28,7 @@ use Rattle.canon_example_record.specs.declared.note.Note.{Note}
 abbrev pub score_shape : Shape
 score_shape = scalar shape.u32
 
-abbrev score_members : Members
+abbrev pub score_members : Members
 score_members = member (codes "score") score_shape no_members
 
 -- ---- how the fields lie
@@ -106,7 +106,7 @@ module _ {D G : Type 0} (L : GuestLaws G) (options : ℕ) where
   score_lowered : (b c : Parts D G) (n : Note) (ws : List ℕ) (r : Result (Unit {0}) Fault) → Low b c score_shape ws 2 (IsScore n.score) r → Lows b c score_members ws 2 (FirstAnd (IsScore n.score) NoTrees) r
   score_lowered b c n ws (Ok tt) h = named_words b c (codes "score") score_shape no_members ws 2 (FirstAnd (IsScore n.score) NoTrees) (Ok tt)
       (words.members_more L options b c c score_shape no_members ws ws 2 (IsScore n.score) NoTrees [] [] (Ok tt) (λ t has. tt) (λ p q l u is. ap (slice_index ws) (omega (arith, is))) h
-      (words.members_none L options c ws _ h.attempt.lowering.small))
+      (words.members_none L options c ws (2 + flat score_shape) h.attempt.lowering.small))
   score_lowered b c n ws (Err e) h = named_words b c (codes "score") score_shape no_members ws 2 (FirstAnd (IsScore n.score) NoTrees) (Err e)
       (words.lower_members_stop L options b c score_shape no_members ws 2 (IsScore n.score) NoTrees [] [] e h)
 

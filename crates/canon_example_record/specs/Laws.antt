@@ -93,8 +93,8 @@ fields_priced = more_priced {first = λ (n : Note). n.title} {others_of = λ (n 
     (more_priced {first = λ (n : Note). n.score} {others_of = λ (n : Note). n} {R = score_reading} {S = none_reading} (scalar_priced {Lifts = IsScore} free refl) end_priced)
 
 note_reached : (w : Setting) (at : Spot) (u : Tree) → Represents w.memory w.encoding at note_shape u → note_reading.reach w at note_shape ≡ note_cost u
-note_reached w (stored a) u (room, (ts, is, each)) = fields_priced.reach w (spot_members (stored a)) types ts (refl, refl, tt) each ∙ ap (λ (x : Tree). note_cost x) (sym is)
-note_reached w (flat_in ws i) u (ts, is, each) = fields_priced.reach w (spot_members (flat_in ws i)) types ts (refl, refl, tt) each ∙ ap (λ (x : Tree). note_cost x) (sym is)
+note_reached w (stored a) u (room, (ts, is, each)) = fields_priced.reach w (spot_members (stored a)) types ts (refl, (refl, tt)) each ∙ ap (λ (x : Tree). note_cost x) (sym is)
+note_reached w (flat_in ws i) u (ts, is, each) = fields_priced.reach w (spot_members (flat_in ws i)) types ts (refl, (refl, tt)) each ∙ ap (λ (x : Tree). note_cost x) (sym is)
 
 pub note_priced : IsPriced IsNoteType note_reading note_cost
 note_priced = record {
@@ -108,9 +108,9 @@ fields_told = more_told {first = λ (n : Note). n.title} {others_of = λ (n : No
 
 note_read : (w : Setting) (at : Spot) (before after : LedgerState) (n : Note) → note_reading.reads w at note_shape before n after → (u : Tree) × Represents w.memory w.encoding at note_shape u × NoteMeans n u
 note_read w (stored a) before after n (room, fields) =
-    let (ts, reps, have) = fields_told.reads w (spot_members (stored a)) types before after n (refl, refl, tt) fields in (parts ts, (room, (ts, refl, reps)), (ts, refl, have))
+    let (ts, reps, have) = fields_told.reads w (spot_members (stored a)) types before after n (refl, (refl, tt)) fields in (parts ts, (room, (ts, refl, reps)), (ts, refl, have))
 note_read w (flat_in ws i) before after n (room, fields) =
-    let (ts, reps, have) = fields_told.reads w (spot_members (flat_in ws i)) types before after n (refl, refl, tt) fields in (parts ts, (ts, refl, reps), (ts, refl, have))
+    let (ts, reps, have) = fields_told.reads w (spot_members (flat_in ws i)) types before after n (refl, (refl, tt)) fields in (parts ts, (ts, refl, reps), (ts, refl, have))
 
 note_steps : (w : Setting) (at : Spot) → AreSteps w at note_shape (note_reading.steps w at note_shape)
 unfolding reach_leaves flat_leaves

@@ -71,8 +71,10 @@ impl ComponentType for Note {
         if title.name.as_str() != "title" || score.name.as_str() != "score" {
             return Err(TypecheckFailed);
         }
-        String::typecheck(&title.ty, types)?;
-        u32::typecheck(&score.ty, types)
+        match (title.ty, score.ty) {
+            (InterfaceType::String, InterfaceType::U32) => Ok(()),
+            _ => Err(TypecheckFailed),
+        }
     }
 
     ghost typed = { note_typed };

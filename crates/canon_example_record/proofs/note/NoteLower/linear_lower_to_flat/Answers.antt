@@ -9,11 +9,11 @@ lower_field-requires-clause-words g c = title_words
 pub lower_field-requires-clause-room : goal.lower_field-requires-clause-room
 lower_field-requires-clause-room g c = omega (arith, c.requires.words, words_of_note c.args.cx.now.core.now.component.types c.args._ty c.requires.fits)
 
-pub lower_field-in-Ok-requires-clause-words : goal.lower_field-in-Ok-requires-clause-words
-lower_field-in-Ok-requires-clause-words g c = score_words
+pub lower_field-requires-in-Ok-clause-words : goal.lower_field-requires-in-Ok-clause-words
+lower_field-requires-in-Ok-clause-words g c = score_words
 
-pub lower_field-in-Ok-requires-clause-room : goal.lower_field-in-Ok-requires-clause-room
-lower_field-in-Ok-requires-clause-room g c = omega (arith, c.requires.words, words_of_note c.args.cx.now.core.now.component.types c.args._ty c.requires.fits, c.in-Ok.ensures.stays.same_length)
+pub lower_field-requires-in-Ok-clause-room : goal.lower_field-requires-in-Ok-clause-room
+lower_field-requires-in-Ok-clause-room g c = omega (arith, c.requires.words, words_of_note c.args.cx.now.core.now.component.types c.args._ty c.requires.fits, c.in-Ok.ensures.stays.same_length)
 
 pub returns-in-Ok-clause-lowers : goal.returns-in-Ok-clause-lowers
 returns-in-Ok-clause-lowers g c =
