@@ -37,6 +37,15 @@ asked_same i j ws vs m n h = cc
 memory_same : (i j : ℕ) (ws vs m n : List ℕ) → IsAlike (event.Ask i ws m) (event.Ask j vs n) → m ≡ n
 memory_same i j ws vs m n h = cc
 
+-- ---- requests
+
+pub start_told : (f : ℕ) (ws m vs n : List ℕ) (q : GuestRequest) → (AreWords ws → vs ≡ ws) → IsOfRequest (event.Start f ws m) q → HasWords q → TellsRequest (event.Start f vs n) q
+start_told f ws m vs n (starts g us) same (e, d) words = (e, same (subst AreWords (sym d) words) ∙ d)
+start_told f ws m vs n (resumes us) same h words = h
+start_told f ws m vs n (reallocates c) same h words = h
+start_told f ws m vs n (posts g us) same h words = h
+start_told f ws m vs n (destroys g r) same h words = h
+
 resume_told : (ws m vs n : List ℕ) (q : GuestRequest) → (AreWords ws → vs ≡ ws) → IsOfRequest (event.Resume ws m) q → HasWords q → TellsRequest (event.Resume vs n) q
 resume_told ws m vs n (starts g us) same h words = h
 resume_told ws m vs n (resumes us) same h words = same (subst AreWords (sym h) words) ∙ h

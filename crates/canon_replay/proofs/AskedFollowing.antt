@@ -82,6 +82,14 @@ module _ (post : Option ℕ) (returned after : List ℕ) where
 
 -- ---- returns
 
+pub each_answers : (P : Event → Type 0) → ((o os al ns a : ℕ) → P (event.Realloc o os al ns a)) → (answers : List Answer) (more : List Event) → Each P more → Each P (events_of answers None ++ more)
+each_answers P one [] more h = h
+each_answers P one (x ∷ xs) more h = (one x.call.old x.call.old_size x.call.align x.call.new_size x.at, each_answers P one xs more h)
+
+pub posts_return_nothing : (P : List ℕ → List ℕ → Type 0) (post : Option ℕ) (returned : List ℕ) → Each (OnReturn P) (posts post returned)
+posts_return_nothing P None returned = tt
+posts_return_nothing P (Some f) returned = (tt, tt)
+
 pub each_asked : (P : List ℕ → List ℕ → Type 0) (ts : List AskTurn) (more : List Event) → Each (OnReturn P) more → Each (OnReturn P) (asked_events ts ++ more)
 each_asked P [] more h = h
 each_asked P (t ∷ ts) more h = (tt, (tt, each_asked P ts more h))

@@ -1,6 +1,6 @@
 -- What is known of a call that answered Ok and whose imports are functions of the host that want no blocks: its events, its asks, and what its parameters
 -- and its results are.
-use Rattle.std.proofs.Common.{List, None, Ok, Option, Some, [], ap, false, inl, inr, length, refl, subst, true, ℕ, ◌++◌, ◌∙◌, ◌∷◌, ◌≡◌, ◌≤◌}
+use Rattle.std.proofs.Common.{List, None, Ok, Option, Some, [], ap, arith, false, inl, inr, length, refl, subst, true, ℕ, ◌++◌, ◌∙◌, ◌∷◌, ◌≡◌, ◌≤◌}
 use Rattle.canon_model.specs.Flat.{max_params}
 use Rattle.canon_model.specs.Homes.{AnyPointer, ParamsHome, host_texts}
 use Rattle.canon_model.specs.Requests.{host_asks, params_requests}
@@ -27,7 +27,7 @@ use Rattle.canon_recording.specs.Stages.{RunsOn}
 use Rattle.canon_replay.proofs.Answered.{AnsweredTurns, AnswersTurns, HasPlainImports, turns_answered}
 use Rattle.canon_replay.proofs.Behind.{runs_behind}
 use Rattle.canon_replay.proofs.Following.{each_behind}
-use Rattle.canon_replay.proofs.Runs.{each_seam, no_leaves}
+use Rattle.canon_replay.proofs.Runs.{QuietRun, each_seam, no_leaves}
 
 -- ---- asks that want no blocks
 
@@ -90,6 +90,34 @@ pub record AskedRun {T : Type 0} (answers_so : Answering T) (callee : Callee) (f
   pub left : ℕ
   pub are : AreResults callee.encoding (narrow after) callee.results returned fuel left results
   pub leaves : returned_leaves callee returned after ≡ []
+
+-- of a run that asked for no import, whatever is logged
+pub quiet_asked : {T : Type 0} (answers_so : Answering T) (callee : Callee) (fuel turns : ℕ) (params results : List Val) (entries : List LoggedEntry) (events : List Event) → asks_in events ≡ 0 → QuietRun callee fuel params results events
+    → (run : AskedRun answers_so callee fuel turns params results entries events) × (run.gained ≡ [])
+quiet_asked answers_so callee fuel turns params results entries events none q = (
+  record {
+    answers = q.answers;
+    words = q.words;
+    memory = q.memory;
+    asks = [];
+    gained = [];
+    asked = tt;
+    few = omega (arith, none);
+    returned = q.returned;
+    after = q.after;
+    is = q.is;
+    trees = q.trees;
+    have = q.have;
+    small = q.small;
+    met = q.met;
+    homes = q.homes;
+    count = q.count;
+    left = q.left;
+    are = q.are;
+    leaves = q.leaves;
+  },
+  refl,
+)
 
 module _ {T : Type 0} (Lives : List Leg → List Event → Type 0) (Leaves : List ℕ → List ℕ → Type 0) (gives : Giving T) (callee : Callee) (fuel turns : ℕ) (params results : List Val) (before after : Moment) (host left : HostSide T)
     (events : List Event) (r : IsCallOf (dynamic callee params) (dynamic_results callee) Lives Leaves gives callee (allowed fuel turns) before after host left (Ok results) events)

@@ -1,5 +1,5 @@
 -- Asks of functions over values that want no blocks: none is asked for where one isn't resumed; and the ask that is the recorded one isn't refused.
-use Rattle.std.proofs.Common.{Err, List, None, Ok, Option, Some, [], ap, inl, inr, length, map, refl, subst, sym, ℕ, ◌∙◌, ◌≡◌}
+use Rattle.std.proofs.Common.{arith, Err, List, None, Ok, Option, Some, [], ap, inl, inr, length, map, refl, subst, sym, ℕ, ◌∙◌, ◌≡◌, ◌+◌, ◌≤◌}
 use Rattle.std.specs.Prelude.{IfSome}
 use Rattle.canon_model.specs.Cost.{members_cost}
 use Rattle.canon_model.specs.Leaves.{Leaf}
@@ -27,7 +27,6 @@ use Rattle.canon_func.specs.declared.error.Error.{Error}
 use Rattle.canon_func.specs.declared.error.Error.TheVariants as error
 use Rattle.canon_recording.specs.Recordings.{ServedAsk}
 use Rattle.canon_replay.specs.Imports.{GivesNext}
-use Rattle.canon_replay.proofs.Alongside.{within_fuel}
 use Rattle.canon_replay.proofs.Answered.{HasPlainImports, IsAnswered, IsPlainAsk, entered_ends, lifts_none, none_or_some}
 use Rattle.canon_replay.proofs.AskedAgreeing.{IsRecordedAsk, given_at, inside}
 use Rattle.canon_replay.proofs.Blockless.{all_small}
@@ -103,6 +102,9 @@ module _ {T : Type 0} (answers_so : Answering T) (callee : Callee) (fuel : ℕ) 
     refused_so n (is, (asked, h)) = at_refused asked n h.stops
 
 -- ---- the recorded ask
+
+pub within_fuel : (fuel left cost : ℕ) → fuel ≡ left + cost → cost ≤ fuel
+within_fuel fuel left cost e = omega (arith, e)
 
 module _ (callee : Callee) (fuel : ℕ) (imports : HasPlainImports callee) (asks : List ServedAsk) (entries : List LoggedEntry) (index : ℕ) (words memory : List ℕ) (r : IsRecordedAsk callee fuel asks (length entries) index words memory) where
   -- it isn't refused

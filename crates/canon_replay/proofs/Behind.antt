@@ -208,10 +208,3 @@ module _ (post : Option ℕ) (returned after : List ℕ) where
   front_agrees (event.Post f ws ∷ front) rest trap len late asked runs may ends = absurd (no_first post (event.Post f ws) (front ++ rest) (λ i vs n e. cc) (λ vs n e. cc) runs)
   front_agrees (event.Dtor f rep ∷ front) rest trap len late asked runs may ends = absurd (no_first post (event.Dtor f rep) (front ++ rest) (λ i vs n e. cc) (λ vs n e. cc) runs)
   front_agrees (event.Trap told at ∷ front) rest trap len late asked runs may ends = absurd (no_first post (event.Trap told at) (front ++ rest) (λ i vs n e. cc) (λ vs n e. cc) runs)
-
-  -- what comes after turns, of which none is recorded
-  pub turns_agree : (turns : List AskTurn) (tail : List Event) (late : List Answer) (asked : Option Trap) → RunsBehind post (events_in turns ++ tail) → EndsAsking late asked tail → Agrees (events_in turns ++ tail) recorded_end
-  turns_agree [] tail late asked b ends = subst (λ (es : List Event). Agrees es recorded_end) (sym b.is) (front_agrees b.front b.rest b.trap b.len late asked b.runs b.may (subst (EndsAsking late asked) b.is ends))
-  turns_agree (t ∷ turns) tail late asked b ends =
-      agrees_more (event.Ask t.index t.words t.memory) (event.Return returned after) ((events_of t.answers None ++ event.Resume t.resumed_words t.resumed_memory ∷ events_in turns) ++ tail) (posts post returned)
-      (λ q of words. absurd (no_request_of_ask t.index t.words t.memory q of)) (λ alike. absurd (ask_alone t.index t.words t.memory returned after alike))

@@ -1,5 +1,5 @@
 -- Recordings of calls that `Func::call` made, whose imports exposed the log that is recorded, are replayed without a difference.
-use Rattle.std.proofs.Common.{All, Err, List, Ok, Option, Result, Some, [], ap, arith, drop, inl, inr, length, length-append, map, refl, subst, subst₂, suc, sym, take, zero, ℕ, ◌+◌, ◌++◌, ◌∙◌, ◌∷◌, ◌≡◌, ◌≤◌, ◌⊎◌}
+use Rattle.std.proofs.Common.{All, List, Ok, Option, Some, [], ap, arith, drop, inl, inr, length, length-append, map, refl, subst, subst₂, suc, sym, zero, ℕ, ◌+◌, ◌++◌, ◌∙◌, ◌∷◌, ◌≡◌}
 use Rattle.std.proofs.Math.Seq.{drop-append_seam}
 use Rattle.std.proofs.lemmas.List.{append_cancel_left}
 use Rattle.std.proofs.lemmas.List.Elements.{All-head, All-tail}
@@ -10,35 +10,29 @@ use Rattle.canon_context.specs.Component.{IsComponent}
 use Rattle.canon_context.specs.Core.{guest_of, moment_of}
 use Rattle.canon_context.specs.declared.component.Component.{Component}
 use Rattle.canon_plan.specs.NoHandle.{HaveNoHandle}
-use Rattle.canon_val.specs.declared.val.Val.{Val}
 use Rattle.canon_host.specs.HostSide.{Giving, LoggedEntry, host_side}
 use Rattle.canon_imports.specs.Imports.{entries_of}
 use Rattle.canon_imports.specs.declared.imports.Line.{Line}
 use Rattle.canon_func.specs.Call.{LivesUntil}
-use Rattle.canon_func.specs.Runs.{Each, asks_in}
-use Rattle.canon_func.specs.Stores.{Callee, callee_of, type_in}
-use Rattle.canon_func.specs.declared.error.Error.{Error}
+use Rattle.canon_func.specs.Runs.{asks_in}
+use Rattle.canon_func.specs.Stores.{Callee, callee_of}
 use Rattle.canon_recording.proofs.Rows.{map_length}
 use Rattle.canon_recording.specs.Fits.{IsRecordable, IsRecordedCallOf, callee_of_call}
 use Rattle.canon_recording.specs.Recordings.{RecordedCall, ServedAsk, exports_of, imports_of}
-use Rattle.canon_replay_guest.specs.Passing.{AreAlike}
-use Rattle.canon_replay_guest.specs.Replaying.{passed_events}
-use Rattle.canon_replay_guest.specs.declared.stop.Stop.TheVariants as stop
-use Rattle.canon_replay.specs.Calls.{AnswersOtherwise, CallDiffers, CallReplayed, DepartsAt, EndsOtherwise, IsNotEntered, IsNotShort, LeavesAt, ReplaysFrom, WasMadeAgain, asks_of_calls, events_of_call, made_call_of, replay_host, results_shape_in}
+use Rattle.canon_replay.specs.Calls.{CallDiffers, CallReplayed, ReplaysFrom, asks_of_calls, events_of_call, made_call_of, replay_host}
 use Rattle.canon_replay.specs.Faithful.{AreLogged, HaveLawfulAnswers, IsFaithfulCall, IsLoggedCall, IsNoDifference, LoggedAreSame, LoggedNeverDiffer, entry_of_ask}
 use Rattle.canon_replay.specs.Imports.{GivesNext}
-use Rattle.canon_replay.specs.Stores.{IsNewStore, JournaledReplays, ReplayStore, asks_in_store, guest_in_store, journaled_seen, named_export}
+use Rattle.canon_replay.specs.Stores.{IsNewStore, JournaledReplays, ReplayStore, asks_in_store, journaled_seen, named_export}
 use Rattle.canon_replay.specs.declared.outcome.Outcome.{Outcome}
 use Rattle.canon_replay.specs.declared.outcome.Outcome.TheVariants as outcome
-use Rattle.canon_replay.proofs.Accepting.{marks_lawful}
 use Rattle.canon_replay.proofs.Answered.{HasPlainImports, as_many_gained, plain_imports}
 use Rattle.canon_replay.proofs.AskedAgreeing.{inside}
-use Rattle.canon_replay.proofs.AskedAlongside.{ends_ok, follows_all, leaves_nowhere, same_results}
 use Rattle.canon_replay.proofs.AskedFollowing.{asks_alike, run_asks}
 use Rattle.canon_replay.proofs.AskedRuns.{AskedRun, asked_events, asked_run}
-use Rattle.canon_replay.proofs.Behind.{IsNoTrap, recorded_end}
+use Rattle.canon_replay.proofs.Behind.{recorded_end}
 use Rattle.canon_replay.proofs.Departing.{unless_short}
-use Rattle.canon_replay.proofs.Faithful.{IsGoing, before_first, callee_same, goes_on, is_entered, recorded_entered, written_calm}
+use Rattle.canon_replay.proofs.Faithful.{IsGoing, before_first, goes_on, recorded_entered, written_calm}
+use Rattle.canon_replay.proofs.MadeAgain.{answered_asks, callee_same, differs_nowhere}
 use Rattle.canon_replay.proofs.Lawfully.{asks_live, asks_unanswered}
 use Rattle.canon_replay.proofs.Steady.{IsBeforeCall, before_next, lawful_is_given}
 
@@ -92,10 +86,6 @@ module _ {T G I P : Type 0} (seen : G → Seen) (moves : GuestIn G → List Even
   abbrev Goes : ReplayStore → Type 0
   Goes store = IsGoing seen moves leaves plan gives log refusals c fuel turns sound recordable store
 
-  -- the asks that were answered
-  abbrev answered_asks : ReplayStore → List LoggedEntry
-  answered_asks store = entries_of store.imports.lines.items
-
   -- The store has this limit of turns; and the asks that are left are those of these calls.
   record IsAt (store : ReplayStore) (calls : List RecordedCall) : Type 0 where
     going : Goes store
@@ -109,67 +99,23 @@ module _ {T G I P : Type 0} (seen : G → Seen) (moves : GuestIn G → List Even
     imports : HasPlainImports (callee_of_call c call)
     imports = plain_imports c recordable (slice_get c.exports.items call.export)
 
+    recorded : LoggedRun seen moves leaves plan gives log refusals c fuel turns call w (callee_of_call c call) fuel turns call.events
+    recorded = logged_run seen moves leaves plan gives log refusals c fuel turns call w plain.1 imports
+
+    run : LoggedRun seen moves leaves plan gives log refusals c fuel turns call w (callee_of_call c call) before.core.fuel before.turns call.events
+    run = subst (λ (k : ℕ). LoggedRun seen moves leaves plan gives log refusals c fuel turns call w (callee_of_call c call) k before.turns call.events) (sym at.going.fuel_is)
+        (subst (λ (k : ℕ). LoggedRun seen moves leaves plan gives log refusals c fuel turns call w (callee_of_call c call) fuel k call.events) (sym at.turns_is) recorded)
+
+    call_same : (place : ℕ) → ¬ CallDiffers place (made_call_of call) before
+    call_same = differs_nowhere c call before at.going.component at.going.untrapped (gives (plan w.faithful.before.imports)).answers w.entries call.served
+        (record { run = run.run; logged = run.logged; fit = w.faithful.words; resumed = w.resumed }) plain imports (written_calm (imports_of c).count call.events fits.asks) (asks_of_calls others) at.left
+        w.faithful.slots w.faithful.before.trapped sound fits.its.known (recorded_entered seen moves leaves plan gives log refusals c fuel turns call w.faithful)
+
     abbrev again : Callee
     again = callee_of before (named_export before call.export)
 
     again_is : callee_of_call c call ≡ again
     again_is = sym (callee_same before.core.component c call.export call.export at.going.component refl)
-
-    abbrev Run : Callee → ℕ → ℕ → List Event → Type 0
-    Run callee spent limit events = LoggedRun seen moves leaves plan gives log refusals c fuel turns call w callee spent limit events
-
-    recorded : Run (callee_of_call c call) fuel turns call.events
-    recorded = logged_run seen moves leaves plan gives log refusals c fuel turns call w plain.1 imports
-
-    run : Run again before.core.fuel before.turns call.events
-    run = subst (λ (x : Callee). Run x before.core.fuel before.turns call.events) again_is (subst (λ (k : ℕ). Run (callee_of_call c call) k before.turns call.events) (sym at.going.fuel_is)
-        (subst (λ (k : ℕ). Run (callee_of_call c call) fuel k call.events) (sym at.turns_is) recorded))
-
-    plain_params : HaveNoHandle again.params
-    plain_params = subst (λ (x : Callee). HaveNoHandle x.params) again_is plain.0
-
-    plain_results : HaveNoHandle again.results
-    plain_results = subst (λ (x : Callee). HaveNoHandle x.results) again_is plain.1
-
-    again_imports : HasPlainImports again
-    again_imports = subst HasPlainImports again_is imports
-
-    calm : Each IsNoTrap call.events
-    calm = written_calm (imports_of c).count call.events fits.asks
-
-    module _ (place : ℕ) (after : ReplayStore) (results : List Val) (events : List Event) where
-      ends_so : (result : Result (Unit {0}) Error) → WasMadeAgain (made_call_of call) before after result results events → IsNotShort result → AreAlike events (take place call.events)
-          → ¬ AnswersOtherwise place (made_call_of call) before results result
-      ends_so (Err e) made short alike otherwise = short (ap (λ (x : Error). Err x)
-          (ends_ok (gives (plan w.faithful.before.imports)).answers again before.core.fuel before.turns call.params call.results w.entries call.events run.run call.served run.logged w.faithful.words w.resumed plain_params plain_results again_imports
-          (asks_in_store before) (LivesUntil {U = Unit {0}} journaled_seen JournaledReplays (guest_of before.core) (guest_of after.core) (Err e)) (λ m k. k ≡ m) (moment_of journaled_seen before.core) (moment_of journaled_seen after.core)
-          (replay_host before) (replay_host after) (answered_asks before) refl (asks_of_calls others) at.left (Err e) results events made.is (marks_lawful (passed_events (guest_in_store after))) calm place alike))
-      ends_so (Ok x) made short alike (inl less) =
-          let all = follows_all (gives (plan w.faithful.before.imports)).answers again before.core.fuel before.turns call.params call.results w.entries call.events run.run call.served run.logged w.faithful.words w.resumed plain_params plain_results again_imports
-          (asks_in_store before) (LivesUntil {U = Unit {0}} journaled_seen JournaledReplays (guest_of before.core) (guest_of after.core) (Ok x)) (λ m k. k ≡ m) (moment_of journaled_seen before.core) (moment_of journaled_seen after.core)
-          (replay_host before) (replay_host after) (answered_asks before) refl (asks_of_calls others) at.left (Ok x) results events made.is (marks_lawful (passed_events (guest_in_store after))) calm place alike refl in
-          omega (arith, less, all)
-      ends_so (Ok x) made short alike (inr (other, tuple)) =
-          same_results (gives (plan w.faithful.before.imports)).answers again before.core.fuel before.turns call.params call.results w.entries call.events run.run call.served run.logged w.faithful.words w.resumed plain_params plain_results again_imports
-          (asks_in_store before) (LivesUntil {U = Unit {0}} journaled_seen JournaledReplays (guest_of before.core) (guest_of after.core) (Ok x)) (λ m k. k ≡ m) (moment_of journaled_seen before.core) (moment_of journaled_seen after.core)
-          (replay_host before) (replay_host after) (answered_asks before) refl (asks_of_calls others) at.left (Ok x) results events made.is (marks_lawful (passed_events (guest_in_store after))) calm place alike refl
-          (results_shape_in before.core.component.types.types (type_in before.core.component (slice_get before.core.component.exports.items call.export))) tuple other
-
-      leaves_so : (result : Result (Unit {0}) Error) → WasMadeAgain (made_call_of call) before after result results events → place ≤ length call.events → ¬ LeavesAt stop.Differs place (made_call_of call) before after events
-      leaves_so result made le l =
-          leaves_nowhere (gives (plan w.faithful.before.imports)).answers again before.core.fuel before.turns call.params call.results w.entries call.events run.run call.served run.logged w.faithful.words w.resumed plain_params plain_results again_imports
-          (asks_in_store before) (LivesUntil {U = Unit {0}} journaled_seen JournaledReplays (guest_of before.core) (guest_of after.core) result) (λ m k. k ≡ m) (moment_of journaled_seen before.core) (moment_of journaled_seen after.core)
-          (replay_host before) (replay_host after) (answered_asks before) refl (asks_of_calls others) at.left result results events made.is place (guest_in_store before).live (length after.core.memory) le l
-
-    call_same : (place : ℕ) → ¬ CallDiffers place (made_call_of call) before
-    call_same place (le, how) = by how
-      where
-        by : ¬ (((place ≡ 0) × IsNotEntered (made_call_of call) before)
-            ⊎ DepartsAt (λ after results result events. LeavesAt stop.Differs place (made_call_of call) before after events ⊎ EndsOtherwise place (made_call_of call) before results result events) (made_call_of call) before)
-        by (inl (first, out)) = is_entered c call before at.going.component at.going.untrapped w.faithful.slots w.faithful.before.trapped sound fits.its.known
-            (recorded_entered seen moves leaves plan gives log refusals c fuel turns call w.faithful) out
-        by (inr (after, result, results, events, made, short, inl l)) = leaves_so place after results events result made le l
-        by (inr (after, result, results, events, made, short, inr (alike, otherwise))) = ends_so place after results events result made short alike otherwise
 
     -- ---- the next call
 
@@ -177,7 +123,7 @@ module _ {T G I P : Type 0} (seen : G → Seen) (moves : GuestIn G → List Even
       its_run : (x : AskedRun (GivesNext {T = Unit {0}} (asks_in_store before)).answers again before.core.fuel before.turns call.params r.results (answered_asks before) r.events)
           × ((replay_host next).log ≡ Some (answered_asks before ++ x.gained))
       its_run = asked_run (LivesUntil {U = Unit {0}} journaled_seen JournaledReplays (guest_of before.core) (guest_of next.core) (Ok tt)) (λ m k. k ≡ m) (GivesNext {T = Unit {0}} (asks_in_store before)) again before.core.fuel before.turns
-          call.params r.results (moment_of journaled_seen before.core) (moment_of journaled_seen next.core) (replay_host before) (replay_host next) r.events r.made.is plain_results again_imports (answered_asks before) refl
+          call.params r.results (moment_of journaled_seen before.core) (moment_of journaled_seen next.core) (replay_host before) (replay_host next) r.events r.made.is (subst (λ (x : Callee). HaveNoHandle x.results) again_is plain.1) (subst HasPlainImports again_is imports) (answered_asks before) refl
 
       answered_more : answered_asks next ≡ answered_asks before ++ its_run.0.gained
       answered_more = inside (answered_asks next) (answered_asks before ++ its_run.0.gained) its_run.1
@@ -189,8 +135,8 @@ module _ {T G I P : Type 0} (seen : G → Seen) (moves : GuestIn G → List Even
           as_many_gained (GivesNext {T = Unit {0}} (asks_in_store before)).answers again before.core.fuel x.asks (answered_asks before) x.gained x.asked
           ∙ (sym (ap asks_in x.is ∙ run_asks again.post x.returned x.after again.func x.words x.memory x.asks x.answers)
           ∙ (asks_alike r.events call.events r.alike
-          ∙ (ap asks_in run.run.is ∙ run_asks again.post run.run.returned run.run.after again.func run.run.words run.run.memory run.run.asks run.run.answers
-          ∙ (sym (as_many_gained (gives (plan w.faithful.before.imports)).answers again before.core.fuel run.run.asks w.entries run.run.gained run.run.asked)
+          ∙ (ap asks_in run.run.is ∙ run_asks (callee_of_call c call).post run.run.returned run.run.after (callee_of_call c call).func run.run.words run.run.memory run.run.asks run.run.answers
+          ∙ (sym (as_many_gained (gives (plan w.faithful.before.imports)).answers (callee_of_call c call) before.core.fuel run.run.asks w.entries run.run.gained run.run.asked)
           ∙ (ap length run.logged ∙ map_length entry_of_ask call.served)))))
 
       next_at : IsAt next others

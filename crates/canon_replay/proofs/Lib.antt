@@ -3,7 +3,6 @@ pub mod Agreeing
 pub mod Alongside
 pub mod Answered
 pub mod AskedAgreeing
-pub mod AskedAlongside
 pub mod AskedFollowing
 pub mod AskedRuns
 pub mod AskedStops
@@ -21,6 +20,7 @@ pub mod Homes
 pub mod Lawfully
 pub mod Literals
 pub mod Looping
+pub mod MadeAgain
 pub mod Making
 pub mod Places
 pub mod Requesting
