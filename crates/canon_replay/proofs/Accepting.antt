@@ -68,11 +68,12 @@ module _ (h : Handles) where
       ∙ ap (λ (s : OpenScope). refuse_if (not (s.borrow_count == 0)) fault.BorrowsRemain (Ok (tt, give_back s.lenders (with_scope (handles.enter h) (length (h.scopes ++ no_scope ∷ []) - 1) no_scope)))) entered_empty)
 
 -- a scope that was just entered may end
-pub scope_ends : (l : LedgerState) → (ended : LedgerState) × (scope_exit (enter l) ≡ record { answer = Ok tt; after = ended })
-scope_ends l = (
-  record { handles = with_scope (handles.enter l.handles) (length (l.handles.scopes ++ no_scope ∷ []) - 1) no_scope; host = l.host },
-  ap (λ (r : StepAnswer (Unit {0})). plainly r (enter l)) (entered_exits l.handles),
-)
+pub scope_exits : (l : LedgerState)
+    → scope_exit (enter l) ≡ record { answer = Ok tt; after = record { handles = with_scope (handles.enter l.handles) (length (l.handles.scopes ++ no_scope ∷ []) - 1) no_scope; host = l.host } }
+scope_exits l = ap (λ (r : StepAnswer (Unit {0})). plainly r (enter l)) (entered_exits l.handles)
+
+scope_ends : (l : LedgerState) → (ended : LedgerState) × (scope_exit (enter l) ≡ record { answer = Ok tt; after = ended })
+scope_ends l = (record { handles = with_scope (handles.enter l.handles) (length (l.handles.scopes ++ no_scope ∷ []) - 1) no_scope; host = l.host }, scope_exits l)
 
 -- and then nothing is lifted from a return that has no handle
 lifts_nothing_more : (i : Instance) (l : LedgerState) (leaves : List Leaf) → leaves ≡ [] → (resources : List Any) × LeavesLift i l leaves resources l

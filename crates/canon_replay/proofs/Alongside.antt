@@ -50,11 +50,11 @@ use Rattle.canon_replay.proofs.Values.{lifted_alike}
 
 -- ---- of events
 
-each_answers : (P : Event → Type 0) → ((o os al ns a : ℕ) → P (event.Realloc o os al ns a)) → (answers : List Answer) (more : List Event) → Each P more → Each P (events_of answers None ++ more)
+pub each_answers : (P : Event → Type 0) → ((o os al ns a : ℕ) → P (event.Realloc o os al ns a)) → (answers : List Answer) (more : List Event) → Each P more → Each P (events_of answers None ++ more)
 each_answers P one [] more h = h
 each_answers P one (x ∷ xs) more h = (one x.call.old x.call.old_size x.call.align x.call.new_size x.at, each_answers P one xs more h)
 
-posts_return_nothing : (P : List ℕ → List ℕ → Type 0) (post : Option ℕ) (returned : List ℕ) → Each (OnReturn P) (post_events post returned)
+pub posts_return_nothing : (P : List ℕ → List ℕ → Type 0) (post : Option ℕ) (returned : List ℕ) → Each (OnReturn P) (post_events post returned)
 posts_return_nothing P None returned = tt
 posts_return_nothing P (Some f) returned = (tt, tt)
 
@@ -86,14 +86,14 @@ unrefused : (args : Arguments) (its : ReturnedValues (List Val)) (callee : Calle
 unrefused args its callee limits before after events tail (Ok vs) cause quiet = tt
 unrefused args its callee limits before after events tail (Err e) cause quiet = λ n is. not_begun _ tail quiet (subst (Cause args its callee limits before after events tail) is cause)
 
-start_told : (f : ℕ) (ws m vs n : List ℕ) (q : GuestRequest) → (AreWords ws → vs ≡ ws) → IsOfRequest (event.Start f ws m) q → HasWords q → TellsRequest (event.Start f vs n) q
+pub start_told : (f : ℕ) (ws m vs n : List ℕ) (q : GuestRequest) → (AreWords ws → vs ≡ ws) → IsOfRequest (event.Start f ws m) q → HasWords q → TellsRequest (event.Start f vs n) q
 start_told f ws m vs n (starts g us) same (e, d) words = (e, same (subst AreWords (sym d) words) ∙ d)
 start_told f ws m vs n (resumes us) same h words = h
 start_told f ws m vs n (reallocates c) same h words = h
 start_told f ws m vs n (posts g us) same h words = h
 start_told f ws m vs n (destroys g r) same h words = h
 
-within_fuel : (fuel left cost : ℕ) → fuel ≡ left + cost → cost ≤ fuel
+pub within_fuel : (fuel left cost : ℕ) → fuel ≡ left + cost → cost ≤ fuel
 within_fuel fuel left cost e = omega (arith, e)
 
 module _ (callee : Callee) (fuel turns : ℕ) (params results : List Val) (recorded : List Event) (q : QuietRun callee fuel params results recorded) (plain : HaveNoHandle callee.params)

@@ -90,7 +90,7 @@ runs_first post e events r = by r.turns r.is
       same_head e (event.Ask t.index t.words t.memory) events ((events_of t.answers None ++ event.Resume t.resumed_words t.resumed_memory ∷ events_in turns) ++ event.Return r.returned r.after ∷ posts post r.returned) is,
     )
 
-no_first : (post : Option ℕ) (e : Event) (events : List Event) → ((index : ℕ) (ws m : List ℕ) → ¬ (e ≡ event.Ask index ws m)) → ((ws m : List ℕ) → ¬ (e ≡ event.Return ws m)) → ¬ RunsOn post (e ∷ events)
+pub no_first : (post : Option ℕ) (e : Event) (events : List Event) → ((index : ℕ) (ws m : List ℕ) → ¬ (e ≡ event.Ask index ws m)) → ((ws m : List ℕ) → ¬ (e ≡ event.Return ws m)) → ¬ RunsOn post (e ∷ events)
 no_first post e events no_ask no_return r = by (runs_first post e events r)
   where
     by : ¬ (((index : ℕ) × (ws m : List ℕ) × (e ≡ event.Ask index ws m)) ⊎ ((ws m : List ℕ) × (e ≡ event.Return ws m) × (events ≡ posts post ws)))
@@ -151,7 +151,7 @@ module _ (func : ℕ) (post : Option ℕ) (words memory : List ℕ) (later trap 
 -- ---- what agrees there
 
 -- a trap behind which nothing comes, or none
-trap_agrees : (len : ℕ) (trap recorded : List Event) → MayTrap len trap → Each IsNoRequest trap → Each IsNoTrap recorded → Agrees trap recorded
+pub trap_agrees : (len : ℕ) (trap recorded : List Event) → MayTrap len trap → Each IsNoRequest trap → Each IsNoTrap recorded → Agrees trap recorded
 trap_agrees len [] recorded may calm whole = agrees_none recorded
 trap_agrees len (event.Trap None at ∷ []) [] may calm whole = agrees_past (event.Trap None at) [] (no_request_of_trap at)
 trap_agrees len (event.Trap None at ∷ []) (r ∷ rs) may calm whole =
@@ -168,7 +168,7 @@ trap_agrees len (event.Post f ws ∷ xs) recorded may calm whole = absurd may
 trap_agrees len (event.Dtor f rep ∷ xs) recorded may calm whole = absurd may
 
 -- such a trap isn't one of a request, where no ask began
-trap_unasked : (late : List Answer) (asked : Option Trap) (len : ℕ) (trap : List Event) → MayTrap len trap → EndsAsking late asked trap → Each IsNoRequest trap
+pub trap_unasked : (late : List Answer) (asked : Option Trap) (len : ℕ) (trap : List Event) → MayTrap len trap → EndsAsking late asked trap → Each IsNoRequest trap
 trap_unasked late asked len [] may ends = tt
 trap_unasked late asked len (event.Trap told at ∷ []) may ends = ends.0
 trap_unasked late asked len (event.Trap told at ∷ x ∷ xs) may ends = absurd may
@@ -194,7 +194,7 @@ module _ (post : Option ℕ) (returned after : List ℕ) where
   abbrev pub recorded_end : List Event
   recorded_end = event.Return returned after ∷ posts post returned
 
-  front_agrees : (front rest trap : List Event) (len : ℕ) (late : List Answer) (asked : Option Trap) → RunsOn post (front ++ rest) → MayTrap len trap → EndsAsking late asked (front ++ trap) → Agrees (front ++ trap) recorded_end
+  pub front_agrees : (front rest trap : List Event) (len : ℕ) (late : List Answer) (asked : Option Trap) → RunsOn post (front ++ rest) → MayTrap len trap → EndsAsking late asked (front ++ trap) → Agrees (front ++ trap) recorded_end
   front_agrees [] rest trap len late asked runs may ends = trap_agrees len trap recorded_end may (trap_unasked late asked len trap may ends) (tt, posts_trap_nothing post returned)
   front_agrees (event.Return ws m ∷ front) rest trap len late asked runs may ends =
       let follows : front ++ rest ≡ posts post ws = return_first post ws m (front ++ rest) runs in

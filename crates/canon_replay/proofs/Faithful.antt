@@ -26,21 +26,22 @@ use Rattle.canon_func.specs.declared.error.Error.TheVariants as error
 use Rattle.canon_model.specs.Flat.{AreWords}
 use Rattle.canon_memory.specs.Guest.{Recorded}
 use Rattle.canon_recording_parts.specs.Events.{IsWritten}
-use Rattle.canon_recording.specs.Fits.{IsRecordable, IsRecordedCallOf, callee_of_call}
+use Rattle.canon_recording.specs.Fits.{AreRuns, IsRecordable, IsRecordedCallOf, callee_of_call}
 use Rattle.canon_recording.specs.Recordings.{RecordedCall, exports_of, imports_of}
 use Rattle.canon_replay_guest.specs.Passing.{AreAlike}
 use Rattle.canon_replay_guest.specs.Replaying.{Replaying, passed_events}
 use Rattle.canon_replay_guest.specs.declared.stop.Stop.TheVariants as stop
-use Rattle.canon_replay.specs.Calls.{AnswersOtherwise, CallDiffers, CallReplayed, DepartsAt, EndsOtherwise, IsNotEntered, IsNotShort, MadeCall, LeavesAt, ReplaysFrom, WasMadeAgain, made_call_of, events_of_call, replay_host, results_shape_in}
+use Rattle.canon_replay.specs.Calls.{AnswersOtherwise, CallDiffers, CallReplayed, DepartsAt, EndsOtherwise, IsNotEntered, IsNotShort, MadeCall, LeavesAt, ReplaysFrom, WasMadeAgain, asks_of_calls, made_call_of, events_of_call, replay_host, results_shape_in}
 use Rattle.canon_replay.specs.Faithful.{AskForNothing, HaveLawfulAnswers, IsNoDifference, RecordedAreSame, RecordedNeverDiffer, IsFaithfulCall, AreFaithful}
 use Rattle.canon_replay.specs.Imports.{GivesNext}
-use Rattle.canon_replay.specs.Stores.{JournaledReplays, ReplayStore, asks_in_store, guest_in_store, journaled_seen, named_export}
+use Rattle.canon_replay.specs.Stores.{IsNewStore, JournaledReplays, ReplayStore, asks_in_store, guest_in_store, journaled_seen, named_export}
 use Rattle.canon_replay.specs.declared.outcome.Outcome.{Outcome}
 use Rattle.canon_replay.specs.declared.outcome.Outcome.TheVariants as outcome
 use Rattle.canon_replay.proofs.Accepting.{marks_lawful}
 use Rattle.canon_replay.proofs.Alongside.{ends_ok, follows_all, leaves_nowhere, same_results}
-use Rattle.canon_replay.proofs.Behind.{IsNoAsk, IsNoTrap}
+use Rattle.canon_replay.proofs.Behind.{IsNoAsk, IsNoTrap, recorded_end}
 use Rattle.canon_replay.proofs.Departing.{unless_short}
+use Rattle.canon_replay.proofs.Lawfully.{asks_live, asks_unanswered}
 use Rattle.canon_replay.proofs.Running.{runs_can}
 use Rattle.canon_replay.proofs.Runs.{QuietRun, none_asked, quiet_run}
 use Rattle.canon_replay.proofs.Steady.{IsBeforeCall, before_next, lawful_is_given}
@@ -87,10 +88,10 @@ nothing_refused (Some x) e h = refused_not x e
 
 -- ---- the recorded call, in the component
 
-callee_same : (b c : Component) (e k : ℕ) → b ≡ c → e ≡ k → callee_in b (slice_get b.exports.items e) ≡ callee_in c (slice_get c.exports.items k)
+pub callee_same : (b c : Component) (e k : ℕ) → b ≡ c → e ≡ k → callee_in b (slice_get b.exports.items e) ≡ callee_in c (slice_get c.exports.items k)
 callee_same b c e k p q = ap (λ (x : Component). callee_in x (slice_get x.exports.items e)) p ∙ ap (λ (i : ℕ). callee_in c (slice_get c.exports.items i)) q
 
-written_calm : (imports : ℕ) (events : List Event) → All (IsWritten imports) events → Each IsNoTrap events
+pub written_calm : (imports : ℕ) (events : List Event) → All (IsWritten imports) events → Each IsNoTrap events
 written_calm imports [] all = tt
 written_calm imports (event.Start f ws m ∷ events) all = (tt, written_calm imports events (All-tail (IsWritten imports) (event.Start f ws m) events all))
 written_calm imports (event.Ask i ws m ∷ events) all = (tt, written_calm imports events (All-tail (IsWritten imports) (event.Ask i ws m) events all))
@@ -109,7 +110,7 @@ module _ {T G I P : Type 0} (seen : G → Seen) (moves : GuestIn G → List Even
   its_callee_is : its_callee ≡ callee_of_call c call
   its_callee_is = w.callee
 
-  recorded_entered : call_refusal (callee_of_call c call) (length call.params) w.slots w.before.trapped ≡ None
+  pub recorded_entered : call_refusal (callee_of_call c call) (length call.params) w.slots w.before.trapped ≡ None
   recorded_entered = subst (λ (x : Callee). call_refusal x (length call.params) w.slots w.before.trapped ≡ None) its_callee_is w.entered
 
   recorded_run : HaveNoHandle (callee_of_call c call).results → asks_in call.events ≡ 0 → QuietRun (callee_of_call c call) fuel call.params call.results call.events
@@ -123,18 +124,14 @@ module _ {T G I P : Type 0} (seen : G → Seen) (moves : GuestIn G → List Even
 
 -- ---- the same call, made again
 
-module _ (c : Component) (call : RecordedCall) (before : ReplayStore) (component : before.core.component ≡ c) (untrapped : before.trapped ≡ false)
-    (run : QuietRun (callee_of_call c call) before.core.fuel call.params call.results call.events) where
+module _ (c : Component) (call : RecordedCall) (before : ReplayStore) (component : before.core.component ≡ c) (untrapped : before.trapped ≡ false) where
   abbrev again_callee : Callee
   again_callee = callee_of before (named_export before call.export)
 
   again_callee_is : callee_of_call c call ≡ again_callee
   again_callee_is = sym (callee_same before.core.component c call.export call.export component refl)
 
-  again_run : QuietRun again_callee before.core.fuel call.params call.results call.events
-  again_run = subst (λ (x : Callee). QuietRun x before.core.fuel call.params call.results call.events) again_callee_is run
-
-  is_entered : (slots : ℕ) (trapped : Bool) → IsComponent c → call.export < length c.exports.items → call_refusal (callee_of_call c call) (length call.params) slots trapped ≡ None → ¬ IsNotEntered (made_call_of call) before
+  pub is_entered : (slots : ℕ) (trapped : Bool) → IsComponent c → call.export < length c.exports.items → call_refusal (callee_of_call c call) (length call.params) slots trapped ≡ None → ¬ IsNotEntered (made_call_of call) before
   is_entered slots trapped sound known entered (others, counted, refused) =
       let in_c : IfSome (type_in c (slice_get c.exports.items call.export)) (λ f. others ≡ length (types_of c.types.types f.results)) =
       subst (λ (x : Component). IfSome (type_in x (slice_get x.exports.items call.export)) (λ f. others ≡ length (types_of x.types.types f.results))) component counted in
@@ -142,8 +139,11 @@ module _ (c : Component) (call : RecordedCall) (before : ReplayStore) (component
       nothing_refused (call_refusal again_callee (length call.params) others before.trapped)
       (subst (λ (x : Callee). call_refusal x (length call.params) others before.trapped ≡ None) again_callee_is (enters (callee_of_call c call) (length call.params) slots others trapped before.trapped entered count untrapped)) refused
 
-  module _ (plain_params : HaveNoHandle (callee_of_call c call).params) (plain_results : HaveNoHandle (callee_of_call c call).results) (quiet : Each IsNoAsk call.events) (calm : Each IsNoTrap call.events)
+  module _ (run : QuietRun (callee_of_call c call) before.core.fuel call.params call.results call.events) (plain_params : HaveNoHandle (callee_of_call c call).params) (plain_results : HaveNoHandle (callee_of_call c call).results) (quiet : Each IsNoAsk call.events) (calm : Each IsNoTrap call.events)
       (place : ℕ) (after : ReplayStore) (results : List Val) (events : List Event) where
+    again_run : QuietRun again_callee before.core.fuel call.params call.results call.events
+    again_run = subst (λ (x : Callee). QuietRun x before.core.fuel call.params call.results call.events) again_callee_is run
+
     plain : HaveNoHandle again_callee.params
     plain = subst (λ (x : Callee). HaveNoHandle x.params) again_callee_is plain_params
 
@@ -174,12 +174,12 @@ module _ (c : Component) (call : RecordedCall) (before : ReplayStore) (component
 module _ {T G I P : Type 0} (seen : G → Seen) (moves : GuestIn G → List Event → GuestIn G → Type 0) (leaves : List ℕ → List ℕ → Type 0)
     (plan : I → P) (gives : P → Giving T) (log : I → Option (List LoggedEntry)) (refusals : I → ℕ) (c : Component) (fuel turns : ℕ) (sound : IsComponent c) (recordable : IsRecordable c) where
   -- The store is of the component, has the fuel, and no call was refused.
-  record IsGoing (store : ReplayStore) : Type 0 where
-    component : store.core.component ≡ c
-    fuel_is : store.core.fuel ≡ fuel
-    untrapped : store.trapped ≡ false
+  pub record IsGoing (store : ReplayStore) : Type 0 where
+    pub component : store.core.component ≡ c
+    pub fuel_is : store.core.fuel ≡ fuel
+    pub untrapped : store.trapped ≡ false
 
-  goes_on : (call : MadeCall) (before after : ReplayStore) → IsGoing before → CallReplayed call before after → IsGoing after
+  pub goes_on : (call : MadeCall) (before after : ReplayStore) → IsGoing before → CallReplayed call before after → IsGoing after
   goes_on call before after going r = record {
     component = ap (λ (parts : Parts (Unit {0}) (Recorded Replaying)). parts.component) r.kept.same_core ∙ going.component;
     fuel_is = ap (λ (parts : Parts (Unit {0}) (Recorded Replaying)). parts.fuel) r.kept.same_core ∙ going.fuel_is;
@@ -204,7 +204,7 @@ module _ {T G I P : Type 0} (seen : G → Seen) (moves : GuestIn G → List Even
 
       by : ¬ (((place ≡ 0) × IsNotEntered (made_call_of call) before)
           ⊎ DepartsAt (λ after results result events. LeavesAt stop.Differs place (made_call_of call) before after events ⊎ EndsOtherwise place (made_call_of call) before results result events) (made_call_of call) before)
-      by (inl (first, out)) = is_entered c call before going.component going.untrapped run w.slots w.before.trapped sound fits.its.known (recorded_entered seen moves leaves plan gives log refusals c fuel turns call w) out
+      by (inl (first, out)) = is_entered c call before going.component going.untrapped w.slots w.before.trapped sound fits.its.known (recorded_entered seen moves leaves plan gives log refusals c fuel turns call w) out
       by (inr (after, result, results, events, made, short, inl l)) =
           leaves_so c call before going.component going.untrapped run plain.0 plain.1 quiet_all calm_all place after results events result made le l
       by (inr (after, result, results, events, made, short, inr (alike, otherwise))) =
@@ -228,7 +228,8 @@ module _ {T G I P : Type 0} (seen : G → Seen) (moves : GuestIn G → List Even
       let known = All-head (IsRecordedCallOf (exports_of c) (imports_of c)) call calls fits in
       let run = recorded_run seen moves leaves plan gives log refusals c fuel turns call were.0 (recordable.exports call.export known.its.known).1 quiet.0 in
       same_from (k + 1) calls next o (goes_on (made_call_of call) store next going replayed)
-      (before_next k store call.events (map events_of_call calls) at (callee_of_call c call).func run.words run.memory run.returned run.after (callee_of_call c call).post run.answers run.is next replayed.events replayed.made.moves.moves
+      (before_next k store call.events (map events_of_call calls) at (callee_of_call c call).func run.words run.memory (recorded_end (callee_of_call c call).post run.returned run.after) (asks_unanswered run.returned run.after (callee_of_call c call).post [])
+      (asks_live run.returned run.after (callee_of_call c call).post []) run.answers run.is next replayed.events replayed.made.moves.moves
       replayed.alike (written_calm (imports_of c).count call.events known.asks) replayed.kept.recorded)
       (All-tail (IsRecordedCallOf (exports_of c) (imports_of c)) call calls fits) were.1 quiet.1 law.1 others
   same_from k (call ∷ calls) store (outcome.Differs i place) going at fits were quiet law (inr (same, differs)) =
@@ -237,8 +238,26 @@ module _ {T G I P : Type 0} (seen : G → Seen) (moves : GuestIn G → List Even
   same_from k (call ∷ calls) store (outcome.Unlawful i place) going at fits were quiet law (inr (same, (after, result, results, events, made, short, l))) =
       let known = All-head (IsRecordedCallOf (exports_of c) (imports_of c)) call calls fits in
       let run = recorded_run seen moves leaves plan gives log refusals c fuel turns call were.0 (recordable.exports call.export known.its.known).1 quiet.0 in
-      absurd (lawful_is_given k store call.events (map events_of_call calls) at (callee_of_call c call).func run.words run.memory run.returned run.after (callee_of_call c call).post run.answers run.is after events
+      absurd (lawful_is_given k store call.events (map events_of_call calls) at (callee_of_call c call).func run.words run.memory (recorded_end (callee_of_call c call).post run.returned run.after) (asks_unanswered run.returned run.after (callee_of_call c call).post [])
+      (asks_live run.returned run.after (callee_of_call c call).post []) run.answers run.is after events
       (unless_short result (JournaledReplays (guest_of store.core) events (guest_of after.core)) short made.moves).moves law.0 place l)
+
+-- the guest of a new store is before the first call
+pub before_first : (c : Component) (fuel turns : ℕ) (calls : List RecordedCall) (store : ReplayStore) → IsNewStore c (map events_of_call calls) (asks_of_calls calls) fuel turns store → AreRuns c 0 calls → IsBeforeCall 0 store (map events_of_call calls)
+before_first c fuel turns calls store new runs = record {
+  going = ap (λ (g : Replaying). g.stop) new.guest;
+  before = inl (ap (λ (g : Replaying). g.call) new.guest, ap (λ (g : Replaying). g.at) new.guest);
+  can = inl (ap (λ (g : Replaying). g.at) new.guest, can_all);
+  small = omega (arith, no_memory);
+  live = ap (λ (g : Replaying). g.live) new.guest;
+  left_are = ap (λ (g : Replaying). g.recorded) new.guest;
+}
+  where
+    no_memory : length store.core.memory ≡ 0
+    no_memory = ap length new.memory
+
+    can_all : CanReplayAll (length store.core.memory) (drop (guest_in_store store).call (guest_in_store store).recorded)
+    can_all = subst₂ CanReplayAll (sym no_memory) (sym (ap (λ (g : Replaying). drop g.call g.recorded) new.guest)) (runs_can c 0 calls runs)
 
 pub recorded_never_differ : {T G I P : Type 0} (seen : G → Seen) (moves : GuestIn G → List Event → GuestIn G → Type 0) (leaves : List ℕ → List ℕ → Type 0)
     (plan : I → P) (gives : P → Giving T) (log : I → Option (List LoggedEntry)) (refusals : I → ℕ) → RecordedNeverDiffer seen moves leaves plan gives log refusals
@@ -251,18 +270,4 @@ pub recorded_are_same : {T G I P : Type 0} (seen : G → Seen) (moves : GuestIn 
 recorded_are_same seen moves leaves plan gives log refusals c calls fuel turns o sound recordable fits were quiet law (store, new, replays) =
     same_from seen moves leaves plan gives log refusals c fuel turns sound recordable 0 calls store o
     (record { component = new.component; fuel_is = new.fuel_is; untrapped = new.untrapped })
-    (record {
-      going = ap (λ (g : Replaying). g.stop) new.guest;
-      before = inl (ap (λ (g : Replaying). g.call) new.guest, ap (λ (g : Replaying). g.at) new.guest);
-      can = inl (ap (λ (g : Replaying). g.at) new.guest, can_all);
-      small = omega (arith, no_memory);
-      live = ap (λ (g : Replaying). g.live) new.guest;
-      left_are = ap (λ (g : Replaying). g.recorded) new.guest;
-    })
-    fits.are were quiet law replays
-  where
-    no_memory : length store.core.memory ≡ 0
-    no_memory = ap length new.memory
-
-    can_all : CanReplayAll (length store.core.memory) (drop (guest_in_store store).call (guest_in_store store).recorded)
-    can_all = subst₂ CanReplayAll (sym no_memory) (sym (ap (λ (g : Replaying). drop g.call g.recorded) new.guest)) (runs_can c 0 calls fits.runs)
+    (before_first c fuel turns calls store new fits.runs) fits.are were quiet law replays

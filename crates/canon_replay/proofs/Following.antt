@@ -84,10 +84,10 @@ none_counted (event.Trap told at ∷ events) h = none_counted events h.1
 abbrev pub Completes : List Event → List Event → Type 0
 Completes told recorded = (place : ℕ) → AreAlike told (take place recorded) → length recorded ≤ place
 
-completes_none : (told : List Event) → Completes told []
+pub completes_none : (told : List Event) → Completes told []
 completes_none told place h = omega arith
 
-completes_more : (e r : Event) (es rs : List Event) → (IsAlike e r → Completes es rs) → Completes (e ∷ es) (r ∷ rs)
+pub completes_more : (e r : Event) (es rs : List Event) → (IsAlike e r → Completes es rs) → Completes (e ∷ es) (r ∷ rs)
 completes_more e r es rs on zero (s, ss, is, one, more) = absurd (none_there s ss is)
 completes_more e r es rs on (suc place) (s, ss, is, one, more) =
     let there : s ≡ r = sym (same_head r s (take place rs) ss is) in
@@ -95,10 +95,16 @@ completes_more e r es rs on (suc place) (s, ss, is, one, more) =
     let le = on (subst (IsAlike e) there one) place (subst (AreAlike es) those more) in
     omega (arith, le)
 
-start_no_answer : (f : ℕ) (ws m : List ℕ) (x : Answer) → ¬ IsAlike (event.Start f ws m) (answer_event x.call x.at)
+pub start_no_answer : (f : ℕ) (ws m : List ℕ) (x : Answer) → ¬ IsAlike (event.Start f ws m) (answer_event x.call x.at)
 start_no_answer f ws m x h = cc
 
-posts_complete : (post : Option ℕ) (returned told : List ℕ) → Completes (posts post returned) (posts post told)
+pub answer_no_start : (x : Answer) (f : ℕ) (ws m : List ℕ) → ¬ IsAlike (answer_event x.call x.at) (event.Start f ws m)
+answer_no_start x f ws m h = cc
+
+pub no_return_asks : (ws m : List ℕ) (i : ℕ) (vs n : List ℕ) → ¬ IsAlike (event.Return ws m) (event.Ask i vs n)
+no_return_asks ws m i vs n h = cc
+
+pub posts_complete : (post : Option ℕ) (returned told : List ℕ) → Completes (posts post returned) (posts post told)
 posts_complete None returned told = completes_none []
 posts_complete (Some f) returned told = completes_more (event.Post f returned) (event.Post f told) [] [] (λ alike. completes_none [])
 

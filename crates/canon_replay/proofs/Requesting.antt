@@ -36,7 +36,7 @@ trap_told x t a len (reallocates c) e h = realloc_asked x t c e h
 trap_told x t a len (posts f ws) e h = h
 trap_told x t a len (destroys f r) e h = h
 
-trap_no_answer : (t x : Call) (len a : ℕ) → ¬ IsAlike (asked_trap t len) (answer_event x a)
+pub trap_no_answer : (t x : Call) (len a : ℕ) → ¬ IsAlike (asked_trap t len) (answer_event x a)
 trap_no_answer t x len a h = cc
 
 answered_same : (y x : Call) (b a : ℕ) → IsAlike (answer_event y b) (answer_event x a) → b ≡ a

@@ -54,7 +54,7 @@ no_turns (t ∷ turns) more h = absurd h.0
 
 -- ---- of handles
 
-no_leaves : (i : Instance) (l : LedgerState) (leaves : List Leaf) (xs : List Any) (l2 : LedgerState) → xs ≡ [] → LeavesLift i l leaves xs l2 → leaves ≡ []
+pub no_leaves : (i : Instance) (l : LedgerState) (leaves : List Leaf) (xs : List Any) (l2 : LedgerState) → xs ≡ [] → LeavesLift i l leaves xs l2 → leaves ≡ []
 no_leaves i l [] xs l2 e h = refl
 no_leaves i l (leaf ∷ leaves) xs l2 e (h, rest, mid, is, takes, more) = absurd (none_there _ rest (sym e ∙ is))
 

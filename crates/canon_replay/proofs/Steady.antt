@@ -1,6 +1,6 @@
--- A guest that is before a recorded call which asked for no import: it is before the next one after the call was replayed, and a recorded answer
+-- A guest that is before a recorded call in which no block was asked for behind its start: it is before the next one after the call was replayed, and a recorded answer
 -- that is lawful is lawful where it is asked for.
-use Rattle.std.proofs.Common.{List, None, Option, Some, [], ap, arith, drop, inl, inr, length, length-append, refl, subst, suc, sym, take, zero, ℕ, ◌+◌, ◌++◌, ◌<◌, ◌^◌, ◌∙◌, ◌∷◌, ◌≡◌, ◌≤◌, ◌⊎◌}
+use Rattle.std.proofs.Common.{List, None, Some, [], ap, arith, drop, inl, inr, length, length-append, refl, subst, suc, sym, take, zero, ℕ, ◌+◌, ◌++◌, ◌<◌, ◌^◌, ◌∙◌, ◌∷◌, ◌≡◌, ◌≤◌, ◌⊎◌}
 use Rattle.std.proofs.lemmas.Option.{slice_get_within}
 use Rattle.std.specs.Prelude.{slice_get}
 use Rattle.canon_model.specs.Memory.{Block}
@@ -26,7 +26,7 @@ use Rattle.canon_replay.specs.Stores.{ReplayStore, guest_in_store}
 use Rattle.canon_replay.proofs.Behind.{IsNoTrap}
 use Rattle.canon_replay.proofs.Following.{calm_alike, each_alike}
 use Rattle.canon_replay.proofs.Growing.{chain_goes, first_grown}
-use Rattle.canon_replay.proofs.Lawfully.{alike_length, along_alike, first_asked, lawful_in_more, lawful_there, quiet_length, quiet_live, quiet_tail}
+use Rattle.canon_replay.proofs.Lawfully.{IsUnanswered, alike_length, along_alike, first_asked, lawful_in_more, lawful_there, quiet_length, quiet_live, quiet_tail}
 use Rattle.canon_replay.proofs.Rows.{drop_rest, get_first}
 
 -- The guest is before call k, and these are recorded from that call on; no block lives, and it has steps to make and memories that it can make.
@@ -51,8 +51,8 @@ take_length (x ∷ xs) = ap suc (take_length xs)
 some_stop : (why : Stop) → ¬ (Some why ≡ None)
 some_stop why e = cc
 
-module _ (k : ℕ) (store : ReplayStore) (its : List Event) (others : List (List Event)) (at : IsBeforeCall k store (its ∷ others)) (func : ℕ) (words memory returned after : List ℕ) (post : Option ℕ) (answers : List Answer)
-    (is : its ≡ events_of answers None ++ quiet_tail func words memory returned after post) where
+module _ (k : ℕ) (store : ReplayStore) (its : List Event) (others : List (List Event)) (at : IsBeforeCall k store (its ∷ others)) (func : ℕ) (words memory : List ℕ) (behind : List Event) (unanswered : IsUnanswered behind)
+    (none_lives : live_along [] behind ≡ []) (answers : List Answer) (is : its ≡ events_of answers None ++ quiet_tail func words memory behind) where
   abbrev g : Replaying
   g = guest_in_store store
 
@@ -66,13 +66,13 @@ module _ (k : ℕ) (store : ReplayStore) (its : List Event) (others : List (List
   few = slice_get_within g.recorded k its there
 
   some_its : 0 < length its
-  some_its = omega (arith, ap length is, length-append (events_of answers None) (quiet_tail func words memory returned after post))
+  some_its = omega (arith, ap length is, length-append (events_of answers None) (quiet_tail func words memory behind))
 
   some : 0 < length (call_events g.recorded k)
   some = omega (arith, some_its, ap length events_are)
 
   start_at : (len : ℕ) → start_length its len ≡ length memory
-  start_at len = ap (λ (es : List Event). start_length es len) is ∙ quiet_length func words memory returned after post answers len
+  start_at len = ap (λ (es : List Event). start_length es len) is ∙ quiet_length func words memory behind unanswered none_lives answers len
 
   -- ---- a lawful answer
 
@@ -83,12 +83,12 @@ module _ (k : ℕ) (store : ReplayStore) (its : List Event) (others : List (List
     pub lawful_is_given : AreLawfulAnswers [] (start_length its 0) its → (place : ℕ) → ¬ Leaves stop.Unlawful its place g.live (length next.core.memory) events
     lawful_is_given law place l =
         let (c, a, asked, told, bad) = l.left in
-        let told_in : slice_get (events_of answers None ++ quiet_tail func words memory returned after post) place ≡ Some (answer_event c a) = subst (λ (es : List Event). slice_get es place ≡ Some (answer_event c a)) is told in
-        let alike_in : AreAlike l.followed (take place (events_of answers None ++ quiet_tail func words memory returned after post)) = subst (λ (es : List Event). AreAlike l.followed (take place es)) is l.alike in
-        let (d, e, more, first, of) = first_asked func words memory returned after post answers place l.followed l.rest l.made c a told_in alike_in (subst (IsOfRequest l.made) asked l.of) in
+        let told_in : slice_get (events_of answers None ++ quiet_tail func words memory behind) place ≡ Some (answer_event c a) = subst (λ (es : List Event). slice_get es place ≡ Some (answer_event c a)) is told in
+        let alike_in : AreAlike l.followed (take place (events_of answers None ++ quiet_tail func words memory behind)) = subst (λ (es : List Event). AreAlike l.followed (take place es)) is l.alike in
+        let (d, e, more, first, of) = first_asked func words memory behind unanswered none_lives answers place l.followed l.rest l.made c a told_in alike_in (subst (IsOfRequest l.made) asked l.of) in
         let grown = first_grown k g at.before few some h (length store.core.memory) (length next.core.memory) at.going (never_unfit (of_guest (guest_of store.core)) (of_guest (guest_of next.core)) events at.going at.small at.can m).0
         m.calls d e more m.chain (sym m.told_by ∙ (l.is ∙ first)) of in
-        let lawful : IsLawfulAnswer (live_along [] l.followed) (start_length its 0) c a = lawful_there func words memory returned after post answers [] (start_length its 0) place l.followed c a
+        let lawful : IsLawfulAnswer (live_along [] l.followed) (start_length its 0) c a = lawful_there func words memory behind unanswered none_lives answers [] (start_length its 0) place l.followed c a
         (subst (AreLawfulAnswers [] (start_length its 0)) is law) told_in alike_in in
         bad (lawful_in_more (live_along g.live l.followed) (start_length its 0) (length next.core.memory) c a
         (omega (arith, grown, start_at 0, ap (λ (es : List Event). start_length es (length store.core.memory)) events_are, start_at (length store.core.memory)))
@@ -121,7 +121,7 @@ module _ (k : ℕ) (store : ReplayStore) (its : List Event) (others : List (List
           → (suc h.call ≡ k + 1) × (length (events_now h) ≤ h.at) × (h.live ≡ [])
       over (inl f) =
           let p = past_all f in
-          (p.0, p.1, f.live ∙ (along_alike g.live events its alike ∙ (ap (live_along g.live) is ∙ quiet_live func words memory returned after post answers g.live)))
+          (p.0, p.1, f.live ∙ (along_alike g.live events its alike ∙ (ap (live_along g.live) is ∙ quiet_live func words memory behind unanswered none_lives answers g.live)))
       over (inr (inl (why, s, c, l))) = absurd (some_stop why (sym s ∙ going_on))
       over (inr (inr (lt, l))) = absurd (omega (
         arith,

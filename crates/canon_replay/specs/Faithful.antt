@@ -1,5 +1,5 @@
 -- Recordings of calls that `Func::call` made. The law is proved as the contract of a function in src/laws.rt.
-use Rattle.std.specs.Prelude.{List, None, Ok, Option, [], length, ℕ, ⊤, ◌∷◌, ◌≡◌}
+use Rattle.std.specs.Prelude.{List, None, Ok, Option, Some, [], length, ℕ, ⊤, ◌++◌, ◌∷◌, ◌≡◌, map}
 use Rattle.canon_model.specs.Flat.{AreWords}
 use Rattle.canon_model.specs.Memory.{Block}
 use Rattle.canon_memory.specs.declared.event.Event.{Event}
@@ -9,13 +9,13 @@ use Rattle.canon_memory.specs.Realloc.{call}
 use Rattle.canon_memory.specs.Watch.{relisted}
 use Rattle.canon_context.specs.Component.{IsComponent}
 use Rattle.canon_context.specs.declared.component.Component.{Component}
-use Rattle.canon_host.specs.HostSide.{Giving, LoggedEntry}
+use Rattle.canon_host.specs.HostSide.{Giving, LoggedEntry, entry}
 use Rattle.canon_func.specs.Call.{call_refusal}
 use Rattle.canon_func.specs.Called.{CallOf}
 use Rattle.canon_func.specs.Runs.{Each, OnStart, asks_in}
 use Rattle.canon_func.specs.Stores.{Named, StoreView, callee_of}
 use Rattle.canon_recording.specs.Fits.{FitsComponent, IsRecordable, callee_of_call}
-use Rattle.canon_recording.specs.Recordings.{RecordedCall}
+use Rattle.canon_recording.specs.Recordings.{RecordedCall, ServedAsk}
 use Rattle.canon_replay_guest.specs.Lawful.{IsLawfulAnswer}
 use Rattle.canon_replay_guest.specs.Replaying.{start_length}
 use Rattle.canon_replay.specs.Calls.{IsReplayed}
@@ -37,6 +37,15 @@ AreLawfulAnswers live len _ = ⊤
 abbrev pub HaveLawfulAnswers : List RecordedCall → Type 0
 HaveLawfulAnswers [] = ⊤
 HaveLawfulAnswers (made ∷ calls) = AreLawfulAnswers [] (start_length made.events 0) made.events × HaveLawfulAnswers calls
+
+-- where the event is a resume: of its words and its memory
+abbrev pub OnResume : (List ℕ → List ℕ → Type 0) → Event → Type 0
+OnResume P (event.Resume words memory) = P words memory
+OnResume P _ = ⊤
+
+-- an ask that was served, as imports log it
+abbrev pub entry_of_ask : ServedAsk → LoggedEntry
+entry_of_ask a = entry a.import a.params a.results
 
 -- it isn't told that a call differs
 abbrev pub IsNoDifference : Outcome → Type 0
@@ -76,3 +85,25 @@ module _ {T G I P : Type 0} (seen : G → Seen) (moves : GuestIn G → List Even
   abbrev pub RecordedAreSame : Type 0
   RecordedAreSame = (c : Component) (calls : List RecordedCall) (fuel turns : ℕ) (o : Outcome) → IsComponent c → IsRecordable c → FitsComponent c calls
       → AreFaithful c fuel turns calls → AskForNothing calls → HaveLawfulAnswers calls → IsReplayed c calls fuel turns (Ok o) → o ≡ outcome.Same
+
+  -- Its imports exposed their log, which gained the recorded asks, in order; and the words of each resume have 64 bits.
+  pub record IsLoggedCall (c : Component) (fuel turns : ℕ) (call : RecordedCall) : Type 0 where
+    pub faithful : IsFaithfulCall c fuel turns call
+    pub entries : List LoggedEntry
+    pub logged : log faithful.before.imports ≡ Some entries
+    pub gained : log faithful.after.imports ≡ Some (entries ++ map entry_of_ask call.served)
+    pub resumed : Each (OnResume (λ words memory. AreWords words)) call.events
+
+  abbrev pub AreLogged : Component → ℕ → ℕ → List RecordedCall → Type 0
+  AreLogged c fuel turns [] = ⊤
+  AreLogged c fuel turns (call ∷ calls) = IsLoggedCall c fuel turns call × AreLogged c fuel turns calls
+
+  -- Where the calls were logged, whatever imports they asked for, `replay` with this fuel and this limit of turns doesn't answer `Differs`.
+  abbrev pub LoggedNeverDiffer : Type 0
+  LoggedNeverDiffer = (c : Component) (calls : List RecordedCall) (fuel turns : ℕ) (o : Outcome) → IsComponent c → IsRecordable c → FitsComponent c calls
+      → AreLogged c fuel turns calls → IsReplayed c calls fuel turns (Ok o) → IsNoDifference o
+
+  -- Where also the recorded answers before each start are lawful, it answers `Same`.
+  abbrev pub LoggedAreSame : Type 0
+  LoggedAreSame = (c : Component) (calls : List RecordedCall) (fuel turns : ℕ) (o : Outcome) → IsComponent c → IsRecordable c → FitsComponent c calls
+      → AreLogged c fuel turns calls → HaveLawfulAnswers calls → IsReplayed c calls fuel turns (Ok o) → o ≡ outcome.Same

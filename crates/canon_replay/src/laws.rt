@@ -1,6 +1,6 @@
 //! Laws of replays.
 
-ghost use Rattle.canon_replay.specs.Faithful.{RecordedAreSame, RecordedNeverDiffer};
+ghost use Rattle.canon_replay.specs.Faithful.{LoggedAreSame, LoggedNeverDiffer, RecordedAreSame, RecordedNeverDiffer};
 ghost use Rattle.canon_replay.specs.Laws.{SameTellsRecorded};
 
 use canon_host::Imports;
@@ -22,4 +22,15 @@ pub fn recorded_calls_never_differ<T, G: Guest, I: Imports<T, G>>()
 /// `Same` or is out of memory.
 pub fn recorded_calls_are_same<T, G: Guest, I: Imports<T, G>>()
     ensures { RecordedAreSame G.seen G.moves G.leaves I.plan I.gives I.log I.refusals }
+{}
+
+/// The same of calls that asked for imports, if these expose their log, which gained the recorded asks, and if the words in which the guest was
+/// resumed have 64 bits: `replay` doesn't answer `Differs`.
+pub fn logged_calls_never_differ<T, G: Guest, I: Imports<T, G>>()
+    ensures { LoggedNeverDiffer G.seen G.moves G.leaves I.plan I.gives I.log I.refusals }
+{}
+
+/// Where also the recorded answers of `realloc` are lawful, `replay` of such a recording answers `Same` or is out of memory.
+pub fn logged_calls_are_same<T, G: Guest, I: Imports<T, G>>()
+    ensures { LoggedAreSame G.seen G.moves G.leaves I.plan I.gives I.log I.refusals }
 {}
