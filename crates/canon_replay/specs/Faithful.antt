@@ -9,7 +9,8 @@ use Rattle.canon_memory.specs.Realloc.{call}
 use Rattle.canon_memory.specs.Watch.{relisted}
 use Rattle.canon_context.specs.Component.{IsComponent}
 use Rattle.canon_context.specs.declared.component.Component.{Component}
-use Rattle.canon_host.specs.HostSide.{Giving, LoggedEntry, entry}
+use Rattle.canon_host.specs.HostSide.{Giving, LoggedEntry}
+use Rattle.canon_literals.specs.Literals.{Literal, literals_view}
 use Rattle.canon_func.specs.Call.{call_refusal}
 use Rattle.canon_func.specs.Called.{CallOf}
 use Rattle.canon_func.specs.Runs.{Each, OnStart, asks_in}
@@ -43,9 +44,16 @@ abbrev pub OnResume : (List ℕ → List ℕ → Type 0) → Event → Type 0
 OnResume P (event.Resume words memory) = P words memory
 OnResume P _ = ⊤
 
--- an ask that was served, as imports log it
-abbrev pub entry_of_ask : ServedAsk → LoggedEntry
-entry_of_ask a = entry a.import a.params a.results
+-- an ask that was served, apart from how its values are kept: of the log, and of a recording
+abbrev pub entry_view : LoggedEntry → ℕ × List Literal × List Literal
+entry_view e = (e.index, literals_view e.params, literals_view e.results)
+
+abbrev pub ask_view : ServedAsk → ℕ × List Literal × List Literal
+ask_view a = (a.import, literals_view a.params, literals_view a.results)
+
+-- the recording lists the asks of these entries, in order
+abbrev pub AreRecordedAs : List LoggedEntry → List ServedAsk → Type 0
+AreRecordedAs entries served = map entry_view entries ≡ map ask_view served
 
 -- it isn't told that a call differs
 abbrev pub IsNoDifference : Outcome → Type 0
@@ -86,12 +94,14 @@ module _ {T G I P : Type 0} (seen : G → Seen) (moves : GuestIn G → List Even
   RecordedAreSame = (c : Component) (calls : List RecordedCall) (fuel turns : ℕ) (o : Outcome) → IsComponent c → IsRecordable c → FitsComponent c calls
       → AreFaithful c fuel turns calls → AskForNothing calls → HaveLawfulAnswers calls → IsReplayed c calls fuel turns (Ok o) → o ≡ outcome.Same
 
-  -- Its imports exposed their log, which gained the recorded asks, in order; and the words of each resume have 64 bits.
+  -- Its imports exposed their log, which gained what is recorded as its asks; and the words of each resume have 64 bits.
   pub record IsLoggedCall (c : Component) (fuel turns : ℕ) (call : RecordedCall) : Type 0 where
     pub faithful : IsFaithfulCall c fuel turns call
     pub entries : List LoggedEntry
     pub logged : log faithful.before.imports ≡ Some entries
-    pub gained : log faithful.after.imports ≡ Some (entries ++ map entry_of_ask call.served)
+    pub gained : List LoggedEntry
+    pub grown : log faithful.after.imports ≡ Some (entries ++ gained)
+    pub told : AreRecordedAs gained call.served
     pub resumed : Each (OnResume (λ words memory. AreWords words)) call.events
 
   abbrev pub AreLogged : Component → ℕ → ℕ → List RecordedCall → Type 0
