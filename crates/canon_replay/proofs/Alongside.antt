@@ -44,7 +44,7 @@ use Rattle.canon_replay.specs.Faithful.{AreRecordedAs, OnResume}
 use Rattle.canon_replay.specs.Imports.{GivesNext}
 use Rattle.canon_replay.proofs.Accepting.{LawfulMarks, lawful_by_marks, marks_behind, returns_accepted}
 use Rattle.canon_replay.proofs.Agreeing.{Agrees, agrees_more, agrees_none, other_refuted, same_head, same_tail}
-use Rattle.canon_replay.proofs.Answered.{AnsweredTurns, AnswersTurns, HasPlainImports, as_many_gained, turns_answered}
+use Rattle.canon_replay.proofs.Answered.{AnswersTurns, HasPlainImports, as_many_gained, turns_answered}
 use Rattle.canon_replay.proofs.AskedAgreeing.{IsRecordedAsk, alike_behind_start, ask_recorded, asks_agree, start_told, tail_on_ask}
 use Rattle.canon_replay.proofs.AskedFollowing.{asked_completes, asks_alike, asks_take, each_answers, each_asked, lawful_ends, posts_return_nothing}
 use Rattle.canon_replay.proofs.AskedRuns.{AskedRun, IsEnd, asked_are, asked_events, asked_run, runs_tail, tail_ends}

@@ -1,5 +1,5 @@
 -- Asks of functions over values that want no blocks: none is asked for where one isn't resumed; and the ask that is the recorded one isn't refused.
-use Rattle.std.proofs.Common.{arith, Err, List, None, Ok, Option, Some, [], ap, inl, inr, length, map, refl, subst, sym, ℕ, ◌∙◌, ◌≡◌, ◌+◌, ◌≤◌}
+use Rattle.std.proofs.Common.{arith, Err, List, None, Ok, Option, Some, [], ap, false, inl, inr, length, map, refl, subst, sym, ℕ, ◌∙◌, ◌≡◌, ◌+◌, ◌≤◌}
 use Rattle.std.specs.Prelude.{IfSome}
 use Rattle.canon_model.specs.Cost.{members_cost}
 use Rattle.canon_model.specs.Leaves.{Leaf}
@@ -150,7 +150,7 @@ module _ (callee : Callee) (fuel : ℕ) (imports : HasPlainImports callee) (asks
             ends = ap asked_exit there ∙ entered_ends h.ledger;
             lowerable = record {
               trees = a.row.trees;
-              have = same_trees (asked_results callee a.asked) r.results results a.row.trees its.quiet (members_handles (asked_results callee a.asked) its.results) same a.row.have;
+              have = same_trees false (asked_results callee a.asked) r.results results a.row.trees (members_handles (asked_results callee a.asked) its.results) same a.row.have;
               small = all_small _ (asked_results callee a.asked) results its.quiet;
               given = [];
               left = leave (enter h.ledger);

@@ -11,6 +11,7 @@ use Rattle.canon_context.specs.Component.{IsComponent}
 use Rattle.canon_context.specs.declared.component.Component.{Component}
 use Rattle.canon_host.specs.HostSide.{Giving, LoggedEntry}
 use Rattle.canon_literals.specs.Literals.{Literal, literals_view}
+use Rattle.canon_val.specs.declared.val.Val.{Val}
 use Rattle.canon_func.specs.Call.{call_refusal}
 use Rattle.canon_func.specs.Called.{CallOf}
 use Rattle.canon_func.specs.Runs.{Each, OnStart, asks_in}
@@ -65,17 +66,21 @@ module _ {T G I P : Type 0} (seen : G → Seen) (moves : GuestIn G → List Even
     (plan : I → P) (gives : P → Giving T) (log : I → Option (List LoggedEntry)) (refusals : I → ℕ) where
   -- `Func::call` was called with the recorded parameters, in a store in which its function is the one that the recorded export is in this component,
   -- with this fuel and this limit of turns, and with so many slots for results. It answered Ok with the recorded results, and its guest added the recorded events; the words of the
-  -- start have 64 bits.
+  -- start have 64 bits. The recorded values are those of the call apart from how they are kept.
   pub record IsFaithfulCall (c : Component) (fuel turns : ℕ) (call : RecordedCall) : Type 0 where
     pub before : StoreView T G I
     pub after : StoreView T G I
     pub func : Named
     pub slots : ℕ
+    pub params : List Val
+    pub results : List Val
+    pub params_are : literals_view params ≡ literals_view call.params
+    pub results_are : literals_view results ≡ literals_view call.results
     pub callee : callee_of before func ≡ callee_of_call c call
     pub fuel_is : before.core.fuel ≡ fuel
     pub turns_is : before.turns ≡ turns
-    pub entered : call_refusal (callee_of before func) (length call.params) slots before.trapped ≡ None
-    pub calls : CallOf seen moves leaves plan gives log refusals before func call.params (Ok tt) call.results after
+    pub entered : call_refusal (callee_of before func) (length params) slots before.trapped ≡ None
+    pub calls : CallOf seen moves leaves plan gives log refusals before func params (Ok tt) results after
     pub events : calls.events ≡ call.events
     pub words : Each (OnStart (λ words memory. AreWords words)) call.events
 
