@@ -72,7 +72,8 @@ drop_later asks more entries e a h = ap (λ (n : ℕ). drop n asks) (one_later e
 -- ---- what is recorded of the log
 
 -- of the first entry and the first ask
-pub entry_recorded : (y : LoggedEntry) (ls : List LoggedEntry) (a : ServedAsk) (bs : List ServedAsk) → AreRecordedAs (y ∷ ls) (a ∷ bs) → (y.index ≡ a.import) × (literals_view y.results ≡ literals_view a.results)
+pub entry_recorded : (y : LoggedEntry) (ls : List LoggedEntry) (a : ServedAsk) (bs : List ServedAsk) → AreRecordedAs (y ∷ ls) (a ∷ bs)
+    → (y.index ≡ a.import) × (literals_view y.results ≡ literals_view a.results)
 entry_recorded y ls a bs e = let first : entry_view y ≡ ask_view a = cc in (ap (λ x. x.0) first, ap (λ x. x.2) first)
 
 pub others_recorded : (y : LoggedEntry) (ls : List LoggedEntry) (a : ServedAsk) (bs : List ServedAsk) → AreRecordedAs (y ∷ ls) (a ∷ bs) → AreRecordedAs ls bs

@@ -123,8 +123,9 @@ quiet_asked answers_so callee fuel turns params results entries events none q = 
 )
 
 -- of parameters and results with the same literals
-pub kept_otherwise : {T : Type 0} (answers_so : Answering T) (callee : Callee) (fuel turns : ℕ) (params results others those : List Val) (entries : List LoggedEntry) (events : List Event) → HaveNoHandle callee.params × HaveNoHandle callee.results
-    → literals_view params ≡ literals_view others → literals_view results ≡ literals_view those → (r : AskedRun answers_so callee fuel turns params results entries events)
+pub kept_otherwise : {T : Type 0} (answers_so : Answering T) (callee : Callee) (fuel turns : ℕ) (params results others those : List Val) (entries : List LoggedEntry) (events : List Event)
+    → HaveNoHandle callee.params × HaveNoHandle callee.results → literals_view params ≡ literals_view others → literals_view results ≡ literals_view those
+    → (r : AskedRun answers_so callee fuel turns params results entries events)
     → (run : AskedRun answers_so callee fuel turns others those entries events) × (run.gained ≡ r.gained)
 kept_otherwise answers_so callee fuel turns params results others those entries events plain given left r = (
   record {

@@ -209,7 +209,8 @@ entries_same ps v w e (entries, ev, es) =
 pub pair_row : (p q : Val × Val) → pair_view p ≡ pair_view q → literals_view (p.0 ∷ p.1 ∷ []) ≡ literals_view (q.0 ∷ q.1 ∷ [])
 pair_row p q e = ap (λ (x : Literal × Literal). x.0 ∷ x.1 ∷ []) e
 
-each_same : {A X : Type 0} (view : A → X) (Has : A → Tree → Type 0) → ((v w : A) (t : Tree) → view v ≡ view w → Has v t → Has w t) → (vs ws : List A) (ts : Trees) → map view vs ≡ map view ws → EachHas Has vs ts → EachHas Has ws ts
+each_same : {A X : Type 0} (view : A → X) (Has : A → Tree → Type 0) → ((v w : A) (t : Tree) → view v ≡ view w → Has v t → Has w t)
+    → (vs ws : List A) (ts : Trees) → map view vs ≡ map view ws → EachHas Has vs ts → EachHas Has ws ts
 each_same view Has one [] [] ts e h = h
 each_same view Has one [] (w ∷ ws) ts e h = cc
 each_same view Has one (v ∷ vs) [] ts e h = cc

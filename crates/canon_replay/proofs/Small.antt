@@ -38,7 +38,8 @@ large_list n (flags names) v w e f = f
 
 -- ---- one in a value
 
-some_same : {A X : Type 0} (view : A → X) (count : A → ℕ) (F : A → ℕ → Type 0) → ((v w : A) (k : ℕ) → view v ≡ view w → F v k → (j : ℕ) × F w j) → (vs ws : List A) (k : ℕ) → map view vs ≡ map view ws → SomeFails count F vs k → (j : ℕ) × SomeFails count F ws j
+some_same : {A X : Type 0} (view : A → X) (count : A → ℕ) (F : A → ℕ → Type 0) → ((v w : A) (k : ℕ) → view v ≡ view w → F v k → (j : ℕ) × F w j) → (vs ws : List A) (k : ℕ)
+    → map view vs ≡ map view ws → SomeFails count F vs k → (j : ℕ) × SomeFails count F ws j
 some_same view count F one [] ws k e f = absurd f
 some_same view count F one (v ∷ vs) [] k e f = cc
 some_same view count F one (v ∷ vs) (w ∷ ws) k e (inl f) = let first : view v ≡ view w = cc in let (j, g) = one v w k first f in (j, inl g)
