@@ -40,11 +40,11 @@ use Rattle.canon_replay_guest.specs.Following.{Leaves}
 use Rattle.canon_replay_guest.specs.Passing.{AreAlike}
 use Rattle.canon_replay_guest.specs.declared.stop.Stop.TheVariants as stop
 use Rattle.canon_replay.specs.Calls.{HaveOtherImages}
-use Rattle.canon_replay.specs.Faithful.{OnResume, entry_of_ask}
+use Rattle.canon_replay.specs.Faithful.{AreRecordedAs, OnResume}
 use Rattle.canon_replay.specs.Imports.{GivesNext}
 use Rattle.canon_replay.proofs.Accepting.{LawfulMarks, lawful_by_marks, marks_behind, returns_accepted}
 use Rattle.canon_replay.proofs.Agreeing.{Agrees, agrees_more, agrees_none, other_refuted, same_head, same_tail}
-use Rattle.canon_replay.proofs.Answered.{AnsweredTurns, AnswersTurns, HasPlainImports, as_many_gained, turns_answered}
+use Rattle.canon_replay.proofs.Answered.{AnswersTurns, HasPlainImports, as_many_gained, turns_answered}
 use Rattle.canon_replay.proofs.AskedAgreeing.{IsRecordedAsk, alike_behind_start, ask_recorded, asks_agree, start_told, tail_on_ask}
 use Rattle.canon_replay.proofs.AskedFollowing.{asked_completes, asks_alike, asks_take, each_answers, each_asked, lawful_ends, posts_return_nothing}
 use Rattle.canon_replay.proofs.AskedRuns.{AskedRun, IsEnd, asked_are, asked_events, asked_run, runs_tail, tail_ends}
@@ -155,7 +155,7 @@ module _ {T : Type 0} (answers_so : Answering T) (callee : Callee) (fuel : ℕ) 
 -- ---- the call
 
 module _ {U : Type 0} (answers_so : Answering U) (callee : Callee) (fuel turns : ℕ) (params results : List Val) (others : List LoggedEntry) (recorded : List Event) (q : AskedRun answers_so callee fuel turns params results others recorded)
-    (served : List ServedAsk) (logged : q.gained ≡ map entry_of_ask served) (fit : Each (OnStart (λ ws m. AreWords ws)) recorded) (resumed : Each (OnResume (λ ws m. AreWords ws)) recorded)
+    (served : List ServedAsk) (logged : AreRecordedAs q.gained served) (fit : Each (OnStart (λ ws m. AreWords ws)) recorded) (resumed : Each (OnResume (λ ws m. AreWords ws)) recorded)
     (plain : HaveNoHandle callee.params) (no_handle : HaveNoHandle callee.results) (imports : HasPlainImports callee)
     {T : Type 0} (asks : List ServedAsk) (Lives : List Leg → List Event → Type 0) (Leaves_ : List ℕ → List ℕ → Type 0) (before after : Moment) (host left : HostSide T)
     (entries : List LoggedEntry) (told : host.log ≡ Some entries) (more_asks : List ServedAsk) (next : drop (length entries) asks ≡ served ++ more_asks) (answer : Result (Unit {0}) Error) (vs : List Val) (events : List Event)
@@ -171,9 +171,6 @@ module _ {U : Type 0} (answers_so : Answering U) (callee : Callee) (fuel turns :
 
   met : MetFirst asked_for n.answers n.trap n.later
   met = n.requested q.trees q.have
-
-  log_is : AnsweredTurns answers_so callee fuel q.asks others (map entry_of_ask served)
-  log_is = subst (AnsweredTurns answers_so callee fuel q.asks others) logged q.asked
 
   at_recorded : (P : Event → Type 0) → Each P recorded → P (event.Start callee.func q.words q.memory) × Each P (asked_events q.asks ++ its_end)
   at_recorded P h = each_seam P (events_of q.answers None) (event.Start callee.func q.words q.memory) (asked_events q.asks ++ its_end) (subst (Each P) q.is h)
@@ -237,7 +234,7 @@ module _ {U : Type 0} (answers_so : Answering U) (callee : Callee) (fuel turns :
     later_asks_agree : Agrees (asked_events n.turns ++ n.tail) (asked_events q.asks ++ its_end)
     later_asks_agree = asks_agree callee.post q.returned q.after T answers_so callee imports fuel fuel asks n.tail tail_agrees
         (λ j us m ts ws2 m2. tail_on_ask callee.post q.returned q.after n.tail n.late n.late_trap runs_on s.asking (alone_by (with_results answer vs) n.one_run on.stops) j us m ts ws2 m2)
-        n.turns q.asks entries its_asks.gained others served more_asks its_asks.are log_is next (resumes_fit q.asks (at_recorded (OnResume (λ ws m. AreWords ws)) resumed).1)
+        n.turns q.asks entries its_asks.gained others q.gained served more_asks its_asks.are q.asked logged next (resumes_fit q.asks (at_recorded (OnResume (λ ws m. AreWords ws)) resumed).1)
 
   -- ---- what it asks for
 
@@ -283,7 +280,7 @@ module _ {U : Type 0} (answers_so : Answering U) (callee : Callee) (fuel turns :
     there_recorded s =
         let (p, behind) = alike_behind_start callee.func callee.func s.words s.memory q.words q.memory (asked_events n.turns ++ n.tail) (asked_events q.asks ++ its_end) n.answers n.trap q.answers place
         (subst₂ (λ (es rs : List Event). AreAlike es (take place rs)) (later_is s) q.is alike) in
-        ask_recorded answers_so callee fuel asks callee.post q.returned q.after n.turns q.asks n.tail (length entries) p others served more_asks log_is next behind
+        ask_recorded answers_so callee fuel asks callee.post q.returned q.after n.turns q.asks n.tail (length entries) p others q.gained served more_asks q.asked logged next behind
 
     none_passed : param_parts callee params ≡ []
     none_passed = ap (λ (ps : List PassedResource). map (lower_parts callee.types) ps) (no_row_passes callee.params params (members_handles callee.params plain))

@@ -308,7 +308,7 @@ module _ (callee : Callee) (asked : Asked) (its : IsPlainAsk callee asked) (ws v
   rows_by : (c : Bool) → nat_le (members_flat ms) max_results ≡ c → ws ≡ vs
   rows_by true e =
       let near : members_flat ms ≤ max_results = leb-true (members_flat ms) max_results e in
-      let also_have : HaveTrees ms ss a.trees = same_trees ms rs ss a.trees its.quiet (members_handles ms its.results) same a.have in
+      let also_have : HaveTrees ms ss a.trees = same_trees false ms rs ss a.trees (members_handles ms its.results) same a.have in
       start_words_same (asked_encoding callee asked) ws vs ms a.trees b.trees [] few less its.results (have_fit ms ss b.trees b.have)
       (trees_one ms ss a.trees b.trees also_have b.have) (trees_one ms ss b.trees b.trees b.have b.have) (counted ws near a.count) (counted vs near b.count)
       (home ws a.trees near (a.homes near)) (home vs b.trees near (b.homes near))

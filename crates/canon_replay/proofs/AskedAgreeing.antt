@@ -9,6 +9,7 @@ use Rattle.canon_memory.specs.Journal.{answer_event, asked_trap}
 use Rattle.canon_lowering.specs.Lowering.{Answer, Trap, events_of}
 use Rattle.canon_literals.specs.Literals.{literals_view}
 use Rattle.canon_host.specs.HostSide.{Answering, LoggedEntry}
+use Rattle.canon_val.specs.declared.val.Val.{Val}
 use Rattle.canon_func.specs.Runs.{AskTurn, Each, EndsAsking, OnAsk, posts as post_events}
 use Rattle.canon_func.specs.Stores.{Callee}
 use Rattle.canon_recording.specs.Recordings.{ServedAsk}
@@ -16,7 +17,7 @@ use Rattle.canon_recording.specs.Stages.{RunsOn}
 use Rattle.canon_replay_guest.specs.Following.{IsOfRequest}
 use Rattle.canon_replay_guest.specs.Moves.{GuestRequest, HasWords, TellsRequest, destroys, posts, reallocates, resumes, starts}
 use Rattle.canon_replay_guest.specs.Passing.{AreAlike, IsAlike}
-use Rattle.canon_replay.specs.Faithful.{OnResume, entry_of_ask}
+use Rattle.canon_replay.specs.Faithful.{AreRecordedAs, OnResume, ask_view, entry_view}
 use Rattle.canon_replay.specs.Imports.{GivesNext, answer_of_ask}
 use Rattle.canon_replay.proofs.Agreeing.{Agrees, agrees_more, agrees_none, no_request_of_ask, no_request_of_return, none_there, same_head, same_tail}
 use Rattle.canon_replay.proofs.Answered.{AnsweredTurns, HasPlainImports, IsAnswered, words_same}
@@ -68,6 +69,19 @@ one_later entries e = length-append entries (e ∷ [])
 pub drop_later : (asks more : List ServedAsk) (entries : List LoggedEntry) (e : LoggedEntry) (a : ServedAsk) → drop (length entries) asks ≡ a ∷ more → drop (length (entries ++ e ∷ [])) asks ≡ more
 drop_later asks more entries e a h = ap (λ (n : ℕ). drop n asks) (one_later entries e) ∙ drop_rest asks (length entries) a more h
 
+-- ---- what is recorded of the log
+
+-- of the first entry and the first ask
+pub entry_recorded : (y : LoggedEntry) (ls : List LoggedEntry) (a : ServedAsk) (bs : List ServedAsk) → AreRecordedAs (y ∷ ls) (a ∷ bs)
+    → (y.index ≡ a.import) × (literals_view y.results ≡ literals_view a.results)
+entry_recorded y ls a bs e = let first : entry_view y ≡ ask_view a = cc in (ap (λ x. x.0) first, ap (λ x. x.2) first)
+
+pub others_recorded : (y : LoggedEntry) (ls : List LoggedEntry) (a : ServedAsk) (bs : List ServedAsk) → AreRecordedAs (y ∷ ls) (a ∷ bs) → AreRecordedAs ls bs
+others_recorded y ls a bs e = let more : map entry_view ls ≡ map ask_view bs = cc in more
+
+none_recorded : (y : LoggedEntry) (ls : List LoggedEntry) → ¬ AreRecordedAs (y ∷ ls) []
+none_recorded y ls e = cc
+
 -- ---- the events of asks agree
 
 module _ (post : Option ℕ) (returned after : List ℕ) where
@@ -103,31 +117,35 @@ module _ (post : Option ℕ) (returned after : List ℕ) where
   -- Asks that were served by the recorded ones, and the recorded asks.
   module _ (T : Type 0) {U : Type 0} (answers_so : Answering U) (callee : Callee) (plain : HasPlainImports callee) (fuel spent : ℕ) (asks : List ServedAsk) (tail : List Event) (on_end : Agrees tail (recorded_end post returned after))
       (on_ask : (j : ℕ) (vs n : List ℕ) (us : List AskTurn) (ws m : List ℕ) → Agrees tail (event.Ask j vs n ∷ event.Resume ws m ∷ asked_events us ++ recorded_end post returned after)) where
-    pub asks_agree : (ts us : List AskTurn) (entries es others : List LoggedEntry) (bs more : List ServedAsk) → AnsweredTurns (GivesNext {T = T} asks).answers callee fuel ts entries es
-        → AnsweredTurns answers_so callee spent us others (map entry_of_ask bs) → drop (length entries) asks ≡ bs ++ more
+    pub asks_agree : (ts us : List AskTurn) (entries es others ls : List LoggedEntry) (bs more : List ServedAsk) → AnsweredTurns (GivesNext {T = T} asks).answers callee fuel ts entries es
+        → AnsweredTurns answers_so callee spent us others ls → AreRecordedAs ls bs → drop (length entries) asks ≡ bs ++ more
         → Each (OnResume (λ ws m. AreWords ws)) (asked_events us) → Agrees (asked_events ts ++ tail) (asked_events us ++ recorded_end post returned after)
-    asks_agree [] [] entries es others bs more g l e fit = on_end
-    asks_agree [] (u ∷ us) entries es others bs more g l e fit = on_ask u.index u.words u.memory us u.resumed_words u.resumed_memory
-    asks_agree (t ∷ ts) [] entries es others bs more g l e fit =
+    asks_agree [] [] entries es others ls bs more g l is e fit = on_end
+    asks_agree [] (u ∷ us) entries es others ls bs more g l is e fit = on_ask u.index u.words u.memory us u.resumed_words u.resumed_memory
+    asks_agree (t ∷ ts) [] entries es others ls bs more g l is e fit =
         agrees_more (event.Ask t.index t.words t.memory) (event.Return returned after) (event.Resume t.resumed_words t.resumed_memory ∷ asked_events ts ++ tail) (post_events post returned)
         (λ q of words. absurd (no_request_of_ask t.index t.words t.memory q of)) (λ alike. absurd (ask_alike t.index t.words t.memory (event.Return returned after) alike tt))
-    asks_agree (t ∷ ts) (u ∷ us) entries [] others bs more g l e fit = absurd g
-    asks_agree (t ∷ ts) (u ∷ us) entries (x ∷ es) others [] more g l e fit = absurd l
-    asks_agree (t ∷ ts) (u ∷ us) entries (x ∷ es) others (a ∷ bs) more g l e fit =
+    asks_agree (t ∷ ts) (u ∷ us) entries [] others ls bs more g l is e fit = absurd g
+    asks_agree (t ∷ ts) (u ∷ us) entries (x ∷ es) others [] bs more g l is e fit = absurd l
+    asks_agree (t ∷ ts) (u ∷ us) entries (x ∷ es) others (y ∷ ls) [] more g l is e fit = absurd (none_recorded y ls is)
+    asks_agree (t ∷ ts) (u ∷ us) entries (x ∷ es) others (y ∷ ls) (a ∷ bs) more g l is e fit =
         agrees_more (event.Ask t.index t.words t.memory) (event.Ask u.index u.words u.memory) (event.Resume t.resumed_words t.resumed_memory ∷ asked_events ts ++ tail)
         (event.Resume u.resumed_words u.resumed_memory ∷ asked_events us ++ recorded_end post returned after) (λ q of words. absurd (no_request_of_ask t.index t.words t.memory q of))
         (λ alike. agrees_more (event.Resume t.resumed_words t.resumed_memory) (event.Resume u.resumed_words u.resumed_memory) (asked_events ts ++ tail) (asked_events us ++ recorded_end post returned after)
         (λ q of words. resume_told t.resumed_words t.resumed_memory u.resumed_words u.resumed_memory q (one_word (index_same t.index u.index t.words u.words t.memory u.memory alike) (asked_same t.index u.index t.words u.words t.memory u.memory alike)) of words)
-        (λ same. asks_agree ts us (entries ++ x ∷ []) es (others ++ entry_of_ask a ∷ []) bs more g.3 l.3 (drop_later asks (bs ++ more) entries x a e) fit.1.1))
+        (λ same. asks_agree ts us (entries ++ x ∷ []) es (others ++ y ∷ []) ls bs more g.3 l.3 (others_recorded y ls a bs is) (drop_later asks (bs ++ more) entries x a e) fit.1.1))
       where
-        literals : t.index ≡ u.index → literals_view a.results ≡ literals_view x.results
+        told : (y.index ≡ a.import) × (literals_view y.results ≡ literals_view a.results)
+        told = entry_recorded y ls a bs is
+
+        literals : t.index ≡ u.index → literals_view y.results ≡ literals_view x.results
         literals index =
             let (from, to, gave) = g.2 in
-            let is : a.import ≡ x.index = l.0 ∙ (sym index ∙ sym g.0) in
-            inside (literals_view a.results) (literals_view x.results) (sym (given_at asks (length entries) x.index a (get_first asks (length entries) a (bs ++ more) e) is) ∙ gave.0)
+            let same : a.import ≡ x.index = sym told.0 ∙ (l.0 ∙ (sym index ∙ sym g.0)) in
+            told.1 ∙ inside (literals_view a.results) (literals_view x.results) (sym (given_at asks (length entries) x.index a (get_first asks (length entries) a (bs ++ more) e) same) ∙ gave.0)
 
         one_word : t.index ≡ u.index → t.words ≡ u.words → AreWords t.resumed_words → u.resumed_words ≡ t.resumed_words
-        one_word index words less = words_same callee plain spent fuel u t a.params x.params a.results x.results l.1 g.1 index words (literals index) fit.1.0 less
+        one_word index words less = words_same callee plain spent fuel u t y.params x.params y.results x.results l.1 g.1 index words (literals index) fit.1.0 less
 
 -- ---- behind alike events
 
@@ -156,11 +174,14 @@ alike_behind_start f g ws m vs n later recorded (x ∷ xs) asked (y ∷ ys) p h 
 
 -- ---- the recorded ask beside one that isn't resumed
 
--- The recorded ask at this place, with the same words and memory, and what served it.
+-- The recorded ask at this place, with the same words and memory, and what served it: with the recorded results, apart from how they are kept.
 pub record IsRecordedAsk (callee : Callee) (spent : ℕ) (asks : List ServedAsk) (place index : ℕ) (words memory : List ℕ) : Type 0 where
   pub turn : AskTurn
   pub ask : ServedAsk
-  pub answered : IsAnswered callee spent turn ask.params ask.results
+  pub params : List Val
+  pub results : List Val
+  pub answered : IsAnswered callee spent turn params results
+  pub results_are : literals_view results ≡ literals_view ask.results
   pub there : slice_get asks place ≡ Some ask
   pub import_is : ask.import ≡ index
   pub index_is : turn.index ≡ index
@@ -168,39 +189,44 @@ pub record IsRecordedAsk (callee : Callee) (spent : ℕ) (asks : List ServedAsk)
   pub memory_is : turn.memory ≡ memory
 
 module _ {U : Type 0} (answers_so : Answering U) (callee : Callee) (spent : ℕ) (asks : List ServedAsk) (post : Option ℕ) (returned after : List ℕ) where
-  pub ask_recorded : (ts us : List AskTurn) (tail : List Event) (k p : ℕ) (others : List LoggedEntry) (bs more : List ServedAsk) → AnsweredTurns answers_so callee spent us others (map entry_of_ask bs) → drop k asks ≡ bs ++ more
+  pub ask_recorded : (ts us : List AskTurn) (tail : List Event) (k p : ℕ) (others ls : List LoggedEntry) (bs more : List ServedAsk) → AnsweredTurns answers_so callee spent us others ls → AreRecordedAs ls bs → drop k asks ≡ bs ++ more
       → AreAlike (asked_events ts ++ tail) (take p (asked_events us ++ recorded_end post returned after)) → OnAsk (λ i ws m rest. IsRecordedAsk callee spent asks (k + length ts) i ws m) tail
-  ask_recorded (t ∷ ts) [] tail k p others bs more l e h =
+  ask_recorded (t ∷ ts) [] tail k p others ls bs more l is e h =
       absurd (ask_alike t.index t.words t.memory (event.Return returned after) (alike_rest p (event.Ask t.index t.words t.memory) (event.Return returned after) (event.Resume t.resumed_words t.resumed_memory ∷ asked_events ts ++ tail) (post_events post returned) h).0 tt)
-  ask_recorded (t ∷ ts) (u ∷ us) tail k p others [] more l e h = absurd l
-  ask_recorded (t ∷ ts) (u ∷ us) tail k p others (a ∷ bs) more l e h =
+  ask_recorded (t ∷ ts) (u ∷ us) tail k p others [] bs more l is e h = absurd l
+  ask_recorded (t ∷ ts) (u ∷ us) tail k p others (y ∷ ls) [] more l is e h = absurd (none_recorded y ls is)
+  ask_recorded (t ∷ ts) (u ∷ us) tail k p others (y ∷ ls) (a ∷ bs) more l is e h =
       let (first, (q, behind)) = alike_rest p (event.Ask t.index t.words t.memory) (event.Ask u.index u.words u.memory) (event.Resume t.resumed_words t.resumed_memory ∷ asked_events ts ++ tail)
       (event.Resume u.resumed_words u.resumed_memory ∷ asked_events us ++ recorded_end post returned after) h in
       let (second, (r, rest)) = alike_rest q (event.Resume t.resumed_words t.resumed_memory) (event.Resume u.resumed_words u.resumed_memory) (asked_events ts ++ tail) (asked_events us ++ recorded_end post returned after) behind in
       subst (λ (n : ℕ). OnAsk (λ i ws m others2. IsRecordedAsk callee spent asks n i ws m) tail) (moved k (length ts))
-      (ask_recorded ts us tail (k + 1) r (others ++ entry_of_ask a ∷ []) bs more l.3 (drop_rest asks k a (bs ++ more) e) rest)
+      (ask_recorded ts us tail (k + 1) r (others ++ y ∷ []) ls bs more l.3 (others_recorded y ls a bs is) (drop_rest asks k a (bs ++ more) e) rest)
     where
       moved : (m n : ℕ) → m + 1 + n ≡ m + suc n
       moved m n = omega arith
-  ask_recorded [] us [] k p others bs more l e h = tt
-  ask_recorded [] us (event.Start f ws m ∷ tail) k p others bs more l e h = tt
-  ask_recorded [] us (event.Resume ws m ∷ tail) k p others bs more l e h = tt
-  ask_recorded [] us (event.Return ws m ∷ tail) k p others bs more l e h = tt
-  ask_recorded [] us (event.Realloc o os al ns a ∷ tail) k p others bs more l e h = tt
-  ask_recorded [] us (event.Post f ws ∷ tail) k p others bs more l e h = tt
-  ask_recorded [] us (event.Dtor f rep ∷ tail) k p others bs more l e h = tt
-  ask_recorded [] us (event.Trap told at ∷ tail) k p others bs more l e h = tt
-  ask_recorded [] [] (event.Ask i ws m ∷ tail) k p others bs more l e h =
+  ask_recorded [] us [] k p others ls bs more l is e h = tt
+  ask_recorded [] us (event.Start f ws m ∷ tail) k p others ls bs more l is e h = tt
+  ask_recorded [] us (event.Resume ws m ∷ tail) k p others ls bs more l is e h = tt
+  ask_recorded [] us (event.Return ws m ∷ tail) k p others ls bs more l is e h = tt
+  ask_recorded [] us (event.Realloc o os al ns a ∷ tail) k p others ls bs more l is e h = tt
+  ask_recorded [] us (event.Post f ws ∷ tail) k p others ls bs more l is e h = tt
+  ask_recorded [] us (event.Dtor f rep ∷ tail) k p others ls bs more l is e h = tt
+  ask_recorded [] us (event.Trap told at ∷ tail) k p others ls bs more l is e h = tt
+  ask_recorded [] [] (event.Ask i ws m ∷ tail) k p others ls bs more l is e h =
       absurd (ask_alike i ws m (event.Return returned after) (alike_rest p (event.Ask i ws m) (event.Return returned after) tail (post_events post returned) h).0 tt)
-  ask_recorded [] (u ∷ us) (event.Ask i ws m ∷ tail) k p others [] more l e h = absurd l
-  ask_recorded [] (u ∷ us) (event.Ask i ws m ∷ tail) k p others (a ∷ bs) more l e h =
+  ask_recorded [] (u ∷ us) (event.Ask i ws m ∷ tail) k p others [] bs more l is e h = absurd l
+  ask_recorded [] (u ∷ us) (event.Ask i ws m ∷ tail) k p others (y ∷ ls) [] more l is e h = absurd (none_recorded y ls is)
+  ask_recorded [] (u ∷ us) (event.Ask i ws m ∷ tail) k p others (y ∷ ls) (a ∷ bs) more l is e h =
       let (first, behind) = alike_rest p (event.Ask i ws m) (event.Ask u.index u.words u.memory) tail (event.Resume u.resumed_words u.resumed_memory ∷ asked_events us ++ recorded_end post returned after) h in
       record {
         turn = u;
         ask = a;
+        params = y.params;
+        results = y.results;
         answered = l.1;
+        results_are = (entry_recorded y ls a bs is).1;
         there = ap (slice_get asks) (none_more k) ∙ get_first asks k a (bs ++ more) e;
-        import_is = l.0 ∙ sym (index_same i u.index ws u.words m u.memory first);
+        import_is = sym (entry_recorded y ls a bs is).0 ∙ (l.0 ∙ sym (index_same i u.index ws u.words m u.memory first));
         index_is = sym (index_same i u.index ws u.words m u.memory first);
         words_are = sym (asked_same i u.index ws u.words m u.memory first);
         memory_is = sym (memory_same i u.index ws u.words m u.memory first);

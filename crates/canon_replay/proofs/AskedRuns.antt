@@ -10,6 +10,7 @@ use Rattle.canon_memory.specs.declared.event.Event.TheVariants as event
 use Rattle.canon_memory.specs.Guest.{Moment}
 use Rattle.canon_lowering.specs.Lowering.{Answer, Meets, Trap, addresses_of, events_of}
 use Rattle.canon_lowering.specs.Storing.{narrow}
+use Rattle.canon_literals.specs.Literals.{literals_view}
 use Rattle.canon_plan.specs.NoHandle.{HaveNoHandle}
 use Rattle.canon_val.specs.Value.{HaveTrees}
 use Rattle.canon_val.specs.declared.val.Val.{Val}
@@ -27,7 +28,9 @@ use Rattle.canon_recording.specs.Stages.{RunsOn}
 use Rattle.canon_replay.proofs.Answered.{AnsweredTurns, AnswersTurns, HasPlainImports, turns_answered}
 use Rattle.canon_replay.proofs.Behind.{runs_behind}
 use Rattle.canon_replay.proofs.Following.{each_behind}
+use Rattle.canon_replay.proofs.Literals.{same_trees}
 use Rattle.canon_replay.proofs.Runs.{QuietRun, each_seam, no_leaves}
+use Rattle.canon_replay.proofs.Small.{small_same}
 
 -- ---- asks that want no blocks
 
@@ -115,6 +118,42 @@ quiet_asked answers_so callee fuel turns params results entries events none q = 
     left = q.left;
     are = q.are;
     leaves = q.leaves;
+  },
+  refl,
+)
+
+-- of parameters and results with the same literals
+pub kept_otherwise : {T : Type 0} (answers_so : Answering T) (callee : Callee) (fuel turns : ℕ) (params results others those : List Val) (entries : List LoggedEntry) (events : List Event)
+    → HaveNoHandle callee.params × HaveNoHandle callee.results → literals_view params ≡ literals_view others → literals_view results ≡ literals_view those
+    → (r : AskedRun answers_so callee fuel turns params results entries events)
+    → (run : AskedRun answers_so callee fuel turns others those entries events) × (run.gained ≡ r.gained)
+kept_otherwise answers_so callee fuel turns params results others those entries events plain given left r = (
+  record {
+    answers = r.answers;
+    words = r.words;
+    memory = r.memory;
+    asks = r.asks;
+    gained = r.gained;
+    asked = r.asked;
+    few = r.few;
+    returned = r.returned;
+    after = r.after;
+    is = r.is;
+    trees = r.trees;
+    have = same_trees false callee.params params others r.trees (members_handles callee.params plain.0) given r.have;
+    small = small_same callee.encoding callee.params params others given r.small;
+    met = r.met;
+    homes = r.homes;
+    count = r.count;
+    left = r.left;
+    are = record {
+      its_trees = r.are.its_trees;
+      represented = r.are.represented;
+      no_other = r.are.no_other;
+      have = same_trees true callee.results results those r.are.its_trees (members_handles callee.results plain.1) left r.are.have;
+      spent = r.are.spent;
+    };
+    leaves = r.leaves;
   },
   refl,
 )

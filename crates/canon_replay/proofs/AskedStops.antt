@@ -1,5 +1,5 @@
 -- Asks of functions over values that want no blocks: none is asked for where one isn't resumed; and the ask that is the recorded one isn't refused.
-use Rattle.std.proofs.Common.{arith, Err, List, None, Ok, Option, Some, [], ap, inl, inr, length, map, refl, subst, sym, ℕ, ◌∙◌, ◌≡◌, ◌+◌, ◌≤◌}
+use Rattle.std.proofs.Common.{arith, Err, List, None, Ok, Option, Some, [], ap, false, inl, inr, length, map, refl, subst, sym, ℕ, ◌∙◌, ◌≡◌, ◌+◌, ◌≤◌}
 use Rattle.std.specs.Prelude.{IfSome}
 use Rattle.canon_model.specs.Cost.{members_cost}
 use Rattle.canon_model.specs.Leaves.{Leaf}
@@ -117,7 +117,7 @@ module _ (callee : Callee) (fuel : ℕ) (imports : HasPlainImports callee) (asks
   abbrev turn : AskTurn
   turn = r.turn
 
-  abbrev a : IsAnswered callee fuel turn r.ask.params r.ask.results
+  abbrev a : IsAnswered callee fuel turn r.params r.results
   a = r.answered
 
   its : IsPlainAsk callee a.asked
@@ -125,8 +125,8 @@ module _ (callee : Callee) (fuel : ℕ) (imports : HasPlainImports callee) (asks
 
   module _ {T : Type 0} (h : HostSide T) (logged : h.log ≡ Some entries) where
     -- where the function may give these results by the log, they are the recorded ones
-    its_results : (params results : List Val) (from to : T) → (GivesNext {T = T} asks).answers entries turn.index from params (Ok results) to → literals_view r.ask.results ≡ literals_view results
-    its_results params results from to gave = inside (literals_view r.ask.results) (literals_view results) (sym (given_at asks (length entries) turn.index r.ask r.there (r.import_is ∙ sym r.index_is)) ∙ gave.0)
+    its_results : (params results : List Val) (from to : T) → (GivesNext {T = T} asks).answers entries turn.index from params (Ok results) to → literals_view r.results ≡ literals_view results
+    its_results params results from to gave = r.results_are ∙ inside (literals_view r.ask.results) (literals_view results) (sym (given_at asks (length entries) turn.index r.ask r.there (r.import_is ∙ sym r.index_is)) ∙ gave.0)
 
     accepts_turn : AcceptsHost (GivesNext {T = T} asks) callee fuel a.asked turn.index turn.words turn.memory h
     accepts_turn = record {
@@ -150,7 +150,7 @@ module _ (callee : Callee) (fuel : ℕ) (imports : HasPlainImports callee) (asks
             ends = ap asked_exit there ∙ entered_ends h.ledger;
             lowerable = record {
               trees = a.row.trees;
-              have = same_trees (asked_results callee a.asked) r.ask.results results a.row.trees its.quiet (members_handles (asked_results callee a.asked) its.results) same a.row.have;
+              have = same_trees false (asked_results callee a.asked) r.results results a.row.trees (members_handles (asked_results callee a.asked) its.results) same a.row.have;
               small = all_small _ (asked_results callee a.asked) results its.quiet;
               given = [];
               left = leave (enter h.ledger);

@@ -21,16 +21,17 @@ use Rattle.canon_recording.specs.Fits.{AreRuns, IsRecordable, IsRecordedCallOf, 
 use Rattle.canon_recording.specs.Recordings.{RecordedCall, exports_of, imports_of}
 use Rattle.canon_replay_guest.specs.Replaying.{Replaying}
 use Rattle.canon_replay.specs.Calls.{CallDiffers, CallReplayed, MadeCall, ReplaysFrom, asks_of_calls, made_call_of, events_of_call}
-use Rattle.canon_replay.specs.Faithful.{AskForNothing, HaveLawfulAnswers, IsNoDifference, OnResume, RecordedAreSame, RecordedNeverDiffer, IsFaithfulCall, AreFaithful}
+use Rattle.canon_replay.specs.Faithful.{AskForNothing, HaveLawfulAnswers, IsNoDifference, OnResume, RecordedAreSame, RecordedNeverDiffer, IsFaithfulCall, AreFaithful, entry_view}
 use Rattle.canon_replay.specs.Stores.{IsNewStore, JournaledReplays, ReplayStore, asks_in_store, guest_in_store}
 use Rattle.canon_replay.specs.declared.outcome.Outcome.{Outcome}
 use Rattle.canon_replay.specs.declared.outcome.Outcome.TheVariants as outcome
 use Rattle.canon_replay.proofs.Answered.{plain_imports}
 use Rattle.canon_replay.proofs.AskedFollowing.{each_answers}
-use Rattle.canon_replay.proofs.AskedRuns.{AskedRun, quiet_asked}
+use Rattle.canon_replay.proofs.AskedRuns.{AskedRun, kept_otherwise, quiet_asked}
 use Rattle.canon_replay.proofs.Behind.{IsNoAsk, IsNoTrap, recorded_end}
 use Rattle.canon_replay.proofs.Departing.{unless_short}
 use Rattle.canon_replay.proofs.Lawfully.{asks_live, asks_unanswered}
+use Rattle.canon_replay.proofs.Literals.{as_many}
 use Rattle.canon_replay.proofs.MadeAgain.{answered_asks, differs_nowhere}
 use Rattle.canon_replay.proofs.Running.{runs_can}
 use Rattle.canon_replay.proofs.Runs.{QuietRun, none_asked, quiet_run}
@@ -59,13 +60,13 @@ module _ {T G I P : Type 0} (seen : G → Seen) (moves : GuestIn G → List Even
   its_callee_is = w.callee
 
   pub recorded_entered : call_refusal (callee_of_call c call) (length call.params) w.slots w.before.trapped ≡ None
-  recorded_entered = subst (λ (x : Callee). call_refusal x (length call.params) w.slots w.before.trapped ≡ None) its_callee_is w.entered
+  recorded_entered = subst₂ (λ (x : Callee) (n : ℕ). call_refusal x n w.slots w.before.trapped ≡ None) its_callee_is (as_many w.params call.params w.params_are) w.entered
 
-  recorded_run : HaveNoHandle (callee_of_call c call).results → asks_in call.events ≡ 0 → QuietRun (callee_of_call c call) fuel call.params call.results call.events
+  recorded_run : HaveNoHandle (callee_of_call c call).results → asks_in call.events ≡ 0 → QuietRun (callee_of_call c call) fuel w.params w.results call.events
   recorded_run plain quiet =
-      subst (λ (x : Callee). QuietRun x fuel call.params call.results call.events) its_callee_is (subst (λ (k : ℕ). QuietRun its_callee k call.params call.results call.events) w.fuel_is
-      (subst (QuietRun its_callee w.before.core.fuel call.params call.results) w.events
-      (quiet_run (LivesUntil {U = Unit {0}} seen moves (guest_of w.before.core) (guest_of w.after.core) (Ok tt)) leaves (gives (plan w.before.imports)) its_callee w.before.core.fuel w.before.turns call.params call.results
+      subst (λ (x : Callee). QuietRun x fuel w.params w.results call.events) its_callee_is (subst (λ (k : ℕ). QuietRun its_callee k w.params w.results call.events) w.fuel_is
+      (subst (QuietRun its_callee w.before.core.fuel w.params w.results) w.events
+      (quiet_run (LivesUntil {U = Unit {0}} seen moves (guest_of w.before.core) (guest_of w.after.core) (Ok tt)) leaves (gives (plan w.before.imports)) its_callee w.before.core.fuel w.before.turns w.params w.results
       (moment_of seen w.before.core) (moment_of seen w.after.core) (host_side w.before.core (log w.before.imports) (refusals w.before.imports)) (host_side w.after.core (log w.after.imports) (refusals w.after.imports)) w.calls.events w.calls.so
       (subst (λ (x : Callee). HaveNoHandle x.results) (sym its_callee_is) plain) (subst (Each (OnStart (λ words memory. AreWords words))) (sym w.events) w.words)
       (subst (Each IsNoAsk) (sym w.events) (none_asked call.events quiet)))))
@@ -99,18 +100,21 @@ module _ {T G I P : Type 0} (seen : G → Seen) (moves : GuestIn G → List Even
   call_same : (call : RecordedCall) (before : ReplayStore) → IsGoing before → IsFaithfulCall seen moves leaves plan gives log refusals c fuel turns call → asks_in call.events ≡ 0 → IsRecordedCallOf (exports_of c) (imports_of c) call
       → (place : ℕ) → ¬ CallDiffers place (made_call_of call) before
   call_same call before going w quiet fits = differs_nowhere c call before going.component going.untrapped (gives (plan w.before.imports)).answers [] []
-      (record { run = asked.0; logged = asked.1; fit = w.words; resumed = never_resumed _ (callee_of_call c call) before.core.fuel call.params call.results call.events run }) plain
+      (record { run = asked.0; logged = ap (map entry_view) asked.1; fit = w.words; resumed = never_resumed _ (callee_of_call c call) before.core.fuel w.params w.results call.events run }) plain
       (plain_imports c recordable (slice_get c.exports.items call.export)) (written_calm (imports_of c).count call.events fits.asks) (drop (length (answered_asks before)) (asks_in_store before)) refl
       w.slots w.before.trapped sound fits.its.known (recorded_entered seen moves leaves plan gives log refusals c fuel turns call w)
     where
       plain : HaveNoHandle (callee_of_call c call).params × HaveNoHandle (callee_of_call c call).results
       plain = recordable.exports call.export fits.its.known
 
-      run : QuietRun (callee_of_call c call) before.core.fuel call.params call.results call.events
-      run = subst (λ (k : ℕ). QuietRun (callee_of_call c call) k call.params call.results call.events) (sym going.fuel_is) (recorded_run seen moves leaves plan gives log refusals c fuel turns call w plain.1 quiet)
+      run : QuietRun (callee_of_call c call) before.core.fuel w.params w.results call.events
+      run = subst (λ (k : ℕ). QuietRun (callee_of_call c call) k w.params w.results call.events) (sym going.fuel_is) (recorded_run seen moves leaves plan gives log refusals c fuel turns call w plain.1 quiet)
 
       asked : (r : AskedRun (gives (plan w.before.imports)).answers (callee_of_call c call) before.core.fuel before.turns call.params call.results [] call.events) × (r.gained ≡ [])
-      asked = quiet_asked (gives (plan w.before.imports)).answers (callee_of_call c call) before.core.fuel before.turns call.params call.results [] call.events quiet run
+      asked =
+          let made = quiet_asked (gives (plan w.before.imports)).answers (callee_of_call c call) before.core.fuel before.turns w.params w.results [] call.events quiet run in
+          let kept = kept_otherwise (gives (plan w.before.imports)).answers (callee_of_call c call) before.core.fuel before.turns w.params w.results call.params call.results [] call.events plain w.params_are w.results_are made.0 in
+          (kept.0, kept.1 ∙ made.1)
 
   never_differ_from : (k : ℕ) (calls : List RecordedCall) (store : ReplayStore) (o : Outcome) → IsGoing store → All (IsRecordedCallOf (exports_of c) (imports_of c)) calls → AreFaithful seen moves leaves plan gives log refusals c fuel turns calls
       → AskForNothing calls → ReplaysFrom k (map made_call_of calls) store o → IsNoDifference o

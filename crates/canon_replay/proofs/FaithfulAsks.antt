@@ -20,7 +20,7 @@ use Rattle.canon_recording.proofs.Rows.{map_length}
 use Rattle.canon_recording.specs.Fits.{IsRecordable, IsRecordedCallOf, callee_of_call}
 use Rattle.canon_recording.specs.Recordings.{RecordedCall, ServedAsk, exports_of, imports_of}
 use Rattle.canon_replay.specs.Calls.{CallDiffers, CallReplayed, ReplaysFrom, asks_of_calls, events_of_call, made_call_of, replay_host}
-use Rattle.canon_replay.specs.Faithful.{AreLogged, HaveLawfulAnswers, IsFaithfulCall, IsLoggedCall, IsNoDifference, LoggedAreSame, LoggedNeverDiffer, entry_of_ask}
+use Rattle.canon_replay.specs.Faithful.{AreLogged, AreRecordedAs, HaveLawfulAnswers, IsFaithfulCall, IsLoggedCall, IsNoDifference, LoggedAreSame, LoggedNeverDiffer, ask_view, entry_view}
 use Rattle.canon_replay.specs.Imports.{GivesNext}
 use Rattle.canon_replay.specs.Stores.{IsNewStore, JournaledReplays, ReplayStore, asks_in_store, journaled_seen, named_export}
 use Rattle.canon_replay.specs.declared.outcome.Outcome.{Outcome}
@@ -28,7 +28,7 @@ use Rattle.canon_replay.specs.declared.outcome.Outcome.TheVariants as outcome
 use Rattle.canon_replay.proofs.Answered.{HasPlainImports, as_many_gained, plain_imports}
 use Rattle.canon_replay.proofs.AskedAgreeing.{inside}
 use Rattle.canon_replay.proofs.AskedFollowing.{asks_alike, run_asks}
-use Rattle.canon_replay.proofs.AskedRuns.{AskedRun, asked_events, asked_run}
+use Rattle.canon_replay.proofs.AskedRuns.{AskedRun, asked_events, asked_run, kept_otherwise}
 use Rattle.canon_replay.proofs.Behind.{recorded_end}
 use Rattle.canon_replay.proofs.Departing.{unless_short}
 use Rattle.canon_replay.proofs.Faithful.{IsGoing, before_first, goes_on, recorded_entered, written_calm}
@@ -51,6 +51,9 @@ drop_both (suc m) k (x ∷ xs) = let same : suc m + k ≡ suc (m + k) = omega ar
 drop_more : {A : Type 0} (n : ℕ) (xs front rest : List A) → drop n xs ≡ front ++ rest → drop (n + length front) xs ≡ rest
 drop_more n xs front rest e = drop_both n (length front) xs ∙ (ap (drop (length front)) e ∙ drop-append_seam front rest)
 
+recorded_length : (entries : List LoggedEntry) (served : List ServedAsk) → AreRecordedAs entries served → length entries ≡ length served
+recorded_length entries served e = sym (map_length entry_view entries) ∙ (ap length e ∙ map_length ask_view served)
+
 -- ---- the recorded call, in the component
 
 module _ {T G I P : Type 0} (seen : G → Seen) (moves : GuestIn G → List Event → GuestIn G → Type 0) (leaves : List ℕ → List ℕ → Type 0)
@@ -61,20 +64,29 @@ module _ {T G I P : Type 0} (seen : G → Seen) (moves : GuestIn G → List Even
   abbrev its_callee : Callee
   its_callee = callee_of f.before f.func
 
-  -- its run, and that the log gained the recorded asks by it
+  -- its run, and that what the log gained by it is recorded
   record LoggedRun (callee : Callee) (spent limit : ℕ) (events : List Event) : Type 0 where
     run : AskedRun (gives (plan f.before.imports)).answers callee spent limit call.params call.results w.entries events
-    logged : run.gained ≡ map entry_of_ask call.served
+    logged : AreRecordedAs run.gained call.served
 
-  logged_run : HaveNoHandle (callee_of_call c call).results → HasPlainImports (callee_of_call c call) → LoggedRun (callee_of_call c call) fuel turns call.events
+  logged_run : HaveNoHandle (callee_of_call c call).params × HaveNoHandle (callee_of_call c call).results → HasPlainImports (callee_of_call c call) → LoggedRun (callee_of_call c call) fuel turns call.events
   logged_run plain imports =
       subst (λ (x : Callee). LoggedRun x fuel turns call.events) f.callee (subst (λ (k : ℕ). LoggedRun its_callee k turns call.events) f.fuel_is (subst (λ (k : ℕ). LoggedRun its_callee f.before.core.fuel k call.events) f.turns_is
-      (subst (LoggedRun its_callee f.before.core.fuel f.before.turns) f.events (record { run = made.0; logged = append_cancel_left w.entries made.0.gained (map entry_of_ask call.served) (inside _ _ (sym made.1 ∙ w.gained)) }))))
+      (subst (LoggedRun its_callee f.before.core.fuel f.before.turns) f.events (record { run = kept.0; logged = ap (map entry_view) (kept.1 ∙ gained_is) ∙ w.told }))))
     where
-      made : (run : AskedRun (gives (plan f.before.imports)).answers its_callee f.before.core.fuel f.before.turns call.params call.results w.entries f.calls.events) × (log f.after.imports ≡ Some (w.entries ++ run.gained))
-      made = asked_run (LivesUntil {U = Unit {0}} seen moves (guest_of f.before.core) (guest_of f.after.core) (Ok tt)) leaves (gives (plan f.before.imports)) its_callee f.before.core.fuel f.before.turns call.params call.results
+      its_plain : HaveNoHandle its_callee.params × HaveNoHandle its_callee.results
+      its_plain = subst (λ (x : Callee). HaveNoHandle x.params × HaveNoHandle x.results) (sym f.callee) plain
+
+      made : (run : AskedRun (gives (plan f.before.imports)).answers its_callee f.before.core.fuel f.before.turns f.params f.results w.entries f.calls.events) × (log f.after.imports ≡ Some (w.entries ++ run.gained))
+      made = asked_run (LivesUntil {U = Unit {0}} seen moves (guest_of f.before.core) (guest_of f.after.core) (Ok tt)) leaves (gives (plan f.before.imports)) its_callee f.before.core.fuel f.before.turns f.params f.results
           (moment_of seen f.before.core) (moment_of seen f.after.core) (host_side f.before.core (log f.before.imports) (refusals f.before.imports)) (host_side f.after.core (log f.after.imports) (refusals f.after.imports)) f.calls.events f.calls.so
-          (subst (λ (x : Callee). HaveNoHandle x.results) (sym f.callee) plain) (subst HasPlainImports (sym f.callee) imports) w.entries w.logged
+          its_plain.1 (subst HasPlainImports (sym f.callee) imports) w.entries w.logged
+
+      kept : (run : AskedRun (gives (plan f.before.imports)).answers its_callee f.before.core.fuel f.before.turns call.params call.results w.entries f.calls.events) × (run.gained ≡ made.0.gained)
+      kept = kept_otherwise (gives (plan f.before.imports)).answers its_callee f.before.core.fuel f.before.turns f.params f.results call.params call.results w.entries f.calls.events its_plain f.params_are f.results_are made.0
+
+      gained_is : made.0.gained ≡ w.gained
+      gained_is = append_cancel_left w.entries made.0.gained w.gained (inside _ _ (sym made.1 ∙ w.grown))
 
 -- ---- all calls
 
@@ -100,7 +112,7 @@ module _ {T G I P : Type 0} (seen : G → Seen) (moves : GuestIn G → List Even
     imports = plain_imports c recordable (slice_get c.exports.items call.export)
 
     recorded : LoggedRun seen moves leaves plan gives log refusals c fuel turns call w (callee_of_call c call) fuel turns call.events
-    recorded = logged_run seen moves leaves plan gives log refusals c fuel turns call w plain.1 imports
+    recorded = logged_run seen moves leaves plan gives log refusals c fuel turns call w plain imports
 
     run : LoggedRun seen moves leaves plan gives log refusals c fuel turns call w (callee_of_call c call) before.core.fuel before.turns call.events
     run = subst (λ (k : ℕ). LoggedRun seen moves leaves plan gives log refusals c fuel turns call w (callee_of_call c call) k before.turns call.events) (sym at.going.fuel_is)
@@ -137,7 +149,7 @@ module _ {T G I P : Type 0} (seen : G → Seen) (moves : GuestIn G → List Even
           ∙ (asks_alike r.events call.events r.alike
           ∙ (ap asks_in run.run.is ∙ run_asks (callee_of_call c call).post run.run.returned run.run.after (callee_of_call c call).func run.run.words run.run.memory run.run.asks run.run.answers
           ∙ (sym (as_many_gained (gives (plan w.faithful.before.imports)).answers (callee_of_call c call) before.core.fuel run.run.asks w.entries run.run.gained run.run.asked)
-          ∙ (ap length run.logged ∙ map_length entry_of_ask call.served)))))
+          ∙ recorded_length run.run.gained call.served run.logged))))
 
       next_at : IsAt next others
       next_at = record {

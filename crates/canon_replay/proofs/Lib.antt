@@ -28,6 +28,7 @@ pub mod Rows
 pub mod Running
 pub mod Runs
 pub mod Same
+pub mod Small
 pub mod Splitting
 pub mod Steady
 pub mod Storing

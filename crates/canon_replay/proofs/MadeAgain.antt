@@ -1,5 +1,5 @@
 -- A recorded call that is made again: it isn't refused before the guest is entered, and isn't told to differ.
-use Rattle.std.proofs.Common.{All, Bool, Err, List, None, Ok, Option, Result, Some, [], ap, arith, drop, false, inl, inr, length, map, refl, subst, suc, sym, take, true, zero, ℕ, ◌++◌, ◌<◌, ◌∙◌, ◌∷◌, ◌≡◌, ◌≤◌, ◌⊎◌}
+use Rattle.std.proofs.Common.{All, Bool, Err, List, None, Ok, Option, Result, Some, [], ap, arith, drop, false, inl, inr, length, refl, subst, suc, sym, take, true, zero, ℕ, ◌++◌, ◌<◌, ◌∙◌, ◌∷◌, ◌≡◌, ◌≤◌, ◌⊎◌}
 use Rattle.std.proofs.lemmas.Bool.{eq-eqb}
 use Rattle.std.proofs.lemmas.List.Elements.{All-head, All-tail}
 use Rattle.std.specs.Prelude.{IfSome, IsSome, not, slice_get, ◌&&◌, ◌==◌, ◌≢◌}
@@ -24,7 +24,7 @@ use Rattle.canon_replay.proofs.Answered.{HasPlainImports}
 use Rattle.canon_replay.proofs.AskedRuns.{AskedRun}
 use Rattle.canon_replay.proofs.Behind.{IsNoTrap}
 use Rattle.canon_replay.specs.Calls.{AnswersOtherwise, CallDiffers, DepartsAt, EndsOtherwise, IsNotEntered, IsNotShort, LeavesAt, WasMadeAgain, made_call_of, replay_host, results_shape_in}
-use Rattle.canon_replay.specs.Faithful.{OnResume, entry_of_ask}
+use Rattle.canon_replay.specs.Faithful.{AreRecordedAs, OnResume}
 use Rattle.canon_replay.specs.Stores.{JournaledReplays, ReplayStore, asks_in_store, guest_in_store, journaled_seen, named_export}
 use Rattle.canon_replay_guest.specs.Passing.{AreAlike}
 use Rattle.canon_replay_guest.specs.Replaying.{passed_events}
@@ -86,7 +86,7 @@ answered_asks store = entries_of store.imports.lines.items
 -- What is known of a recorded call, where the log before it was this and these asks are recorded: its run, and words of 64 bits.
 pub record IsRecorded {U : Type 0} (answers_so : Answering U) (callee : Callee) (fuel turns : ℕ) (before : List LoggedEntry) (served : List ServedAsk) (call : RecordedCall) : Type 0 where
   pub run : AskedRun answers_so callee fuel turns call.params call.results before call.events
-  pub logged : run.gained ≡ map entry_of_ask served
+  pub logged : AreRecordedAs run.gained served
   pub fit : Each (OnStart (λ words memory. AreWords words)) call.events
   pub resumed : Each (OnResume (λ words memory. AreWords words)) call.events
 

@@ -9,7 +9,9 @@ use Rattle.canon_memory.specs.Realloc.{call}
 use Rattle.canon_memory.specs.Watch.{relisted}
 use Rattle.canon_context.specs.Component.{IsComponent}
 use Rattle.canon_context.specs.declared.component.Component.{Component}
-use Rattle.canon_host.specs.HostSide.{Giving, LoggedEntry, entry}
+use Rattle.canon_host.specs.HostSide.{Giving, LoggedEntry}
+use Rattle.canon_literals.specs.Literals.{Literal, literals_view}
+use Rattle.canon_val.specs.declared.val.Val.{Val}
 use Rattle.canon_func.specs.Call.{call_refusal}
 use Rattle.canon_func.specs.Called.{CallOf}
 use Rattle.canon_func.specs.Runs.{Each, OnStart, asks_in}
@@ -43,9 +45,16 @@ abbrev pub OnResume : (List ℕ → List ℕ → Type 0) → Event → Type 0
 OnResume P (event.Resume words memory) = P words memory
 OnResume P _ = ⊤
 
--- an ask that was served, as imports log it
-abbrev pub entry_of_ask : ServedAsk → LoggedEntry
-entry_of_ask a = entry a.import a.params a.results
+-- an ask that was served, apart from how its values are kept: of the log, and of a recording
+abbrev pub entry_view : LoggedEntry → ℕ × List Literal × List Literal
+entry_view e = (e.index, literals_view e.params, literals_view e.results)
+
+abbrev pub ask_view : ServedAsk → ℕ × List Literal × List Literal
+ask_view a = (a.import, literals_view a.params, literals_view a.results)
+
+-- the recording lists the asks of these entries, in order
+abbrev pub AreRecordedAs : List LoggedEntry → List ServedAsk → Type 0
+AreRecordedAs entries served = map entry_view entries ≡ map ask_view served
 
 -- it isn't told that a call differs
 abbrev pub IsNoDifference : Outcome → Type 0
@@ -57,17 +66,21 @@ module _ {T G I P : Type 0} (seen : G → Seen) (moves : GuestIn G → List Even
     (plan : I → P) (gives : P → Giving T) (log : I → Option (List LoggedEntry)) (refusals : I → ℕ) where
   -- `Func::call` was called with the recorded parameters, in a store in which its function is the one that the recorded export is in this component,
   -- with this fuel and this limit of turns, and with so many slots for results. It answered Ok with the recorded results, and its guest added the recorded events; the words of the
-  -- start have 64 bits.
+  -- start have 64 bits. The recorded values are those of the call apart from how they are kept.
   pub record IsFaithfulCall (c : Component) (fuel turns : ℕ) (call : RecordedCall) : Type 0 where
     pub before : StoreView T G I
     pub after : StoreView T G I
     pub func : Named
     pub slots : ℕ
+    pub params : List Val
+    pub results : List Val
+    pub params_are : literals_view params ≡ literals_view call.params
+    pub results_are : literals_view results ≡ literals_view call.results
     pub callee : callee_of before func ≡ callee_of_call c call
     pub fuel_is : before.core.fuel ≡ fuel
     pub turns_is : before.turns ≡ turns
-    pub entered : call_refusal (callee_of before func) (length call.params) slots before.trapped ≡ None
-    pub calls : CallOf seen moves leaves plan gives log refusals before func call.params (Ok tt) call.results after
+    pub entered : call_refusal (callee_of before func) (length params) slots before.trapped ≡ None
+    pub calls : CallOf seen moves leaves plan gives log refusals before func params (Ok tt) results after
     pub events : calls.events ≡ call.events
     pub words : Each (OnStart (λ words memory. AreWords words)) call.events
 
@@ -86,12 +99,14 @@ module _ {T G I P : Type 0} (seen : G → Seen) (moves : GuestIn G → List Even
   RecordedAreSame = (c : Component) (calls : List RecordedCall) (fuel turns : ℕ) (o : Outcome) → IsComponent c → IsRecordable c → FitsComponent c calls
       → AreFaithful c fuel turns calls → AskForNothing calls → HaveLawfulAnswers calls → IsReplayed c calls fuel turns (Ok o) → o ≡ outcome.Same
 
-  -- Its imports exposed their log, which gained the recorded asks, in order; and the words of each resume have 64 bits.
+  -- Its imports exposed their log, which gained what is recorded as its asks; and the words of each resume have 64 bits.
   pub record IsLoggedCall (c : Component) (fuel turns : ℕ) (call : RecordedCall) : Type 0 where
     pub faithful : IsFaithfulCall c fuel turns call
     pub entries : List LoggedEntry
     pub logged : log faithful.before.imports ≡ Some entries
-    pub gained : log faithful.after.imports ≡ Some (entries ++ map entry_of_ask call.served)
+    pub gained : List LoggedEntry
+    pub grown : log faithful.after.imports ≡ Some (entries ++ gained)
+    pub told : AreRecordedAs gained call.served
     pub resumed : Each (OnResume (λ words memory. AreWords words)) call.events
 
   abbrev pub AreLogged : Component → ℕ → ℕ → List RecordedCall → Type 0
