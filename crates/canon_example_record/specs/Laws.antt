@@ -1,5 +1,5 @@
 -- The laws of a note, by those of its fields.
-use Rattle.std.proofs.Common.{[], ◌∷◌, ◌≡◌, ◌∙◌, List, ap, false, refl, subst, sym, true}
+use Rattle.std.proofs.Common.{[], ◌∷◌, ◌≡◌, ◌∙◌, List, ap, refl, subst, sym, true}
 use Rattle.canon_ledger.specs.Ledger.{LedgerState}
 use Rattle.canon_lower_parts.specs.Given.{AreGivenBy, IsGiven}
 use Rattle.canon_lower_parts.specs.Gives.{no_handles}
@@ -7,8 +7,7 @@ use Rattle.canon_model.specs.Leaves.{Leaf, flat_leaves, leaves, reach_leaves}
 use Rattle.canon_model.specs.Reach.{At, Kind}
 use Rattle.canon_model.specs.Shape as shape
 use Rattle.canon_model.specs.Shape.{Shape}
-use Rattle.canon_model.specs.Tree.{Tree, Trees, no_trees, parts, text_length, tree}
-use Rattle.canon_resources.specs.Parts.{Part}
+use Rattle.canon_model.specs.Tree.{Tree, parts, text_length, tree}
 use Rattle.canon_types.specs.Instance.{Instance}
 use Rattle.canon_types.specs.Table.{shape_of}
 use Rattle.canon_types.specs.declared.types.InterfaceType.{InterfaceType}
@@ -18,7 +17,6 @@ use Rattle.canon_typed.specs.Meaning.{FirstAnd, NoTrees, TextMeans}
 use Rattle.canon_typed.specs.Scalars.{scalar_of}
 use Rattle.canon_typed.specs.Trees.{IsTreeOf}
 use Rattle.canon_typed.specs.Typed.{IsTyped}
-use Rattle.canon_typed.specs.Types.{AreOf}
 use Rattle.canon_reading.specs.Apart.{IsApart, end_apart, more_apart, product_apart, tree_apart}
 use Rattle.canon_reading.specs.OfTrees.{AreSteps, IsFaulted, IsOfTrees, IsPriced, scalar_priced, scalar_told, text_priced, text_told}
 use Rattle.canon_reading.specs.Reading.{AreTaken, Setting}
