@@ -80,13 +80,13 @@ note_faulted = record {
 }
 
 -- the types of the fields, in order
-abbrev fits : List (Instance → InterfaceType → Type 0)
-fits = (λ i t. t ≡ ty.String) ∷ (λ i t. t ≡ ty.U32) ∷ []
+abbrev fields_fit : List (Instance → InterfaceType → Type 0)
+fields_fit = (λ i t. t ≡ ty.String) ∷ (λ i t. t ≡ ty.U32) ∷ []
 
 abbrev types : List InterfaceType
 types = ty.String ∷ ty.U32 ∷ []
 
-fields_priced : ArePriced fits fields_reading (text_length ∷ free ∷ [])
+fields_priced : ArePriced fields_fit fields_reading (text_length ∷ free ∷ [])
 fields_priced = more_priced {first = λ (n : Note). n.title} {others_of = λ (n : Note). n} {R = title_reading} {S = scores_reading} (text_priced (λ w at s. refl))
     (more_priced {first = λ (n : Note). n.score} {others_of = λ (n : Note). n} {R = score_reading} {S = none_reading} (scalar_priced {Lifts = IsScore} free refl) end_priced)
 
@@ -100,7 +100,7 @@ note_priced = record {
       subst (λ (s : Shape). note_reading.reach w at s ≡ note_cost u) (sym e) (note_reached w at u (subst (λ (s : Shape). Represents w.memory w.encoding at s u) e rep));
 }
 
-fields_told : AreOfTrees fits fields_reading (λ n. FirstAnd (TextMeans n.title) (FirstAnd (IsScore n.score) NoTrees))
+fields_told : AreOfTrees fields_fit fields_reading (λ n. FirstAnd (TextMeans n.title) (FirstAnd (IsScore n.score) NoTrees))
 fields_told = more_told {first = λ (n : Note). n.title} {others_of = λ (n : Note). n} {R = title_reading} {S = scores_reading} {Lifts = TextMeans} text_told
     (more_told {first = λ (n : Note). n.score} {others_of = λ (n : Note). n} {R = score_reading} {S = none_reading} {Lifts = IsScore} (scalar_told shape.u32 (scalar_of ty.U32 shape.u32 (λ i. refl))) end_told)
 
