@@ -1,24 +1,23 @@
 -- A note is lifted a field after the other.
-use Rattle.std.proofs.Common.{[], ◌∷◌, ◌≡◌, ◌≤◌, ◌+◌, ◌%◌, ◌∙◌, Err, List, Ok, Result, ap, arith, codes, false, length, refl, subst, sym, true, Global, String, ℕ}
+use Rattle.std.proofs.Common.{◌≡◌, ◌+◌, ◌%◌, Err, List, Ok, Result, ap, arith, codes, false, refl, subst, sym, true, Global, String, ℕ}
 use Rattle.canon_context.specs.Core.{Parts, component_types}
 use Rattle.canon_context.specs.declared.fault.Fault.{Fault}
 use Rattle.canon_ledger.specs.Ledger.{LedgerState}
 use Rattle.canon_lift_parts.proofs.MemberSteps.{member_refused, others_refused, spot_of}
 use Rattle.canon_lowering.specs.Storing.{narrow}
-use Rattle.canon_model.specs.Layout.{align, begins, ends, flat, size}
-use Rattle.canon_model.specs.Shape as shape
+use Rattle.canon_model.specs.Layout.{align, flat}
 use Rattle.canon_model.specs.Shape.{Shape, no_members, string}
 use Rattle.canon_types.specs.Instance.{Instance}
 use Rattle.canon_types.specs.Table.{shape_of}
 use Rattle.canon_types.specs.declared.types.InterfaceType.{InterfaceType}
 use Rattle.canon_typed.specs.Meaning.{TextMeans}
-use Rattle.canon_reading.specs.Reading.{Lifts, Reading, Refused, Setting, setting_in}
+use Rattle.canon_reading.specs.Reading.{Lifts, Setting, setting_in}
 use Rattle.canon_reading.specs.Readings.{none_reading, text_charge}
 use Rattle.canon_reading.specs.Rests.{rest_reading}
-use Rattle.canon_reading.specs.Spots.{HasRoom, Rest, Spot, first_spot, flat_from, flat_in, others, spot_members, stored, stored_from}
+use Rattle.canon_reading.specs.Spots.{HasRoom, Rest, Spot, first_spot, flat_in, others, spot_members, stored}
 use Rattle.canon_reading.specs.Taken.{tree_taken}
 use Rattle.canon_example_record.specs.Laws.{note_shape_is}
-use Rattle.canon_example_record.specs.Notes.{IsNoteType, IsScore, fields_reading, note_members, note_reading, note_shape, score_reading, scores_reading, title_reading}
+use Rattle.canon_example_record.specs.Notes.{IsNoteType, fields_reading, note_members, note_reading, note_shape, score_reading, scores_reading, title_reading}
 use Rattle.canon_example_record.specs.declared.note.Note.{Note}
 use Rattle.canon_example_record.proofs.Lowering.{at_score, at_start, score_members, score_shape}
 

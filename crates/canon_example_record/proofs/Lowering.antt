@@ -1,5 +1,5 @@
 -- A note is lowered a field after the other.
-use Rattle.std.proofs.Common.{[], ◌∷◌, ◌≡◌, ◌≤◌, ◌+◌, ◌∙◌, Err, List, Ok, Result, ap, arith, codes, false, length, refl, subst, sym, ℕ}
+use Rattle.std.proofs.Common.{[], ◌≡◌, ◌≤◌, ◌+◌, ◌∙◌, Err, List, Ok, Result, ap, arith, codes, false, length, refl, subst, ℕ}
 use Rattle.std.specs.Prelude.{slice_index}
 use Rattle.canon_context.proofs.Moves.{GuestLaws}
 use Rattle.canon_context.specs.Core.{Parts, component_types}
@@ -16,7 +16,6 @@ use Rattle.canon_model.specs.Shape.{Members, Name, Shape, member, no_members, of
 use Rattle.canon_model.specs.Tree.{Tree, Trees}
 use Rattle.canon_passing.proofs.Words.{first_stay}
 use Rattle.canon_passing.specs.Words.{WordsStay}
-use Rattle.canon_resources.specs.Parts.{Part}
 use Rattle.canon_types.specs.Instance.{Instance}
 use Rattle.canon_types.specs.Table.{shape_of}
 use Rattle.canon_types.specs.declared.types.InterfaceType.{InterfaceType}

@@ -1,5 +1,5 @@
 -- The laws of a note, by those of its fields.
-use Rattle.std.proofs.Common.{[], ◌∷◌, ◌≡◌, ◌∙◌, List, ap, false, refl, subst, sym, true}
+use Rattle.std.proofs.Common.{[], ◌∷◌, ◌≡◌, ◌∙◌, List, ap, refl, subst, sym, true}
 use Rattle.canon_ledger.specs.Ledger.{LedgerState}
 use Rattle.canon_lower_parts.specs.Given.{AreGivenBy, IsGiven}
 use Rattle.canon_lower_parts.specs.Gives.{no_handles}
@@ -7,8 +7,7 @@ use Rattle.canon_model.specs.Leaves.{Leaf, flat_leaves, leaves, reach_leaves}
 use Rattle.canon_model.specs.Reach.{At, Kind}
 use Rattle.canon_model.specs.Shape as shape
 use Rattle.canon_model.specs.Shape.{Shape}
-use Rattle.canon_model.specs.Tree.{Tree, Trees, no_trees, parts, text_length, tree}
-use Rattle.canon_resources.specs.Parts.{Part}
+use Rattle.canon_model.specs.Tree.{Tree, parts, text_length, tree}
 use Rattle.canon_types.specs.Instance.{Instance}
 use Rattle.canon_types.specs.Table.{shape_of}
 use Rattle.canon_types.specs.declared.types.InterfaceType.{InterfaceType}
@@ -18,7 +17,6 @@ use Rattle.canon_typed.specs.Meaning.{FirstAnd, NoTrees, TextMeans}
 use Rattle.canon_typed.specs.Scalars.{scalar_of}
 use Rattle.canon_typed.specs.Trees.{IsTreeOf}
 use Rattle.canon_typed.specs.Typed.{IsTyped}
-use Rattle.canon_typed.specs.Types.{AreOf}
 use Rattle.canon_reading.specs.Apart.{IsApart, end_apart, more_apart, product_apart, tree_apart}
 use Rattle.canon_reading.specs.OfTrees.{AreSteps, IsFaulted, IsOfTrees, IsPriced, scalar_priced, scalar_told, text_priced, text_told}
 use Rattle.canon_reading.specs.Reading.{AreTaken, Setting}
@@ -82,13 +80,13 @@ note_faulted = record {
 }
 
 -- the types of the fields, in order
-abbrev fits : List (Instance → InterfaceType → Type 0)
-fits = (λ i t. t ≡ ty.String) ∷ (λ i t. t ≡ ty.U32) ∷ []
+abbrev fields_fit : List (Instance → InterfaceType → Type 0)
+fields_fit = (λ i t. t ≡ ty.String) ∷ (λ i t. t ≡ ty.U32) ∷ []
 
 abbrev types : List InterfaceType
 types = ty.String ∷ ty.U32 ∷ []
 
-fields_priced : ArePriced fits fields_reading (text_length ∷ free ∷ [])
+fields_priced : ArePriced fields_fit fields_reading (text_length ∷ free ∷ [])
 fields_priced = more_priced {first = λ (n : Note). n.title} {others_of = λ (n : Note). n} {R = title_reading} {S = scores_reading} (text_priced (λ w at s. refl))
     (more_priced {first = λ (n : Note). n.score} {others_of = λ (n : Note). n} {R = score_reading} {S = none_reading} (scalar_priced {Lifts = IsScore} free refl) end_priced)
 
@@ -102,7 +100,7 @@ note_priced = record {
       subst (λ (s : Shape). note_reading.reach w at s ≡ note_cost u) (sym e) (note_reached w at u (subst (λ (s : Shape). Represents w.memory w.encoding at s u) e rep));
 }
 
-fields_told : AreOfTrees fits fields_reading (λ n. FirstAnd (TextMeans n.title) (FirstAnd (IsScore n.score) NoTrees))
+fields_told : AreOfTrees fields_fit fields_reading (λ n. FirstAnd (TextMeans n.title) (FirstAnd (IsScore n.score) NoTrees))
 fields_told = more_told {first = λ (n : Note). n.title} {others_of = λ (n : Note). n} {R = title_reading} {S = scores_reading} {Lifts = TextMeans} text_told
     (more_told {first = λ (n : Note). n.score} {others_of = λ (n : Note). n} {R = score_reading} {S = none_reading} {Lifts = IsScore} (scalar_told shape.u32 (scalar_of ty.U32 shape.u32 (λ i. refl))) end_told)
 

@@ -17,7 +17,7 @@ use Rattle.canon_recording.specs.Stages.{RunsOn}
 use Rattle.canon_replay_guest.specs.Following.{IsOfRequest}
 use Rattle.canon_replay_guest.specs.Moves.{GuestRequest, HasWords, TellsRequest, destroys, posts, reallocates, resumes, starts}
 use Rattle.canon_replay_guest.specs.Passing.{AreAlike, IsAlike}
-use Rattle.canon_replay.specs.Faithful.{AreRecordedAs, OnResume, ask_view, entry_view}
+use Rattle.canon_replay.specs.Faithful.{AreRecordedAs, OnResume, asked_view, logged_view}
 use Rattle.canon_replay.specs.Imports.{GivesNext, answer_of_ask}
 use Rattle.canon_replay.proofs.Agreeing.{Agrees, agrees_more, agrees_none, no_request_of_ask, no_request_of_return, none_there, same_head, same_tail}
 use Rattle.canon_replay.proofs.Answered.{AnsweredTurns, HasPlainImports, IsAnswered, words_same}
@@ -74,10 +74,10 @@ drop_later asks more entries e a h = ap (λ (n : ℕ). drop n asks) (one_later e
 -- of the first entry and the first ask
 pub entry_recorded : (y : LoggedEntry) (ls : List LoggedEntry) (a : ServedAsk) (bs : List ServedAsk) → AreRecordedAs (y ∷ ls) (a ∷ bs)
     → (y.index ≡ a.import) × (literals_view y.results ≡ literals_view a.results)
-entry_recorded y ls a bs e = let first : entry_view y ≡ ask_view a = cc in (ap (λ x. x.0) first, ap (λ x. x.2) first)
+entry_recorded y ls a bs e = let first : logged_view y ≡ asked_view a = cc in (ap (λ x. x.0) first, ap (λ x. x.2) first)
 
 pub others_recorded : (y : LoggedEntry) (ls : List LoggedEntry) (a : ServedAsk) (bs : List ServedAsk) → AreRecordedAs (y ∷ ls) (a ∷ bs) → AreRecordedAs ls bs
-others_recorded y ls a bs e = let more : map entry_view ls ≡ map ask_view bs = cc in more
+others_recorded y ls a bs e = let more : map logged_view ls ≡ map asked_view bs = cc in more
 
 none_recorded : (y : LoggedEntry) (ls : List LoggedEntry) → ¬ AreRecordedAs (y ∷ ls) []
 none_recorded y ls e = cc

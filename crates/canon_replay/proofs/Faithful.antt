@@ -21,7 +21,7 @@ use Rattle.canon_recording.specs.Fits.{AreRuns, IsRecordable, IsRecordedCallOf, 
 use Rattle.canon_recording.specs.Recordings.{RecordedCall, exports_of, imports_of}
 use Rattle.canon_replay_guest.specs.Replaying.{Replaying}
 use Rattle.canon_replay.specs.Calls.{CallDiffers, CallReplayed, MadeCall, ReplaysFrom, asks_of_calls, made_call_of, events_of_call}
-use Rattle.canon_replay.specs.Faithful.{AskForNothing, HaveLawfulAnswers, IsNoDifference, OnResume, RecordedAreSame, RecordedNeverDiffer, IsFaithfulCall, AreFaithful, entry_view}
+use Rattle.canon_replay.specs.Faithful.{AskForNothing, HaveLawfulAnswers, IsNoDifference, OnResume, RecordedAreSame, RecordedNeverDiffer, IsFaithfulCall, AreFaithful, logged_view}
 use Rattle.canon_replay.specs.Stores.{IsNewStore, JournaledReplays, ReplayStore, asks_in_store, guest_in_store}
 use Rattle.canon_replay.specs.declared.outcome.Outcome.{Outcome}
 use Rattle.canon_replay.specs.declared.outcome.Outcome.TheVariants as outcome
@@ -100,7 +100,7 @@ module _ {T G I P : Type 0} (seen : G → Seen) (moves : GuestIn G → List Even
   call_same : (call : RecordedCall) (before : ReplayStore) → IsGoing before → IsFaithfulCall seen moves leaves plan gives log refusals c fuel turns call → asks_in call.events ≡ 0 → IsRecordedCallOf (exports_of c) (imports_of c) call
       → (place : ℕ) → ¬ CallDiffers place (made_call_of call) before
   call_same call before going w quiet fits = differs_nowhere c call before going.component going.untrapped (gives (plan w.before.imports)).answers [] []
-      (record { run = asked.0; logged = ap (map entry_view) asked.1; fit = w.words; resumed = never_resumed _ (callee_of_call c call) before.core.fuel w.params w.results call.events run }) plain
+      (record { run = asked.0; logged = ap (map logged_view) asked.1; fit = w.words; resumed = never_resumed _ (callee_of_call c call) before.core.fuel w.params w.results call.events run }) plain
       (plain_imports c recordable (slice_get c.exports.items call.export)) (written_calm (imports_of c).count call.events fits.asks) (drop (length (answered_asks before)) (asks_in_store before)) refl
       w.slots w.before.trapped sound fits.its.known (recorded_entered seen moves leaves plan gives log refusals c fuel turns call w)
     where

@@ -20,7 +20,7 @@ use Rattle.canon_recording.proofs.Rows.{map_length}
 use Rattle.canon_recording.specs.Fits.{IsRecordable, IsRecordedCallOf, callee_of_call}
 use Rattle.canon_recording.specs.Recordings.{RecordedCall, ServedAsk, exports_of, imports_of}
 use Rattle.canon_replay.specs.Calls.{CallDiffers, CallReplayed, ReplaysFrom, asks_of_calls, events_of_call, made_call_of, replay_host}
-use Rattle.canon_replay.specs.Faithful.{AreLogged, AreRecordedAs, HaveLawfulAnswers, IsFaithfulCall, IsLoggedCall, IsNoDifference, LoggedAreSame, LoggedNeverDiffer, ask_view, entry_view}
+use Rattle.canon_replay.specs.Faithful.{AreLogged, AreRecordedAs, HaveLawfulAnswers, IsFaithfulCall, IsLoggedCall, IsNoDifference, LoggedAreSame, LoggedNeverDiffer, asked_view, logged_view}
 use Rattle.canon_replay.specs.Imports.{GivesNext}
 use Rattle.canon_replay.specs.Stores.{IsNewStore, JournaledReplays, ReplayStore, asks_in_store, journaled_seen, named_export}
 use Rattle.canon_replay.specs.declared.outcome.Outcome.{Outcome}
@@ -52,7 +52,7 @@ drop_more : {A : Type 0} (n : ℕ) (xs front rest : List A) → drop n xs ≡ fr
 drop_more n xs front rest e = drop_both n (length front) xs ∙ (ap (drop (length front)) e ∙ drop-append_seam front rest)
 
 recorded_length : (entries : List LoggedEntry) (served : List ServedAsk) → AreRecordedAs entries served → length entries ≡ length served
-recorded_length entries served e = sym (map_length entry_view entries) ∙ (ap length e ∙ map_length ask_view served)
+recorded_length entries served e = sym (map_length logged_view entries) ∙ (ap length e ∙ map_length asked_view served)
 
 -- ---- the recorded call, in the component
 
@@ -72,7 +72,7 @@ module _ {T G I P : Type 0} (seen : G → Seen) (moves : GuestIn G → List Even
   logged_run : HaveNoHandle (callee_of_call c call).params × HaveNoHandle (callee_of_call c call).results → HasPlainImports (callee_of_call c call) → LoggedRun (callee_of_call c call) fuel turns call.events
   logged_run plain imports =
       subst (λ (x : Callee). LoggedRun x fuel turns call.events) f.callee (subst (λ (k : ℕ). LoggedRun its_callee k turns call.events) f.fuel_is (subst (λ (k : ℕ). LoggedRun its_callee f.before.core.fuel k call.events) f.turns_is
-      (subst (LoggedRun its_callee f.before.core.fuel f.before.turns) f.events (record { run = kept.0; logged = ap (map entry_view) (kept.1 ∙ gained_is) ∙ w.told }))))
+      (subst (LoggedRun its_callee f.before.core.fuel f.before.turns) f.events (record { run = kept.0; logged = ap (map logged_view) (kept.1 ∙ gained_is) ∙ w.told }))))
     where
       its_plain : HaveNoHandle its_callee.params × HaveNoHandle its_callee.results
       its_plain = subst (λ (x : Callee). HaveNoHandle x.params × HaveNoHandle x.results) (sym f.callee) plain

@@ -46,15 +46,15 @@ OnResume P (event.Resume words memory) = P words memory
 OnResume P _ = ⊤
 
 -- an ask that was served, apart from how its values are kept: of the log, and of a recording
-abbrev pub entry_view : LoggedEntry → ℕ × List Literal × List Literal
-entry_view e = (e.index, literals_view e.params, literals_view e.results)
+abbrev pub logged_view : LoggedEntry → ℕ × List Literal × List Literal
+logged_view e = (e.index, literals_view e.params, literals_view e.results)
 
-abbrev pub ask_view : ServedAsk → ℕ × List Literal × List Literal
-ask_view a = (a.import, literals_view a.params, literals_view a.results)
+abbrev pub asked_view : ServedAsk → ℕ × List Literal × List Literal
+asked_view a = (a.import, literals_view a.params, literals_view a.results)
 
 -- the recording lists the asks of these entries, in order
 abbrev pub AreRecordedAs : List LoggedEntry → List ServedAsk → Type 0
-AreRecordedAs entries served = map entry_view entries ≡ map ask_view served
+AreRecordedAs entries served = map logged_view entries ≡ map asked_view served
 
 -- it isn't told that a call differs
 abbrev pub IsNoDifference : Outcome → Type 0

@@ -1,4 +1,4 @@
-use Rattle.std.proofs.Common.{◌≤◌, ◌+◌, Ok, ap, arith, length}
+use Rattle.std.proofs.Common.{◌+◌, Ok, ap, arith, length}
 use Rattle.canon_context.specs.Core.{Parts}
 use Rattle.canon_reading.specs.Spots.{stored}
 use Rattle.canon_example_record.proofs.Lifting.{note_lifted, score_aligned, score_stored, title_aligned, title_stored}

@@ -1,4 +1,3 @@
-use Rattle.std.proofs.Common.{arith}
 use Rattle.canon_context.proofs.Moves.{GuestLaws}
 use Rattle.canon_example_record.proofs.Lowering.{note_stored, score_room, title_not_stored, title_room}
 use Rattle.canon_example_record.proofs.note.NoteLower.linear_lower_to_memory.Goals as goal
