@@ -6,7 +6,7 @@ use Rattle.canon_memory.specs.Guest.{Recorded}
 use Rattle.canon_replay_guest.specs.Replaying.{Replaying, call_events}
 use Rattle.canon_context.specs.Core.{Parts}
 use Rattle.canon_context.specs.declared.component.Component.{Component}
-use Rattle.canon_replay.specs.Calls.{Departs, HasEvents, IsReady, MadeCall, MakesAgain, ReplaysFrom, all_made, made_again}
+use Rattle.canon_replay.specs.Calls.{HasEvents, IsReady, MakesAgain, ReplaysFrom, all_made, made_again}
 use Rattle.canon_replay.specs.Stores.{ReplayStore, guest_in_store}
 use Rattle.canon_replay.specs.declared.again.Again.{Again}
 use Rattle.canon_replay.specs.declared.outcome.Outcome.{Outcome}

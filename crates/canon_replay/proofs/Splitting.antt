@@ -2,10 +2,8 @@
 use Rattle.std.proofs.Common.{List, [], ap, arith, length, map, refl, sym, ◌++◌, ◌∙◌, ◌∷◌, ◌≡◌}
 use Rattle.std.proofs.lemmas.Grind.{flat_map-append}
 use Rattle.std.proofs.lemmas.List.{append-nil, map-append}
-use Rattle.canon_memory.specs.declared.event.Event.{Event}
-use Rattle.canon_recording.specs.Recordings.{RecordedCall, ServedAsk, recorded_call, recorded_calls, served_ask, served_asks}
+use Rattle.canon_recording.specs.Recordings.{RecordedCall, recorded_call, recorded_calls, served_ask, served_asks}
 use Rattle.canon_recording.specs.declared.recording.Recorded.{Recorded}
-use Rattle.canon_recording.specs.declared.recording.Served.{Served}
 use Rattle.canon_replay.specs.Calls.{asks_of_calls, events_of_call, told_again, told_call}
 use Rattle.canon_replay.specs.declared.again.Again.{Again}
 use Rattle.canon_replay.specs.declared.again.Parts.{Parts}

@@ -1,5 +1,5 @@
 -- A store in which nothing was done, by how it was made.
-use Rattle.std.proofs.Common.{Bool, List, None, [], ap, false, ℕ, ◌∙◌, ◌≡◌}
+use Rattle.std.proofs.Common.{List, None, [], ap, false, ℕ, ◌∙◌, ◌≡◌}
 use Rattle.canon_memory.specs.Guest.{Recorded}
 use Rattle.canon_memory.specs.declared.event.Event.{Event}
 use Rattle.canon_replay_guest.specs.Replaying.{Replaying}

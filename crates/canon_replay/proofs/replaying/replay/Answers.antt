@@ -1,6 +1,5 @@
-use Rattle.std.proofs.Common.{ap}
 use Rattle.canon_recording.specs.Recordings.{calls_in, served_asks}
-use Rattle.canon_replay.proofs.Whole.{count_first, events_first, few_first, known_first, ready_first, replays_is, short_is}
+use Rattle.canon_replay.proofs.Whole.{count_first, events_first, few_first, known_first, ready_first, replays_is}
 use Rattle.canon_replay.proofs.replaying.replay.Goals as goal
 
 pub replay_calls-requires : goal.replay_calls-requires

@@ -1,7 +1,6 @@
-use Rattle.std.proofs.Common.{List, [], ap, arith, length, sym, subst, ◌∙◌, ◌≡◌, ◌∷◌}
+use Rattle.std.proofs.Common.{ap, arith, length, sym, subst, ◌∙◌}
 use Rattle.std.specs.Vec.Iter.{into_iter_items}
-use Rattle.canon_replay.specs.declared.again.Again.{Again}
-use Rattle.canon_replay.proofs.Looping.{AreReplayed, below_in, has_events, in_store, loop_begins, loop_departs, loop_ends, loop_goes_on, next_fits}
+use Rattle.canon_replay.proofs.Looping.{AreReplayed, below_in, has_events, in_store, loop_begins, loop_departs, loop_ends, loop_goes_on}
 use Rattle.canon_replay.proofs.Splitting.{no_items_left}
 use Rattle.canon_replay.proofs.replaying.replay_calls.Goals as goal
 
