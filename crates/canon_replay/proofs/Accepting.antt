@@ -42,9 +42,9 @@ pub marks_behind : (ms more : List Mark) → LawfulMarks (ms ++ more) → Lawful
 marks_behind [] more h = h
 marks_behind (m ∷ ms) more h = marks_behind ms more h.1
 
-pub lawful_by_marks : (answers : List Answer) → LawfulMarks (marks_of answers) → AllLawful answers
-lawful_by_marks [] h = tt
-lawful_by_marks (x ∷ xs) h = (h.0, lawful_by_marks xs h.1)
+pub answers_lawful : (answers : List Answer) → LawfulMarks (marks_of answers) → AllLawful answers
+answers_lawful [] h = tt
+answers_lawful (x ∷ xs) h = (h.0, answers_lawful xs h.1)
 
 -- ---- the scope
 

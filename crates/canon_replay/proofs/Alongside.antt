@@ -42,13 +42,13 @@ use Rattle.canon_replay_guest.specs.declared.stop.Stop.TheVariants as stop
 use Rattle.canon_replay.specs.Calls.{HaveOtherImages}
 use Rattle.canon_replay.specs.Faithful.{AreRecordedAs, OnResume}
 use Rattle.canon_replay.specs.Imports.{GivesNext}
-use Rattle.canon_replay.proofs.Accepting.{LawfulMarks, lawful_by_marks, marks_behind, returns_accepted}
+use Rattle.canon_replay.proofs.Accepting.{LawfulMarks, answers_lawful, marks_behind, returns_accepted}
 use Rattle.canon_replay.proofs.Agreeing.{Agrees, agrees_more, agrees_none, other_refuted, same_head, same_tail}
 use Rattle.canon_replay.proofs.Answered.{AnswersTurns, HasPlainImports, as_many_gained, turns_answered}
 use Rattle.canon_replay.proofs.AskedAgreeing.{IsRecordedAsk, alike_behind_start, ask_recorded, asks_agree, start_told, tail_on_ask}
-use Rattle.canon_replay.proofs.AskedFollowing.{asked_completes, asks_alike, asks_take, each_answers, each_asked, lawful_ends, posts_return_nothing}
+use Rattle.canon_replay.proofs.AskedFollowing.{asked_completes, as_many_asks, asks_take, each_answers, each_asked, lawful_ends, posts_return_nothing}
 use Rattle.canon_replay.proofs.AskedRuns.{AskedRun, IsEnd, asked_are, asked_events, asked_run, runs_tail, tail_ends}
-use Rattle.canon_replay.proofs.AskedStops.{accepts_recorded, not_refused, stop_quiet, within_fuel}
+use Rattle.canon_replay.proofs.AskedStops.{accepts_recorded, ask_not_refused, stop_quiet, within_fuel}
 use Rattle.canon_replay.proofs.Behind.{IsNoTrap, RunsBehind, behind_start, front_agrees, recorded_end, runs_behind}
 use Rattle.canon_replay.proofs.Following.{Completes, calm_alike, each_alike, each_behind, each_take, ends_calm, return_back}
 use Rattle.canon_replay.proofs.Homes.{start_words_same}
@@ -179,10 +179,10 @@ module _ {U : Type 0} (answers_so : Answering U) (callee : Callee) (fuel turns :
   resumes_fit [] h = tt
   resumes_fit (u ∷ us) h = (tt, (h.1.0, resumes_fit us h.1.1))
 
-  abbrev Starts : Type 0
-  Starts = StartsCall callee.func n.turns n.late n.late_trap n.tail n.later
+  abbrev StartsOfCall : Type 0
+  StartsOfCall = StartsCall callee.func n.turns n.late n.late_trap n.tail n.later
 
-  module _ (s : Starts) where
+  module _ (s : StartsOfCall) where
     in_whole : events ≡ events_of n.answers n.trap ++ (event.Start callee.func s.words s.memory ∷ (events_in n.turns ++ n.tail))
     in_whole = n.in_parts ∙ ap (λ (es : List Event). events_of n.answers n.trap ++ es) s.is
 
@@ -202,8 +202,8 @@ module _ {U : Type 0} (answers_so : Answering U) (callee : Callee) (fuel turns :
     later_is : events ≡ events_of n.answers n.trap ++ (event.Start callee.func s.words s.memory ∷ (asked_events n.turns ++ n.tail))
     later_is = in_whole ∙ ap (λ (es : List Event). events_of n.answers n.trap ++ (event.Start callee.func s.words s.memory ∷ (es ++ n.tail))) asks_are
 
-    words_same : addresses_of n.answers ≡ addresses_of q.answers → AreWords s.words → q.words ≡ s.words
-    words_same same few =
+    answer_words_same : addresses_of n.answers ≡ addresses_of q.answers → AreWords s.words → q.words ≡ s.words
+    answer_words_same same few =
         let st : IsStart (dynamic callee params) callee before n.answers n.given s.words s.memory = (at_start (OnStart (IsStart (dynamic callee params) callee before n.answers n.given)) n.start).0 in
         start_words_same callee.encoding q.words s.words callee.params q.trees st.trees (addresses_of q.answers) (at_recorded (OnStart (λ ws m. AreWords ws)) fit).0 few plain (have_fit callee.params params st.trees st.have)
         (trees_one callee.params params q.trees st.trees q.have st.have) (trees_one callee.params params st.trees st.trees st.have st.have) q.count st.count q.homes
@@ -242,7 +242,7 @@ module _ {U : Type 0} (answers_so : Answering U) (callee : Callee) (fuel turns :
   later_agrees (inl (e, turns_none, late_none, trap_none, tail_none)) same = subst (λ (es : List Event). Agrees es recorded_later) (sym e) (agrees_none recorded_later)
   later_agrees (inr s) same = subst (λ (es : List Event). Agrees es recorded_later) (sym (s.is ∙ ap (λ (es : List Event). event.Start callee.func s.words s.memory ∷ (es ++ n.tail)) (asks_are s)))
       (agrees_more (event.Start callee.func s.words s.memory) (event.Start callee.func q.words q.memory) (asked_events n.turns ++ n.tail) (asked_events q.asks ++ its_end)
-      (λ z of words. start_told callee.func s.words s.memory q.words q.memory z (words_same s same) of words) (λ alike. later_asks_agree s))
+      (λ z of words. start_told callee.func s.words s.memory q.words q.memory z (answer_words_same s same) of words) (λ alike. later_asks_agree s))
 
   none_or_all : MayStart callee.func n.turns n.late n.late_trap n.tail n.later → (n.later ≡ []) ⊎ (met.left ≡ [])
   none_or_all (inl (e, turns_none, late_none, trap_none, tail_none)) = inl e
@@ -261,7 +261,7 @@ module _ {U : Type 0} (answers_so : Answering U) (callee : Callee) (fuel turns :
     calm_events = each_alike IsNoTrap IsNoTrap calm_alike events (take place recorded) alike (each_take IsNoTrap place recorded calm)
 
     few_asks : asks_in events ≤ turns
-    few_asks = omega (arith, asks_alike events (take place recorded) alike, asks_take place recorded, q.few)
+    few_asks = omega (arith, as_many_asks events (take place recorded) alike, asks_take place recorded, q.few)
 
     returns_so : (P : List ℕ → List ℕ → Type 0) → P q.returned q.after → Each (OnReturn P) events
     returns_so P h = each_alike (OnReturn P) (OnReturn P) (return_back P) events (take place recorded) alike (each_take (OnReturn P) place recorded (subst (Each (OnReturn P)) (sym q.is)
@@ -273,10 +273,10 @@ module _ {U : Type 0} (answers_so : Answering U) (callee : Callee) (fuel turns :
 
     lawful_all : AllLawful (n.answers ++ n.late)
     lawful_all = lawful_ends n.answers (answers_in n.turns) n.late
-        (lawful_by_marks (n.answers ++ (answers_in n.turns ++ n.late)) (marks_behind before.guest.marks (marks_of (n.answers ++ (answers_in n.turns ++ n.late))) (subst LawfulMarks n.marks lawful)))
+        (answers_lawful (n.answers ++ (answers_in n.turns ++ n.late)) (marks_behind before.guest.marks (marks_of (n.answers ++ (answers_in n.turns ++ n.late))) (subst LawfulMarks n.marks lawful)))
 
     -- an ask that isn't resumed is a recorded one
-    there_recorded : (s : Starts) → OnAsk (λ i ws m more. IsRecordedAsk callee fuel asks (length entries + length n.turns) i ws m) n.tail
+    there_recorded : (s : StartsOfCall) → OnAsk (λ i ws m more. IsRecordedAsk callee fuel asks (length entries + length n.turns) i ws m) n.tail
     there_recorded s =
         let (p, behind) = alike_behind_start callee.func callee.func s.words s.memory q.words q.memory (asked_events n.turns ++ n.tail) (asked_events q.asks ++ its_end) n.answers n.trap q.answers place
         (subst₂ (λ (es rs : List Event). AreAlike es (take place rs)) (later_is s) q.is alike) in
@@ -290,14 +290,14 @@ module _ {U : Type 0} (answers_so : Answering U) (callee : Callee) (fuel turns :
 
     -- ---- no function of the host refuses
 
-    refuses_not : (s : Starts) (e : Error) (k : ℕ) → e ≡ error.HostRefused k → (tail : List Event) → EndsAsking n.late n.late_trap tail → OnAsk (λ i ws m more. IsRecordedAsk callee fuel asks (length entries + length n.turns) i ws m) tail
+    refuses_not : (s : StartsOfCall) (e : Error) (k : ℕ) → e ≡ error.HostRefused k → (tail : List Event) → EndsAsking n.late n.late_trap tail → OnAsk (λ i ws m more. IsRecordedAsk callee fuel asks (length entries + length n.turns) i ws m) tail
         → BeginsInAsk (λ i ws m more. ⊤) tail → StopsStartedOf (dynamic_results callee) (GivesNext {T = T} asks) callee fuel e n.late_guest after n.late n.late_trap (on s).served left tail → ⊥
     refuses_not s e k is [] ends there begins stops = begins
     refuses_not s e k is (event.Ask i ws m ∷ more) ends there begins stops =
         let a = its_asks s in
         let at : IsRecordedAsk callee fuel asks (length (entries ++ a.gained)) i ws m =
         subst (λ (j : ℕ). IsRecordedAsk callee fuel asks j i ws m) (as_long a.gained (as_many_gained (GivesNext {T = T} asks).answers callee fuel n.turns entries a.gained a.are)) there in
-        not_refused callee fuel imports asks (entries ++ a.gained) i ws m at (moment n.late_guest m) after n.late n.late_trap (on s).served left a.log k
+        ask_not_refused callee fuel imports asks (entries ++ a.gained) i ws m at (moment n.late_guest m) after n.late n.late_trap (on s).served left a.log k
         (subst (λ (x : Error). AskStops (GivesNext {T = T} asks) callee fuel x i ws (moment n.late_guest m) after n.late n.late_trap (on s).served left) is
         (stops_there (dynamic_results callee) (GivesNext {T = T} asks) callee fuel n.late_guest after n.late n.late_trap (on s).served left e i ws m more ends stops))
     refuses_not s e k is (event.Start f ws m ∷ more) ends there begins stops = begins
@@ -320,7 +320,7 @@ module _ {U : Type 0} (answers_so : Answering U) (callee : Callee) (fuel turns :
     begins_so P (event.Trap asked at ∷ more) h = h
 
     unrefused_by : (a : Result (List Val) Error) → IfErr a (Cause (dynamic callee params) (dynamic_results callee) callee (allowed fuel turns) before after events n.tail)
-        → MayStart callee.func n.turns n.late n.late_trap n.tail n.later → ((s : Starts) → IfErr a (λ e. StopsStartedOf (dynamic_results callee) (GivesNext {T = T} asks) callee fuel e n.late_guest after n.late n.late_trap (on s).served left n.tail))
+        → MayStart callee.func n.turns n.late n.late_trap n.tail n.later → ((s : StartsOfCall) → IfErr a (λ e. StopsStartedOf (dynamic_results callee) (GivesNext {T = T} asks) callee fuel e n.late_guest after n.late n.late_trap (on s).served left n.tail))
         → IfErr a IsUnrefused
     unrefused_by (Ok xs) cause starts stops = tt
     unrefused_by (Err e) cause (inl (none, turns_none, late_none, trap_none, tail_none)) stops = λ k is.

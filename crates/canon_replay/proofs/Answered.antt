@@ -148,8 +148,8 @@ entered_ends l =
     scope_exits l
     ∙ ap (λ (ss : List handles.OpenScope). record { answer = Ok tt; after = record { handles = record { tables = l.handles.tables; counter = l.handles.counter; scopes = ss }; host = l.host } }) scopes
 
-pub lifts_none : (i : Instance) (l m : LedgerState) (leaves : List Leaf) (xs : List Any) → leaves ≡ [] → LeavesLift i l leaves xs m → m ≡ l
-lifts_none i l m leaves xs e h = (subst (λ (ls : List Leaf). LeavesLift i l ls xs m) e h).1
+pub no_leaves_lifted : (i : Instance) (l m : LedgerState) (leaves : List Leaf) (xs : List Any) → leaves ≡ [] → LeavesLift i l leaves xs m → m ≡ l
+no_leaves_lifted i l m leaves xs e h = (subst (λ (ls : List Leaf). LeavesLift i l ls xs m) e h).1
 
 takes_none : (i : Instance) (l m : LedgerState) (ps : List PassedResource) (hs : List ℕ) → ps ≡ [] → LeavesTake l (map (lower_parts i) ps) hs m → m ≡ l
 takes_none i l m ps hs e h = (subst (λ (qs : List PassedResource). LeavesTake l (map (lower_parts i) qs) hs m) e h).1
@@ -193,7 +193,7 @@ module _ {T : Type 0} (may : ValuesAnswering T) (answers_so : Answering T) (call
       (no_member_resources true (asked_params callee h.asked) given.items are.its_trees (members_handles (asked_params callee h.asked) its.params) are.have) h.lifts.1.handles
 
   lifted_is : h.lifted ≡ enter before.ledger
-  lifted_is = lifts_none callee.types (enter before.ledger) h.lifted (values_leaves (narrow t.memory) its_words max_params (asked_params callee h.asked)) (all_resources given.items) leaves h.lifts.1.handles
+  lifted_is = no_leaves_lifted callee.types (enter before.ledger) h.lifted (values_leaves (narrow t.memory) its_words max_params (asked_params callee h.asked)) (all_resources given.items) leaves h.lifts.1.handles
 
   by_log : (h.called ≡ h.lifted) × answers_so entries t.index before.state given.items (Ok gave_results) after.state
   by_log = subst (λ (o : Option (List LoggedEntry)). IfSome o (λ es. (h.called ≡ h.lifted) × answers_so es t.index before.state given.items (Ok gave_results) after.state)) told h.gave.1
@@ -320,9 +320,9 @@ module _ (callee : Callee) (asked : Asked) (its : IsPlainAsk callee asked) (ws v
   rows_same = rows_by (nat_le (members_flat ms) max_results) refl
 
 -- of two asks of one import with the same words
-pub words_same : (callee : Callee) → HasPlainImports callee → (f g : ℕ) (t u : AskTurn) (ps qs rs ss : List Val) → IsAnswered callee f t ps rs → IsAnswered callee g u qs ss → u.index ≡ t.index → u.words ≡ t.words
+pub answer_words_same : (callee : Callee) → HasPlainImports callee → (f g : ℕ) (t u : AskTurn) (ps qs rs ss : List Val) → IsAnswered callee f t ps rs → IsAnswered callee g u qs ss → u.index ≡ t.index → u.words ≡ t.words
     → literals_view rs ≡ literals_view ss → AreWords t.resumed_words → AreWords u.resumed_words → t.resumed_words ≡ u.resumed_words
-words_same callee plain f g t u ps qs rs ss a b index words same few less =
+answer_words_same callee plain f g t u ps qs rs ss a b index words same few less =
     let there : IsHostAsk callee t.index t.words b.asked = subst (λ (i : ℕ). IsHostAsk callee i t.words b.asked) index (subst (λ (ws : List ℕ). IsHostAsk callee u.index ws b.asked) words b.is) in
     let one : b.asked ≡ a.asked = is_asked callee t.index t.words a.asked b.asked a.is there in
     rows_same callee a.asked (plain.plain t.index t.words a.asked a.is) t.resumed_words u.resumed_words rs ss a.row (subst (λ (x : Asked). IsGivenRow callee x u.resumed_words ss) one b.row) same few less

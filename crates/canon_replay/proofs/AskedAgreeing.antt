@@ -20,9 +20,9 @@ use Rattle.canon_replay_guest.specs.Passing.{AreAlike, IsAlike}
 use Rattle.canon_replay.specs.Faithful.{AreRecordedAs, OnResume, asked_view, logged_view}
 use Rattle.canon_replay.specs.Imports.{GivesNext, answer_of_ask}
 use Rattle.canon_replay.proofs.Agreeing.{Agrees, agrees_more, agrees_none, no_request_of_ask, no_request_of_return, none_there, same_head, same_tail}
-use Rattle.canon_replay.proofs.Answered.{AnsweredTurns, HasPlainImports, IsAnswered, words_same}
+use Rattle.canon_replay.proofs.Answered.{AnsweredTurns, HasPlainImports, IsAnswered, answer_words_same}
 use Rattle.canon_replay.proofs.AskedRuns.{asked_events}
-use Rattle.canon_replay.proofs.Behind.{IsNoTrap, RunsBehind, ask_alike, no_first, posts_trap_nothing, recorded_end, trap_agrees, trap_unasked}
+use Rattle.canon_replay.proofs.Behind.{IsNoTrap, RunsBehind, ask_alike, first_no_ask, posts_trap_nothing, recorded_end, trap_agrees, trap_unasked}
 use Rattle.canon_replay.proofs.Following.{answer_no_start, no_return_asks, start_no_answer}
 use Rattle.canon_replay.proofs.Requesting.{trap_no_answer}
 use Rattle.canon_replay.proofs.Rows.{drop_rest, get_first}
@@ -57,8 +57,8 @@ resume_told ws m vs n (destroys g r) same h words = h
 -- ---- what is given
 
 -- the ask at a place of the recorded ones answers what it gave
-pub given_at : (asks : List ServedAsk) (k n : ℕ) (a : ServedAsk) → slice_get asks k ≡ Some a → a.import ≡ n → answer_of_ask n (slice_get asks k) ≡ Some (literals_view a.results)
-given_at asks k n a e is = ap (answer_of_ask n) e ∙ ap (λ (b : Bool). if b then Some (literals_view a.results) else None) (eq-eqb a.import n is)
+pub answer_given_at : (asks : List ServedAsk) (k n : ℕ) (a : ServedAsk) → slice_get asks k ≡ Some a → a.import ≡ n → answer_of_ask n (slice_get asks k) ≡ Some (literals_view a.results)
+answer_given_at asks k n a e is = ap (answer_of_ask n) e ∙ ap (λ (b : Bool). if b then Some (literals_view a.results) else None) (eq-eqb a.import n is)
 
 pub inside : {A : Type 0} (x y : A) → Some x ≡ Some y → x ≡ y
 inside x y e = cc
@@ -107,12 +107,12 @@ module _ (post : Option ℕ) (returned after : List ℕ) where
           (λ alike. subst (λ (es : List Event). Agrees es (resumed_then us ws m)) (sym alone_so) (agrees_none (resumed_then us ws m)))
       by (event.Return us2 m2 ∷ front) ends_so alone_so runs = agrees_more (event.Return us2 m2) (event.Ask j vs n) (front ++ b.trap) (resumed_then us ws m) (λ q of words. absurd (no_request_of_return us2 m2 q of))
           (λ alike. absurd (no_return_asks us2 m2 j vs n alike))
-      by (event.Start f us2 m2 ∷ front) ends_so alone_so runs = absurd (no_first post (event.Start f us2 m2) (front ++ b.rest) (λ i vs2 n2 e. cc) (λ vs2 n2 e. cc) runs)
-      by (event.Resume us2 m2 ∷ front) ends_so alone_so runs = absurd (no_first post (event.Resume us2 m2) (front ++ b.rest) (λ i vs2 n2 e. cc) (λ vs2 n2 e. cc) runs)
-      by (event.Realloc o os al ns a ∷ front) ends_so alone_so runs = absurd (no_first post (event.Realloc o os al ns a) (front ++ b.rest) (λ i vs2 n2 e. cc) (λ vs2 n2 e. cc) runs)
-      by (event.Post f us2 ∷ front) ends_so alone_so runs = absurd (no_first post (event.Post f us2) (front ++ b.rest) (λ i vs2 n2 e. cc) (λ vs2 n2 e. cc) runs)
-      by (event.Dtor f rep ∷ front) ends_so alone_so runs = absurd (no_first post (event.Dtor f rep) (front ++ b.rest) (λ i vs2 n2 e. cc) (λ vs2 n2 e. cc) runs)
-      by (event.Trap told at ∷ front) ends_so alone_so runs = absurd (no_first post (event.Trap told at) (front ++ b.rest) (λ i vs2 n2 e. cc) (λ vs2 n2 e. cc) runs)
+      by (event.Start f us2 m2 ∷ front) ends_so alone_so runs = absurd (first_no_ask post (event.Start f us2 m2) (front ++ b.rest) (λ i vs2 n2 e. cc) (λ vs2 n2 e. cc) runs)
+      by (event.Resume us2 m2 ∷ front) ends_so alone_so runs = absurd (first_no_ask post (event.Resume us2 m2) (front ++ b.rest) (λ i vs2 n2 e. cc) (λ vs2 n2 e. cc) runs)
+      by (event.Realloc o os al ns a ∷ front) ends_so alone_so runs = absurd (first_no_ask post (event.Realloc o os al ns a) (front ++ b.rest) (λ i vs2 n2 e. cc) (λ vs2 n2 e. cc) runs)
+      by (event.Post f us2 ∷ front) ends_so alone_so runs = absurd (first_no_ask post (event.Post f us2) (front ++ b.rest) (λ i vs2 n2 e. cc) (λ vs2 n2 e. cc) runs)
+      by (event.Dtor f rep ∷ front) ends_so alone_so runs = absurd (first_no_ask post (event.Dtor f rep) (front ++ b.rest) (λ i vs2 n2 e. cc) (λ vs2 n2 e. cc) runs)
+      by (event.Trap told at ∷ front) ends_so alone_so runs = absurd (first_no_ask post (event.Trap told at) (front ++ b.rest) (λ i vs2 n2 e. cc) (λ vs2 n2 e. cc) runs)
 
   -- Asks that were served by the recorded ones, and the recorded asks.
   module _ (T : Type 0) {U : Type 0} (answers_so : Answering U) (callee : Callee) (plain : HasPlainImports callee) (fuel spent : ℕ) (asks : List ServedAsk) (tail : List Event) (on_end : Agrees tail (recorded_end post returned after))
@@ -142,10 +142,10 @@ module _ (post : Option ℕ) (returned after : List ℕ) where
         literals index =
             let (from, to, gave) = g.2 in
             let same : a.import ≡ x.index = sym told.0 ∙ (l.0 ∙ (sym index ∙ sym g.0)) in
-            told.1 ∙ inside (literals_view a.results) (literals_view x.results) (sym (given_at asks (length entries) x.index a (get_first asks (length entries) a (bs ++ more) e) same) ∙ gave.0)
+            told.1 ∙ inside (literals_view a.results) (literals_view x.results) (sym (answer_given_at asks (length entries) x.index a (get_first asks (length entries) a (bs ++ more) e) same) ∙ gave.0)
 
         one_word : t.index ≡ u.index → t.words ≡ u.words → AreWords t.resumed_words → u.resumed_words ≡ t.resumed_words
-        one_word index words less = words_same callee plain spent fuel u t y.params x.params y.results x.results l.1 g.1 index words (literals index) fit.1.0 less
+        one_word index words less = answer_words_same callee plain spent fuel u t y.params x.params y.results x.results l.1 g.1 index words (literals index) fit.1.0 less
 
 -- ---- behind alike events
 

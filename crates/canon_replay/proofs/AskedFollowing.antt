@@ -12,11 +12,11 @@ use Rattle.canon_replay.proofs.Following.{Completes, answer_no_start, completes_
 
 -- ---- how many asks there are
 
-abbrev is_ask : Event → ℕ
-is_ask (event.Ask i ws m) = 1
-is_ask _ = 0
+abbrev is_one_ask : Event → ℕ
+is_one_ask (event.Ask i ws m) = 1
+is_one_ask _ = 0
 
-asks_more : (e : Event) (es : List Event) → asks_in (e ∷ es) ≡ is_ask e + asks_in es
+asks_more : (e : Event) (es : List Event) → asks_in (e ∷ es) ≡ is_one_ask e + asks_in es
 asks_more (event.Ask i ws m) es = refl
 asks_more (event.Start f ws m) es = omega arith
 asks_more (event.Resume ws m) es = omega arith
@@ -26,7 +26,7 @@ asks_more (event.Post f ws) es = omega arith
 asks_more (event.Dtor f rep) es = omega arith
 asks_more (event.Trap told at) es = omega arith
 
-start_asks : (f : ℕ) (ws m : List ℕ) (r : Event) → IsAlike (event.Start f ws m) r → 0 ≡ is_ask r
+start_asks : (f : ℕ) (ws m : List ℕ) (r : Event) → IsAlike (event.Start f ws m) r → 0 ≡ is_one_ask r
 start_asks f ws m (event.Start g vs n) h = refl
 start_asks f ws m (event.Ask i vs n) h = absurd (cc)
 start_asks f ws m (event.Resume vs n) h = refl
@@ -36,7 +36,7 @@ start_asks f ws m (event.Post g vs) h = refl
 start_asks f ws m (event.Dtor g rep) h = refl
 start_asks f ws m (event.Trap told at) h = refl
 
-resume_asks : (ws m : List ℕ) (r : Event) → IsAlike (event.Resume ws m) r → 0 ≡ is_ask r
+resume_asks : (ws m : List ℕ) (r : Event) → IsAlike (event.Resume ws m) r → 0 ≡ is_one_ask r
 resume_asks ws m (event.Start g vs n) h = refl
 resume_asks ws m (event.Ask i vs n) h = absurd (cc)
 resume_asks ws m (event.Resume vs n) h = refl
@@ -46,20 +46,20 @@ resume_asks ws m (event.Post g vs) h = refl
 resume_asks ws m (event.Dtor g rep) h = refl
 resume_asks ws m (event.Trap told at) h = refl
 
-one_alike : (e r : Event) → IsAlike e r → is_ask e ≡ is_ask r
+one_alike : (e r : Event) → IsAlike e r → is_one_ask e ≡ is_one_ask r
 one_alike (event.Start f ws m) r h = start_asks f ws m r h
 one_alike (event.Resume ws m) r h = resume_asks ws m r h
-one_alike (event.Ask i ws m) r h = ap is_ask h
-one_alike (event.Return ws m) r h = ap is_ask h
-one_alike (event.Realloc o os al ns a) r h = ap is_ask h
-one_alike (event.Post f ws) r h = ap is_ask h
-one_alike (event.Dtor f rep) r h = ap is_ask h
-one_alike (event.Trap told at) r h = ap is_ask h
+one_alike (event.Ask i ws m) r h = ap is_one_ask h
+one_alike (event.Return ws m) r h = ap is_one_ask h
+one_alike (event.Realloc o os al ns a) r h = ap is_one_ask h
+one_alike (event.Post f ws) r h = ap is_one_ask h
+one_alike (event.Dtor f rep) r h = ap is_one_ask h
+one_alike (event.Trap told at) r h = ap is_one_ask h
 
-pub asks_alike : (es rs : List Event) → AreAlike es rs → asks_in es ≡ asks_in rs
-asks_alike [] rs e = ap asks_in (sym e)
-asks_alike (x ∷ xs) rs (r, rest, e, first, more) = let here = one_alike x r first in let others = asks_alike xs rest more in
-    asks_more x xs ∙ (ap (λ (n : ℕ). n + asks_in xs) here ∙ (ap (λ (n : ℕ). is_ask r + n) others ∙ (sym (asks_more r rest) ∙ ap asks_in (sym e))))
+pub as_many_asks : (es rs : List Event) → AreAlike es rs → asks_in es ≡ asks_in rs
+as_many_asks [] rs e = ap asks_in (sym e)
+as_many_asks (x ∷ xs) rs (r, rest, e, first, more) = let here = one_alike x r first in let others = as_many_asks xs rest more in
+    asks_more x xs ∙ (ap (λ (n : ℕ). n + asks_in xs) here ∙ (ap (λ (n : ℕ). is_one_ask r + n) others ∙ (sym (asks_more r rest) ∙ ap asks_in (sym e))))
 
 pub asks_take : (n : ℕ) (rs : List Event) → asks_in (take n rs) ≤ asks_in rs
 asks_take zero [] = omega arith

@@ -27,8 +27,8 @@ use Rattle.canon_func.specs.declared.error.Error.{Error}
 use Rattle.canon_func.specs.declared.error.Error.TheVariants as error
 use Rattle.canon_recording.specs.Recordings.{ServedAsk}
 use Rattle.canon_replay.specs.Imports.{GivesNext}
-use Rattle.canon_replay.proofs.Answered.{HasPlainImports, IsAnswered, IsPlainAsk, entered_ends, lifts_none, none_or_some}
-use Rattle.canon_replay.proofs.AskedAgreeing.{IsRecordedAsk, given_at, inside}
+use Rattle.canon_replay.proofs.Answered.{HasPlainImports, IsAnswered, IsPlainAsk, entered_ends, no_leaves_lifted, none_or_some}
+use Rattle.canon_replay.proofs.AskedAgreeing.{IsRecordedAsk, answer_given_at, inside}
 use Rattle.canon_replay.proofs.Blockless.{all_small}
 use Rattle.canon_replay.proofs.Literals.{same_trees}
 
@@ -39,19 +39,19 @@ IsQuiet answers trap = (answers ≡ []) × (trap ≡ None)
 -- ---- an ask that isn't resumed
 
 module _ {T : Type 0} (answers_so : Answering T) (callee : Callee) (fuel : ℕ) (imports : HasPlainImports callee) (index : ℕ) (words : List ℕ) (from to : Moment) (answers : List Answer) (trap : Option Trap) (before after : HostSide T) where
-  abbrev Given : Asked → Error → List Val → LedgerState → Type 0
-  Given asked e results called = StopsGiven (ask_values AnyValues) answers_so callee fuel asked index words from to answers trap before after e results called
+  abbrev GivesResults : Asked → Error → List Val → LedgerState → Type 0
+  GivesResults asked e results called = StopsGiven (ask_values AnyValues) answers_so callee fuel asked index words from to answers trap before after e results called
 
-  abbrev At : Asked → Error → Type 0
-  At asked e = StopsAtAsk (ask_values AnyValues) answers_so callee fuel asked index words from to answers trap before after e
+  abbrev EndsRefused : Asked → Error → Type 0
+  EndsRefused asked e = StopsAtAsk (ask_values AnyValues) answers_so callee fuel asked index words from to answers trap before after e
 
-  given_quiet : (asked : Asked) (e : Error) → IsPlainAsk callee asked → (results : List Val) (called : LedgerState) → Given asked e results called → IsQuiet answers trap
+  given_quiet : (asked : Asked) (e : Error) → IsPlainAsk callee asked → (results : List Val) (called : LedgerState) → GivesResults asked e results called → IsQuiet answers trap
   given_quiet asked e its results called (inl (f, told, bad, left, (none, quiet, same))) = (none, quiet)
   given_quiet asked e its results called (inr (at, place, inl (x, told, exit, (none, quiet, same)))) = (none, quiet)
   given_quiet asked e its results called (inr (at, place, inr (ended, ends, inl (short, far, unheld, left, (none, quiet, same))))) = (none, quiet)
   given_quiet asked e its results called (inr (at, place, inr (ended, ends, inr (f, low, held, told, tells, lowers)))) = let w = lowers.quiet its.quiet in (w.0, w.1)
 
-  at_quiet : (asked : Asked) (e : Error) → IsPlainAsk callee asked → At asked e → IsQuiet answers trap
+  at_quiet : (asked : Asked) (e : Error) → IsPlainAsk callee asked → EndsRefused asked e → IsQuiet answers trap
   at_quiet asked e its (inl (wants, left, same, (none, quiet, kept))) = (none, quiet)
   at_quiet asked e its (inr (inl (f, told, lift, same, (none, quiet, kept)))) = (none, quiet)
   at_quiet asked e its (inr (inr (params, lifted, lift, inl (wants, left, same, (none, quiet, kept))))) = (none, quiet)
@@ -78,7 +78,7 @@ module _ {T : Type 0} (answers_so : Answering T) (callee : Callee) (fuel : ℕ) 
 
   -- ---- one that was refused: the function gave no results by the log
 
-  given_no_refusal : (asked : Asked) (n : ℕ) (results : List Val) (called : LedgerState) → ¬ Given asked (error.HostRefused n) results called
+  given_no_refusal : (asked : Asked) (n : ℕ) (results : List Val) (called : LedgerState) → ¬ GivesResults asked (error.HostRefused n) results called
   given_no_refusal asked n results called (inl (f, told, bad, left, quiet)) = refused_no_fault n index f told
   given_no_refusal asked n results called (inr (at, place, inl (x, told, exit, quiet))) = refused_no_fault n index (fault.Resource x) told
   given_no_refusal asked n results called (inr (at, place, inr (ended, ends, inl (short, far, unheld, left, quiet)))) = cc
@@ -88,7 +88,7 @@ module _ {T : Type 0} (answers_so : Answering T) (callee : Callee) (fuel : ℕ) 
     abbrev MayRefuse : Type 0
     MayRefuse = (params : List Val) × (from2 to2 : T) × answers_so entries index from2 params (Err stop.Refused) to2
 
-    at_refused : (asked : Asked) (n : ℕ) → At asked (error.HostRefused n) → MayRefuse
+    at_refused : (asked : Asked) (n : ℕ) → EndsRefused asked (error.HostRefused n) → MayRefuse
     at_refused asked n (inl (wants, left, same, quiet)) = cc
     at_refused asked n (inr (inl (f, told, lift, same, quiet))) = absurd (refused_no_fault n index f told)
     at_refused asked n (inr (inr (params, lifted, lift, inl (wants, left, same, quiet)))) = cc
@@ -108,11 +108,11 @@ within_fuel fuel left cost e = omega (arith, e)
 
 module _ (callee : Callee) (fuel : ℕ) (imports : HasPlainImports callee) (asks : List ServedAsk) (entries : List LoggedEntry) (index : ℕ) (words memory : List ℕ) (r : IsRecordedAsk callee fuel asks (length entries) index words memory) where
   -- it isn't refused
-  pub not_refused : {T : Type 0} (from to : Moment) (answers : List Answer) (trap : Option Trap) (before after : HostSide T) → before.log ≡ Some entries → (n : ℕ)
+  pub ask_not_refused : {T : Type 0} (from to : Moment) (answers : List Answer) (trap : Option Trap) (before after : HostSide T) → before.log ≡ Some entries → (n : ℕ)
       → ¬ AskStops (GivesNext {T = T} asks) callee fuel (error.HostRefused n) index words from to answers trap before after
-  not_refused {T = T} from to answers trap before after logged n h =
+  ask_not_refused {T = T} from to answers trap before after logged n h =
       let (params, from2, to2, (none, same)) = refused_so (GivesNext {T = T} asks).answers callee fuel imports index words from to answers trap before after entries logged n h in
-      none_or_some _ (literals_view r.ask.results) none (given_at asks (length entries) index r.ask r.there r.import_is)
+      none_or_some _ (literals_view r.ask.results) none (answer_given_at asks (length entries) index r.ask r.there r.import_is)
 
   abbrev turn : AskTurn
   turn = r.turn
@@ -126,7 +126,7 @@ module _ (callee : Callee) (fuel : ℕ) (imports : HasPlainImports callee) (asks
   module _ {T : Type 0} (h : HostSide T) (logged : h.log ≡ Some entries) where
     -- where the function may give these results by the log, they are the recorded ones
     its_results : (params results : List Val) (from to : T) → (GivesNext {T = T} asks).answers entries turn.index from params (Ok results) to → literals_view r.results ≡ literals_view results
-    its_results params results from to gave = r.results_are ∙ inside (literals_view r.ask.results) (literals_view results) (sym (given_at asks (length entries) turn.index r.ask r.there (r.import_is ∙ sym r.index_is)) ∙ gave.0)
+    its_results params results from to gave = r.results_are ∙ inside (literals_view r.ask.results) (literals_view results) (sym (answer_given_at asks (length entries) turn.index r.ask r.there (r.import_is ∙ sym r.index_is)) ∙ gave.0)
 
     accepts_turn : AcceptsHost (GivesNext {T = T} asks) callee fuel a.asked turn.index turn.words turn.memory h
     accepts_turn = record {
@@ -141,7 +141,7 @@ module _ (callee : Callee) (fuel : ℕ) (imports : HasPlainImports callee) (asks
       };
       given = λ params results from called state lift steps gave.
           let by = subst (λ (o : Option (List LoggedEntry)). IfSome o (λ es. (called ≡ from) × (GivesNext {T = T} asks).answers es turn.index h.state params.items (Ok results) state)) logged gave.1 in
-          let there : called ≡ enter h.ledger = by.0 ∙ lifts_none callee.types (enter h.ledger) from _ _ a.leaves lift.1.handles in
+          let there : called ≡ enter h.ledger = by.0 ∙ no_leaves_lifted callee.types (enter h.ledger) from _ _ a.leaves lift.1.handles in
           let same = its_results params.items results h.state state by.1 in
           record {
             at = a.at;

@@ -90,8 +90,8 @@ runs_first post e events r = by r.turns r.is
       same_head e (event.Ask t.index t.words t.memory) events ((events_of t.answers None ++ event.Resume t.resumed_words t.resumed_memory ∷ events_in turns) ++ event.Return r.returned r.after ∷ posts post r.returned) is,
     )
 
-pub no_first : (post : Option ℕ) (e : Event) (events : List Event) → ((index : ℕ) (ws m : List ℕ) → ¬ (e ≡ event.Ask index ws m)) → ((ws m : List ℕ) → ¬ (e ≡ event.Return ws m)) → ¬ RunsOn post (e ∷ events)
-no_first post e events no_ask no_return r = by (runs_first post e events r)
+pub first_no_ask : (post : Option ℕ) (e : Event) (events : List Event) → ((index : ℕ) (ws m : List ℕ) → ¬ (e ≡ event.Ask index ws m)) → ((ws m : List ℕ) → ¬ (e ≡ event.Return ws m)) → ¬ RunsOn post (e ∷ events)
+first_no_ask post e events no_ask no_return r = by (runs_first post e events r)
   where
     by : ¬ (((index : ℕ) × (ws m : List ℕ) × (e ≡ event.Ask index ws m)) ⊎ ((ws m : List ℕ) × (e ≡ event.Return ws m) × (events ≡ posts post ws)))
     by (inl (index, ws, m, is)) = no_ask index ws m is
@@ -202,9 +202,9 @@ module _ (post : Option ℕ) (returned after : List ℕ) where
       (λ alike. subst (λ (vs : List ℕ). Agrees (front ++ trap) (posts post vs)) (words_returned ws m returned after alike) (after_return post ws front rest trap len follows may ends.0.1))
   front_agrees (event.Ask i ws m ∷ front) rest trap len late asked runs may ends =
       agrees_more (event.Ask i ws m) (event.Return returned after) (front ++ trap) (posts post returned) (λ q of words. absurd (no_request_of_ask i ws m q of)) (λ alike. absurd (ask_alone i ws m returned after alike))
-  front_agrees (event.Start f ws m ∷ front) rest trap len late asked runs may ends = absurd (no_first post (event.Start f ws m) (front ++ rest) (λ i vs n e. cc) (λ vs n e. cc) runs)
-  front_agrees (event.Resume ws m ∷ front) rest trap len late asked runs may ends = absurd (no_first post (event.Resume ws m) (front ++ rest) (λ i vs n e. cc) (λ vs n e. cc) runs)
-  front_agrees (event.Realloc o os al ns a ∷ front) rest trap len late asked runs may ends = absurd (no_first post (event.Realloc o os al ns a) (front ++ rest) (λ i vs n e. cc) (λ vs n e. cc) runs)
-  front_agrees (event.Post f ws ∷ front) rest trap len late asked runs may ends = absurd (no_first post (event.Post f ws) (front ++ rest) (λ i vs n e. cc) (λ vs n e. cc) runs)
-  front_agrees (event.Dtor f rep ∷ front) rest trap len late asked runs may ends = absurd (no_first post (event.Dtor f rep) (front ++ rest) (λ i vs n e. cc) (λ vs n e. cc) runs)
-  front_agrees (event.Trap told at ∷ front) rest trap len late asked runs may ends = absurd (no_first post (event.Trap told at) (front ++ rest) (λ i vs n e. cc) (λ vs n e. cc) runs)
+  front_agrees (event.Start f ws m ∷ front) rest trap len late asked runs may ends = absurd (first_no_ask post (event.Start f ws m) (front ++ rest) (λ i vs n e. cc) (λ vs n e. cc) runs)
+  front_agrees (event.Resume ws m ∷ front) rest trap len late asked runs may ends = absurd (first_no_ask post (event.Resume ws m) (front ++ rest) (λ i vs n e. cc) (λ vs n e. cc) runs)
+  front_agrees (event.Realloc o os al ns a ∷ front) rest trap len late asked runs may ends = absurd (first_no_ask post (event.Realloc o os al ns a) (front ++ rest) (λ i vs n e. cc) (λ vs n e. cc) runs)
+  front_agrees (event.Post f ws ∷ front) rest trap len late asked runs may ends = absurd (first_no_ask post (event.Post f ws) (front ++ rest) (λ i vs n e. cc) (λ vs n e. cc) runs)
+  front_agrees (event.Dtor f rep ∷ front) rest trap len late asked runs may ends = absurd (first_no_ask post (event.Dtor f rep) (front ++ rest) (λ i vs n e. cc) (λ vs n e. cc) runs)
+  front_agrees (event.Trap told at ∷ front) rest trap len late asked runs may ends = absurd (first_no_ask post (event.Trap told at) (front ++ rest) (λ i vs n e. cc) (λ vs n e. cc) runs)

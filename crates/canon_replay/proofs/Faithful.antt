@@ -34,7 +34,7 @@ use Rattle.canon_replay.proofs.Lawfully.{asks_live, asks_unanswered}
 use Rattle.canon_replay.proofs.Literals.{as_many}
 use Rattle.canon_replay.proofs.MadeAgain.{answered_asks, differs_nowhere}
 use Rattle.canon_replay.proofs.Running.{runs_can}
-use Rattle.canon_replay.proofs.Runs.{QuietRun, none_asked, quiet_run}
+use Rattle.canon_replay.proofs.Runs.{QuietRun, no_ask_among, quiet_run}
 use Rattle.canon_replay.proofs.Steady.{IsBeforeCall, before_next, lawful_is_given}
 use Rattle.canon_replay_guest.specs.Fitting.{CanReplayAll}
 
@@ -69,7 +69,7 @@ module _ {T G I P : Type 0} (seen : G → Seen) (moves : GuestIn G → List Even
       (quiet_run (LivesUntil {U = Unit {0}} seen moves (guest_of w.before.core) (guest_of w.after.core) (Ok tt)) leaves (gives (plan w.before.imports)) its_callee w.before.core.fuel w.before.turns w.params w.results
       (moment_of seen w.before.core) (moment_of seen w.after.core) (host_side w.before.core (log w.before.imports) (refusals w.before.imports)) (host_side w.after.core (log w.after.imports) (refusals w.after.imports)) w.calls.events w.calls.so
       (subst (λ (x : Callee). HaveNoHandle x.results) (sym its_callee_is) plain) (subst (Each (OnStart (λ words memory. AreWords words))) (sym w.events) w.words)
-      (subst (Each IsNoAsk) (sym w.events) (none_asked call.events quiet)))))
+      (subst (Each IsNoAsk) (sym w.events) (no_ask_among call.events quiet)))))
 
 posts_resume_nothing : (P : List ℕ → List ℕ → Type 0) (post : Option ℕ) (returned : List ℕ) → Each (OnResume P) (posts post returned)
 posts_resume_nothing P None returned = tt

@@ -27,7 +27,7 @@ use Rattle.canon_replay.specs.declared.outcome.Outcome.{Outcome}
 use Rattle.canon_replay.specs.declared.outcome.Outcome.TheVariants as outcome
 use Rattle.canon_replay.proofs.Answered.{HasPlainImports, as_many_gained, plain_imports}
 use Rattle.canon_replay.proofs.AskedAgreeing.{inside}
-use Rattle.canon_replay.proofs.AskedFollowing.{asks_alike, run_asks}
+use Rattle.canon_replay.proofs.AskedFollowing.{as_many_asks, run_asks}
 use Rattle.canon_replay.proofs.AskedRuns.{AskedRun, asked_events, asked_run, kept_otherwise}
 use Rattle.canon_replay.proofs.Behind.{recorded_end}
 use Rattle.canon_replay.proofs.Departing.{unless_short}
@@ -95,16 +95,16 @@ module _ {T G I P : Type 0} (seen : G → Seen) (moves : GuestIn G → List Even
   abbrev IsLogged : RecordedCall → Type 0
   IsLogged call = IsLoggedCall seen moves leaves plan gives log refusals c fuel turns call
 
-  abbrev Goes : ReplayStore → Type 0
-  Goes store = IsGoing seen moves leaves plan gives log refusals c fuel turns sound recordable store
+  abbrev FollowsCalls : ReplayStore → Type 0
+  FollowsCalls store = IsGoing seen moves leaves plan gives log refusals c fuel turns sound recordable store
 
   -- The store has this limit of turns; and the asks that are left are those of these calls.
-  record IsAt (store : ReplayStore) (calls : List RecordedCall) : Type 0 where
-    going : Goes store
+  record StandsAtCalls (store : ReplayStore) (calls : List RecordedCall) : Type 0 where
+    going : FollowsCalls store
     turns_is : store.turns ≡ turns
     left : drop (length (answered_asks store)) (asks_in_store store) ≡ asks_of_calls calls
 
-  module _ (call : RecordedCall) (others : List RecordedCall) (before : ReplayStore) (at : IsAt before (call ∷ others)) (w : IsLogged call) (fits : IsRecordedCallOf (exports_of c) (imports_of c) call) where
+  module _ (call : RecordedCall) (others : List RecordedCall) (before : ReplayStore) (at : StandsAtCalls before (call ∷ others)) (w : IsLogged call) (fits : IsRecordedCallOf (exports_of c) (imports_of c) call) where
     plain : HaveNoHandle (callee_of_call c call).params × HaveNoHandle (callee_of_call c call).results
     plain = recordable.exports call.export fits.its.known
 
@@ -146,12 +146,12 @@ module _ {T G I P : Type 0} (seen : G → Seen) (moves : GuestIn G → List Even
           let x = its_run.0 in
           as_many_gained (GivesNext {T = Unit {0}} (asks_in_store before)).answers again before.core.fuel x.asks (answered_asks before) x.gained x.asked
           ∙ (sym (ap asks_in x.is ∙ run_asks again.post x.returned x.after again.func x.words x.memory x.asks x.answers)
-          ∙ (asks_alike r.events call.events r.alike
+          ∙ (as_many_asks r.events call.events r.alike
           ∙ (ap asks_in run.run.is ∙ run_asks (callee_of_call c call).post run.run.returned run.run.after (callee_of_call c call).func run.run.words run.run.memory run.run.asks run.run.answers
           ∙ (sym (as_many_gained (gives (plan w.faithful.before.imports)).answers (callee_of_call c call) before.core.fuel run.run.asks w.entries run.run.gained run.run.asked)
           ∙ recorded_length run.run.gained call.served run.logged))))
 
-      next_at : IsAt next others
+      next_at : StandsAtCalls next others
       next_at = record {
         going = goes_on seen moves leaves plan gives log refusals c fuel turns sound recordable (made_call_of call) before next at.going r;
         turns_is = r.kept.turns_kept ∙ at.turns_is;
@@ -162,7 +162,7 @@ module _ {T G I P : Type 0} (seen : G → Seen) (moves : GuestIn G → List Even
           count : length (answered_asks next) ≡ length (answered_asks before) + length call.served
           count = ap length answered_more ∙ (length-append (answered_asks before) its_run.0.gained ∙ ap (λ (n : ℕ). length (answered_asks before) + n) as_many)
 
-  never_differ_from : (k : ℕ) (calls : List RecordedCall) (store : ReplayStore) (o : Outcome) → IsAt store calls → All (IsRecordedCallOf (exports_of c) (imports_of c)) calls → AreLogged seen moves leaves plan gives log refusals c fuel turns calls
+  never_differ_from : (k : ℕ) (calls : List RecordedCall) (store : ReplayStore) (o : Outcome) → StandsAtCalls store calls → All (IsRecordedCallOf (exports_of c) (imports_of c)) calls → AreLogged seen moves leaves plan gives log refusals c fuel turns calls
       → ReplaysFrom k (map made_call_of calls) store o → IsNoDifference o
   never_differ_from k [] store o at fits were h = subst IsNoDifference (sym h) tt
   never_differ_from k (call ∷ calls) store o at fits were (inl (next, replayed, others)) =
@@ -174,7 +174,7 @@ module _ {T G I P : Type 0} (seen : G → Seen) (moves : GuestIn G → List Even
   never_differ_from k (call ∷ calls) store (outcome.Unlawful i place) at fits were (inr departs) = tt
 
   -- the same where the recorded answers are lawful, of a guest that is before call k
-  same_from : (k : ℕ) (calls : List RecordedCall) (store : ReplayStore) (o : Outcome) → IsAt store calls → IsBeforeCall k store (map events_of_call calls) → All (IsRecordedCallOf (exports_of c) (imports_of c)) calls
+  same_from : (k : ℕ) (calls : List RecordedCall) (store : ReplayStore) (o : Outcome) → StandsAtCalls store calls → IsBeforeCall k store (map events_of_call calls) → All (IsRecordedCallOf (exports_of c) (imports_of c)) calls
       → AreLogged seen moves leaves plan gives log refusals c fuel turns calls → HaveLawfulAnswers calls → ReplaysFrom k (map made_call_of calls) store o → o ≡ outcome.Same
   same_from k [] store o at guest fits were law h = h
   same_from k (call ∷ calls) store o at guest fits were law (inl (next, replayed, others)) =
@@ -198,7 +198,7 @@ module _ {T G I P : Type 0} (seen : G → Seen) (moves : GuestIn G → List Even
 module _ {T G I P : Type 0} (seen : G → Seen) (moves : GuestIn G → List Event → GuestIn G → Type 0) (leaves : List ℕ → List ℕ → Type 0)
     (plan : I → P) (gives : P → Giving T) (log : I → Option (List LoggedEntry)) (refusals : I → ℕ) where
   begins_at : (c : Component) (fuel turns : ℕ) (sound : IsComponent c) (recordable : IsRecordable c) (calls : List RecordedCall) (store : ReplayStore) → IsNewStore c (map events_of_call calls) (asks_of_calls calls) fuel turns store
-      → IsAt seen moves leaves plan gives log refusals c fuel turns sound recordable store calls
+      → StandsAtCalls seen moves leaves plan gives log refusals c fuel turns sound recordable store calls
   begins_at c fuel turns sound recordable calls store new = record {
     going = record { component = new.component; fuel_is = new.fuel_is; untrapped = new.untrapped };
     turns_is = new.turns_is;

@@ -21,34 +21,34 @@ use Rattle.canon_replay.proofs.Blockless.{first_none, later_none}
 -- ---- the value of a literal
 
 -- what is known of a value with this literal; nothing of a resource
-abbrev IsOf : Literal → Val → Type 0
-IsOf (bool b) v = v ≡ val.Bool b
-IsOf (s8 z) v = v ≡ val.S8 z
-IsOf (u8 n) v = v ≡ val.U8 n
-IsOf (s16 z) v = v ≡ val.S16 z
-IsOf (u16 n) v = v ≡ val.U16 n
-IsOf (s32 z) v = v ≡ val.S32 z
-IsOf (u32 n) v = v ≡ val.U32 n
-IsOf (s64 z) v = v ≡ val.S64 z
-IsOf (u64 n) v = v ≡ val.U64 n
-IsOf (f32 n) v = v ≡ val.Float32 n
-IsOf (f64 n) v = v ≡ val.Float64 n
-IsOf (char n) v = v ≡ val.Char n
-IsOf (literals.text bs) v = (s : String Global) × (v ≡ val.String s) × (bs ≡ string_bytes s)
-IsOf (literals.list xs) v = (members : Vec Val Global) × (v ≡ val.List members) × (xs ≡ literals_of (literals_view members.items))
-IsOf (pairs ps) v = (entries : Vec (Val × Val) Global) × (v ≡ val.Map entries) × (ps ≡ literal_pairs (pairs_view entries.items))
-IsOf (tuple xs) v = (members : Vec Val Global) × (v ≡ val.Tuple members) × (xs ≡ literals_of (literals_view members.items))
-IsOf (fixed xs) v = (members : Vec Val Global) × (v ≡ val.FixedLengthList members) × (xs ≡ literals_of (literals_view members.items))
-IsOf (fields fs) v = (members : Vec (String Global × Val) Global) × (v ≡ val.Record members) × (fs ≡ fields_of (fields_view members.items))
-IsOf (variant name p) v = (n : String Global) × (q : Option (Box Val Global)) × (v ≡ val.Variant n q) × (name ≡ string_bytes n) × (p ≡ payload_view q)
-IsOf (enum name) v = (n : String Global) × (v ≡ val.Enum n) × (name ≡ string_bytes n)
-IsOf (option p) v = (q : Option (Box Val Global)) × (v ≡ val.Option q) × (p ≡ payload_view q)
-IsOf (ok p) v = (q : Option (Box Val Global)) × (v ≡ val.Result (Ok q)) × (p ≡ payload_view q)
-IsOf (error p) v = (q : Option (Box Val Global)) × (v ≡ val.Result (Err q)) × (p ≡ payload_view q)
-IsOf (flags names) v = (set : Vec (String Global) Global) × (v ≡ val.Flags set) × (names ≡ map (λ s. string_bytes s) set.items)
-IsOf _ v = ⊤
+abbrev IsOfLiteral : Literal → Val → Type 0
+IsOfLiteral (bool b) v = v ≡ val.Bool b
+IsOfLiteral (s8 z) v = v ≡ val.S8 z
+IsOfLiteral (u8 n) v = v ≡ val.U8 n
+IsOfLiteral (s16 z) v = v ≡ val.S16 z
+IsOfLiteral (u16 n) v = v ≡ val.U16 n
+IsOfLiteral (s32 z) v = v ≡ val.S32 z
+IsOfLiteral (u32 n) v = v ≡ val.U32 n
+IsOfLiteral (s64 z) v = v ≡ val.S64 z
+IsOfLiteral (u64 n) v = v ≡ val.U64 n
+IsOfLiteral (f32 n) v = v ≡ val.Float32 n
+IsOfLiteral (f64 n) v = v ≡ val.Float64 n
+IsOfLiteral (char n) v = v ≡ val.Char n
+IsOfLiteral (literals.text bs) v = (s : String Global) × (v ≡ val.String s) × (bs ≡ string_bytes s)
+IsOfLiteral (literals.list xs) v = (members : Vec Val Global) × (v ≡ val.List members) × (xs ≡ literals_of (literals_view members.items))
+IsOfLiteral (pairs ps) v = (entries : Vec (Val × Val) Global) × (v ≡ val.Map entries) × (ps ≡ literal_pairs (pairs_view entries.items))
+IsOfLiteral (tuple xs) v = (members : Vec Val Global) × (v ≡ val.Tuple members) × (xs ≡ literals_of (literals_view members.items))
+IsOfLiteral (fixed xs) v = (members : Vec Val Global) × (v ≡ val.FixedLengthList members) × (xs ≡ literals_of (literals_view members.items))
+IsOfLiteral (fields fs) v = (members : Vec (String Global × Val) Global) × (v ≡ val.Record members) × (fs ≡ fields_of (fields_view members.items))
+IsOfLiteral (variant name p) v = (n : String Global) × (q : Option (Box Val Global)) × (v ≡ val.Variant n q) × (name ≡ string_bytes n) × (p ≡ payload_view q)
+IsOfLiteral (enum name) v = (n : String Global) × (v ≡ val.Enum n) × (name ≡ string_bytes n)
+IsOfLiteral (option p) v = (q : Option (Box Val Global)) × (v ≡ val.Option q) × (p ≡ payload_view q)
+IsOfLiteral (ok p) v = (q : Option (Box Val Global)) × (v ≡ val.Result (Ok q)) × (p ≡ payload_view q)
+IsOfLiteral (error p) v = (q : Option (Box Val Global)) × (v ≡ val.Result (Err q)) × (p ≡ payload_view q)
+IsOfLiteral (flags names) v = (set : Vec (String Global) Global) × (v ≡ val.Flags set) × (names ≡ map (λ s. string_bytes s) set.items)
+IsOfLiteral _ v = ⊤
 
-level : (x : Val-F Val) → IsOf (literal_step (map-Val Val Literal literal_view x)) (roll-Val x)
+level : (x : Val-F Val) → IsOfLiteral (literal_step (map-Val Val Literal literal_view x)) (roll-Val x)
 level (F.Bool b) = val.rolls-Bool b
 level (F.S8 z) = val.rolls-S8 z
 level (F.U8 n) = val.rolls-U8 n
@@ -79,11 +79,11 @@ level (F.Result (Err (Some b))) = (Some b, val.rolls-Result (Err (Some b)), refl
 level (F.Flags names) = (names, val.rolls-Flags names, refl)
 level y = tt
 
-is_of : (v : Val) → IsOf (literal_view v) v
-is_of = ind-Val (λ v. IsOf (literal_view v) v) (λ x y is. subst (λ l. IsOf l (roll-Val x)) (sym (fold-roll-Val Literal literal_step x)) (level x))
+is_of : (v : Val) → IsOfLiteral (literal_view v) v
+is_of = ind-Val (λ v. IsOfLiteral (literal_view v) v) (λ x y is. subst (λ l. IsOfLiteral l (roll-Val x)) (sym (fold-roll-Val Literal literal_step x)) (level x))
 
-pub by_literal : (l : Literal) (w : Val) → literal_view w ≡ l → IsOf l w
-by_literal l w e = subst (λ x. IsOf x w) e (is_of w)
+pub by_literal : (l : Literal) (w : Val) → literal_view w ≡ l → IsOfLiteral l w
+by_literal l w e = subst (λ x. IsOfLiteral x w) e (is_of w)
 
 -- ---- scalars
 
@@ -180,13 +180,13 @@ case_same of_result cs d vs v w e (Err p, ev, es, ed, lt) =
 pub text_same : (s : String Global) (v w : Val) → literal_view v ≡ literal_view w → v ≡ val.String s → (z : String Global) × (w ≡ val.String z) × (string_bytes s ≡ string_bytes z)
 text_same s v w e ev = by_literal (literals.text (string_bytes s)) w (sym e ∙ (ap literal_view ev ∙ literal-String s))
 
-pub items_same : (vs : List Val) (v w : Val) → literal_view v ≡ literal_view w → IsItems vs v → (ws : List Val) × IsItems ws w × (literals_view vs ≡ literals_view ws)
-items_same vs v w e (members, ev, es) =
+pub items_of_literals : (vs : List Val) (v w : Val) → literal_view v ≡ literal_view w → IsItems vs v → (ws : List Val) × IsItems ws w × (literals_view vs ≡ literals_view ws)
+items_of_literals vs v w e (members, ev, es) =
     let (others, ew, rows) = by_literal (literals.list (literals_of (literals_view members.items))) w (sym e ∙ (ap literal_view ev ∙ literal-List members)) in
     (others.items, (others, ew, refl), ap literals_view es ∙ literals_inside (literals_view members.items) (literals_view others.items) rows)
 
-pub fixed_same : (vs : List Val) (v w : Val) → literal_view v ≡ literal_view w → IsFixedListValue vs v → (ws : List Val) × IsFixedListValue ws w × (literals_view vs ≡ literals_view ws)
-fixed_same vs v w e (members, ev, es) =
+pub fixed_of_literals : (vs : List Val) (v w : Val) → literal_view v ≡ literal_view w → IsFixedListValue vs v → (ws : List Val) × IsFixedListValue ws w × (literals_view vs ≡ literals_view ws)
+fixed_of_literals vs v w e (members, ev, es) =
     let (others, ew, rows) = by_literal (fixed (literals_of (literals_view members.items))) w (sym e ∙ (ap literal_view ev ∙ literal-FixedLengthList members)) in
     (others.items, (others, ew, refl), ap literals_view es ∙ literals_inside (literals_view members.items) (literals_view others.items) rows)
 
@@ -231,13 +231,13 @@ module _ (lifted : Bool) where
     same_tree (own r) v w t plain e h = absurd (true≢false plain)
     same_tree (borrow r) v w t plain e h = absurd (true≢false plain)
     same_tree (list of_items s) v w t plain e (vs, ts, is, et, have) =
-        let (ws, isw, rows) = items_same vs v w e is in
+        let (ws, isw, rows) = items_of_literals vs v w e is in
         (ws, ts, isw, et, each_same literal_view (λ x u. HasTreeAs lifted s x u) (λ x y u f g. same_tree s x y u plain f g) vs ws ts rows have)
     same_tree (list of_pairs s) v w t plain e (shaped, (ps, ts, is, et, have)) =
         let (qs, isw, rows) = entries_same ps v w e is in
         (shaped, (qs, ts, isw, et, each_same pair_view (λ p u. PairHas lifted s p u) (λ p q u f g. same_pair s p q u plain f g) ps qs ts rows have))
     same_tree (shape.fixed n s) v w t plain e (vs, ts, is, count, et, have) =
-        let (ws, isw, rows) = fixed_same vs v w e is in
+        let (ws, isw, rows) = fixed_of_literals vs v w e is in
         (ws, ts, isw, sym (as_many vs ws rows) ∙ count, et, each_same literal_view (λ x u. HasTreeAs lifted s x u) (λ x y u f g. same_tree s x y u plain f g) vs ws ts rows have)
     same_tree (product k ms) v w t plain e (vs, ts, is, et, have) =
         let (ws, isw, rows) = product_same k (member_names ms) vs v w e is in

@@ -84,7 +84,7 @@ abbrev pub answered_asks : ReplayStore → List LoggedEntry
 answered_asks store = entries_of store.imports.lines.items
 
 -- What is known of a recorded call, where the log before it was this and these asks are recorded: its run, and words of 64 bits.
-pub record IsRecorded {U : Type 0} (answers_so : Answering U) (callee : Callee) (fuel turns : ℕ) (before : List LoggedEntry) (served : List ServedAsk) (call : RecordedCall) : Type 0 where
+pub record IsCallRecorded {U : Type 0} (answers_so : Answering U) (callee : Callee) (fuel turns : ℕ) (before : List LoggedEntry) (served : List ServedAsk) (call : RecordedCall) : Type 0 where
   pub run : AskedRun answers_so callee fuel turns call.params call.results before call.events
   pub logged : AreRecordedAs run.gained served
   pub fit : Each (OnStart (λ words memory. AreWords words)) call.events
@@ -109,11 +109,11 @@ module _ (c : Component) (call : RecordedCall) (before : ReplayStore) (component
       (subst (λ (x : Callee). call_refusal x (length call.params) others before.trapped ≡ None) again_callee_is (enters (callee_of_call c call) (length call.params) slots others trapped before.trapped entered count untrapped)) refused
 
   -- where the asks that are left are those of this call, and more
-  module _ {U : Type 0} (answers_so : Answering U) (others : List LoggedEntry) (served : List ServedAsk) (w : IsRecorded answers_so (callee_of_call c call) before.core.fuel before.turns others served call)
+  module _ {U : Type 0} (answers_so : Answering U) (others : List LoggedEntry) (served : List ServedAsk) (w : IsCallRecorded answers_so (callee_of_call c call) before.core.fuel before.turns others served call)
       (plain : HaveNoHandle (callee_of_call c call).params × HaveNoHandle (callee_of_call c call).results) (imports : HasPlainImports (callee_of_call c call)) (calm : Each IsNoTrap call.events) (more : List ServedAsk)
       (next : drop (length (answered_asks before)) (asks_in_store before) ≡ served ++ more) where
-    again : IsRecorded answers_so again_callee before.core.fuel before.turns others served call
-    again = subst (λ (x : Callee). IsRecorded answers_so x before.core.fuel before.turns others served call) again_callee_is w
+    again : IsCallRecorded answers_so again_callee before.core.fuel before.turns others served call
+    again = subst (λ (x : Callee). IsCallRecorded answers_so x before.core.fuel before.turns others served call) again_callee_is w
 
     plain_params : HaveNoHandle again_callee.params
     plain_params = subst (λ (x : Callee). HaveNoHandle x.params) again_callee_is plain.0

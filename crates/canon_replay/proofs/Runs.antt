@@ -37,16 +37,16 @@ pub each_seam : (P : Event → Type 0) (xs : List Event) (e : Event) (ys : List 
 each_seam P [] e ys h = h
 each_seam P (x ∷ xs) e ys h = each_seam P xs e ys h.1
 
-pub none_asked : (events : List Event) → asks_in events ≡ 0 → Each IsNoAsk events
-none_asked [] e = tt
-none_asked (event.Ask i ws m ∷ events) e = absurd (omega (arith, e))
-none_asked (event.Start f ws m ∷ events) e = (tt, none_asked events e)
-none_asked (event.Resume ws m ∷ events) e = (tt, none_asked events e)
-none_asked (event.Return ws m ∷ events) e = (tt, none_asked events e)
-none_asked (event.Realloc o os al ns a ∷ events) e = (tt, none_asked events e)
-none_asked (event.Post f ws ∷ events) e = (tt, none_asked events e)
-none_asked (event.Dtor f rep ∷ events) e = (tt, none_asked events e)
-none_asked (event.Trap told at ∷ events) e = (tt, none_asked events e)
+pub no_ask_among : (events : List Event) → asks_in events ≡ 0 → Each IsNoAsk events
+no_ask_among [] e = tt
+no_ask_among (event.Ask i ws m ∷ events) e = absurd (omega (arith, e))
+no_ask_among (event.Start f ws m ∷ events) e = (tt, no_ask_among events e)
+no_ask_among (event.Resume ws m ∷ events) e = (tt, no_ask_among events e)
+no_ask_among (event.Return ws m ∷ events) e = (tt, no_ask_among events e)
+no_ask_among (event.Realloc o os al ns a ∷ events) e = (tt, no_ask_among events e)
+no_ask_among (event.Post f ws ∷ events) e = (tt, no_ask_among events e)
+no_ask_among (event.Dtor f rep ∷ events) e = (tt, no_ask_among events e)
+no_ask_among (event.Trap told at ∷ events) e = (tt, no_ask_among events e)
 
 pub no_turns : (turns : List AskTurn) (more : List Event) → Each IsNoAsk (events_in turns ++ more) → turns ≡ []
 no_turns [] more h = refl

@@ -7,7 +7,7 @@ use Rattle.canon_recording.proofs.Rows.{map_length}
 use Rattle.canon_val.specs.declared.val.Val.{Val}
 use Rattle.canon_val.specs.Value.{pair_places, places}
 use Rattle.canon_value_parts.specs.Fails.{AreSmall, CaseFails, Failure, Fails, FailsAt, MemberFails, PairFails, SomeFails, overflow, too_long}
-use Rattle.canon_replay.proofs.Literals.{as_many, case_same, entries_same, fixed_same, items_same, pair_row, product_same, text_same}
+use Rattle.canon_replay.proofs.Literals.{as_many, case_same, entries_same, fixed_of_literals, items_of_literals, pair_row, product_same, text_same}
 
 -- ---- the value itself
 
@@ -27,7 +27,7 @@ large_list n (scalar c) v w e f = f
 large_list n string v w e f = f
 large_list n (own r) v w e f = f
 large_list n (borrow r) v w e f = f
-large_list n (list of_items s) v w e (vs, is, count, many) = let (ws, isw, rows) = items_same vs v w e is in (ws, isw, count ∙ as_many vs ws rows, many)
+large_list n (list of_items s) v w e (vs, is, count, many) = let (ws, isw, rows) = items_of_literals vs v w e is in (ws, isw, count ∙ as_many vs ws rows, many)
 large_list n (list of_pairs s) v w e (ps, is, count, many) =
     let (qs, isw, rows) = entries_same ps v w e is in
     (qs, isw, count ∙ (sym (map_length pair_view ps) ∙ (ap length rows ∙ map_length pair_view qs)), many)
@@ -58,7 +58,7 @@ module _ (how : Failure) (itself : (s : Shape) (v w : Val) → literal_view v �
     fails_too (flags names) v w k e (at, f) = (k, (at, itself (flags names) v w e f))
     fails_too (list of_items s) v w k e (inl (at, f)) = (k, inl (at, itself (list of_items s) v w e f))
     fails_too (list of_items s) v w k e (inr (vs, i, is, at, f)) =
-        let (ws, isw, rows) = items_same vs v w e is in
+        let (ws, isw, rows) = items_of_literals vs v w e is in
         let (j, g) = some_same literal_view places (λ x n. FailsAt how s x n) (λ x y n same h. fails_too s x y n same h) vs ws i rows f in
         (1 + j, inr (ws, j, isw, refl, g))
     fails_too (list of_pairs s) v w k e (inl (at, f)) = (k, inl (at, itself (list of_pairs s) v w e f))
@@ -68,7 +68,7 @@ module _ (how : Failure) (itself : (s : Shape) (v w : Val) → literal_view v �
         (1 + j, inr (qs, j, isw, refl, g))
     fails_too (fixed n s) v w k e (inl (at, f)) = (k, inl (at, itself (fixed n s) v w e f))
     fails_too (fixed n s) v w k e (inr (vs, i, is, count, at, f)) =
-        let (ws, isw, rows) = fixed_same vs v w e is in
+        let (ws, isw, rows) = fixed_of_literals vs v w e is in
         let (j, g) = some_same literal_view places (λ x m. FailsAt how s x m) (λ x y m same h. fails_too s x y m same h) vs ws i rows f in
         (1 + j, inr (ws, j, isw, sym (as_many vs ws rows) ∙ count, refl, g))
     fails_too (product l ms) v w k e (inl (at, f)) = (k, inl (at, itself (product l ms) v w e f))
