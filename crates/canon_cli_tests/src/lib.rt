@@ -1,5 +1,5 @@
-//! Tests of what no program shows: commands over sources and sinks that fail, what canon_gen makes, lines of a transcript and lists of
-//! actions by themselves, and images of types with handles.
+//! Tests of what no example shows: the longest and the deepest input, what canon_gen makes, lines of a transcript and lists of actions by themselves,
+//! and images of types with handles.
 #![tactic(auto)]
 
 #[cfg(test)]

@@ -1,6 +1,6 @@
-//! What no program shows: how a run ends where its source or its sink fails. And the record that a number makes, which `gen` doesn't print.
+//! What no program shows: inputs of the most bytes and of the deepest nesting, and one more. And the record that a number makes, which `gen` doesn't print.
 
-use canon_cli::{MemorySink, MemorySource, Status, Transcript, run};
+use canon_cli::{MemorySink, MemorySource, Transcript, run};
 use canon_gen::gen_lines;
 use canon_transcript::answer_text;
 use std::alloc::Global;
@@ -8,70 +8,6 @@ use std::test::Fail;
 
 const ONE_CALL: &str =
     r#"{"funcs":[{"params":["u32","s8"],"results":["bool"]}],"items":[{"call":0,"params":[{"u32":7},{"s8":-1}],"guest":[{"return":[2]}]}]}"#;
-
-const ONE_CALL_TEXT: &str = "call 0\nstart 0 7 4294967295\nreturn 2\nok true\nlive 0\n";
-
-/// How a run of these words over this input ends: its status, what it wrote, and how many calls its transcript has. The source gives so many bytes at a time
-/// and fails at one of its calls, and the sink so too; at 0 none fails.
-fn ended(
-    alloc: Global,
-    words: &[&str],
-    input: &str,
-    given_at_once: usize,
-    read_fails: u64,
-    chunk: usize,
-    write_fails: u64,
-) -> Result<(Status, String, usize), Fail> {
-    let mut given = Vec::new(alloc);
-    for word in words {
-        given.push(String::from_str(alloc, word)?)?;
-    }
-    let bytes = input.as_bytes().to_vec(alloc)?;
-    let mut source = MemorySource::new(bytes, given_at_once.max(1), vec![in alloc; read_fails]?);
-    let mut sink = MemorySink::new(alloc, chunk.max(1), vec![in alloc; write_fails]?);
-    let mut transcript = Transcript::new(alloc);
-    let status = run(alloc, &given, &mut source, &mut sink, &mut transcript);
-    let text = std::str::from_utf8(sink.taken())?;
-    let records = transcript.records().len();
-    Ok((status, String::from_str(alloc, text)?, records))
-}
-
-#[test]
-fn a_source_that_fails_its_first_or_second_call_is_a_read_fault(
-    rt: HostRuntime,
-) -> Result<(), Fail> {
-    for call in [1, 2] {
-        let (status, text, records) = ended(rt.alloc(), &["run"], ONE_CALL, 100, call, 1000, 0)?;
-        assert!(rt; status.0 == 3 && text.is_empty() && records == 0);
-    }
-    Ok(())
-}
-
-#[test]
-fn a_sink_that_fails_took_a_front_of_the_text(rt: HostRuntime) -> Result<(), Fail> {
-    let (status, text, _) = ended(rt.alloc(), &["run"], ONE_CALL, 100, 0, 4, 2)?;
-    assert!(rt; status.0 == 4 && text.as_str() == "call");
-    let whole = ONE_CALL_TEXT.as_bytes();
-    for k in 0..whole.len() {
-        let (status, text, _) = ended(rt.alloc(), &["run"], ONE_CALL, 100, 0, 1, k as u64 + 1)?;
-        assert!(rt; status.0 == 4 && text.as_bytes() == &whole[..k]);
-    }
-    Ok(())
-}
-
-#[test]
-fn a_source_gives_a_byte_at_a_time(rt: HostRuntime) -> Result<(), Fail> {
-    let (status, text, _) = ended(rt.alloc(), &["run"], ONE_CALL, 1, 0, 1000, 0)?;
-    assert!(rt; status.0 == 0 && text.as_str() == ONE_CALL_TEXT);
-    Ok(())
-}
-
-#[test]
-fn a_source_that_fails_after_a_byte_is_a_read_fault(rt: HostRuntime) -> Result<(), Fail> {
-    let (status, text, _) = ended(rt.alloc(), &["run"], ONE_CALL, 1, 2, 1000, 0)?;
-    assert!(rt; status.0 == 3 && text.is_empty());
-    Ok(())
-}
 
 /// How a run over these bytes ends.
 fn status_of(alloc: Global, bytes: &[u8]) -> Result<u8, Fail> {
