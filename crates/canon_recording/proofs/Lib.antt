@@ -1,6 +1,7 @@
 pub mod Answering
 pub mod Below
 pub mod BlockKinds
+pub mod ComingBack
 pub mod Deciding
 pub mod Decoded
 pub mod Playing

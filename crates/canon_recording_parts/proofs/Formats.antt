@@ -7,7 +7,7 @@ use Rattle.canon_recording_parts.specs.Format.{Format, IsFormat, also, as_, befo
 
 -- ---- lists
 
-regroup : (x1 x2 xs y1 y2 ys more rest : List ℕ) → xs ≡ x1 ++ x2 → ys ≡ y1 ++ y2 → xs ++ more ≡ ys ++ rest → x1 ++ (x2 ++ more) ≡ y1 ++ (y2 ++ rest)
+pub regroup : (x1 x2 xs y1 y2 ys more rest : List ℕ) → xs ≡ x1 ++ x2 → ys ≡ y1 ++ y2 → xs ++ more ≡ ys ++ rest → x1 ++ (x2 ++ more) ≡ y1 ++ (y2 ++ rest)
 regroup x1 x2 xs y1 y2 ys more rest xe ye e = sym (append_assoc x1 x2 more) ∙ ap (λ l. l ++ more) (sym xe) ∙ e ∙ ap (λ l. l ++ rest) ye ∙ append_assoc y1 y2 rest
 
 -- ---- one behind the other

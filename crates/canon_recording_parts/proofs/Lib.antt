@@ -1,3 +1,4 @@
+pub mod Agreeing
 pub mod Formats
 pub mod Laws
 pub mod Reading
