@@ -1,5 +1,5 @@
 -- What was written is read as the same calls.
-use Rattle.std.proofs.Common.{List, [], false, refl, true, ℕ, ◌<◌, ◌≡◌}
+use Rattle.std.proofs.Common.{List, [], false, refl, true, ℕ, ◌<◌, ◌∷◌, ◌≡◌}
 use Rattle.std.specs.Prelude.{⊤}
 use Rattle.canon_image_parts.proofs.Returning.{images_come_back}
 use Rattle.canon_memory.specs.declared.event.Event.{Event}
@@ -38,7 +38,7 @@ module _ (exports imports : Functions) where
   ask_back : Agree (an_ask false exports imports) (an_ask true exports imports) (IsSameAsk imports)
   ask_back = then_agree 4 (λ n. n < imports.count) (λ n. as_ (served_ask_of false n) (passed_values false imports n)) (λ n. as_ (served_ask_of true n) (passed_values true imports n))
       (IsSameAsk imports) (λ n. as_agree (served_ask_of false n) (served_ask_of true n) (passed_values false imports n) (passed_values true imports n) (ArePassedSame imports n) (IsSameAsk imports)
-          (λ x y h. record { import = refl; params = h.0; results = h.1 }) (passed_back imports n))
+      (λ x y h. record { import = refl; params = h.0; results = h.1 }) (passed_back imports n))
 
   abbrev IsDoneSame : List Event × List ServedAsk → List Event × List ServedAsk → Type 0
   IsDoneSame x y = (x.0 ≡ y.0) × EachSame (IsSameAsk imports) x.1 y.1
@@ -55,18 +55,18 @@ module _ (exports imports : Functions) where
   call_back = then_agree 4 (λ n. n < exports.count) (λ n. as_ (recorded_call_of false n) (also (passed_values false exports n) (what_was_done false exports imports)))
       (λ n. as_ (recorded_call_of true n) (also (passed_values true exports n) (what_was_done true exports imports))) (IsSameCall exports imports)
       (λ n. as_agree (recorded_call_of false n) (recorded_call_of true n) (also (passed_values false exports n) (what_was_done false exports imports))
-          (also (passed_values true exports n) (what_was_done true exports imports)) (IsCallSame n) (IsSameCall exports imports)
-          (λ x y h. record { export = refl; params = h.0.0; results = h.0.1; events = h.1.0; served = h.1.1 })
-          (also_agree (passed_values false exports n) (what_was_done false exports imports) (passed_values true exports n) (what_was_done true exports imports)
-              (ArePassedSame exports n) IsDoneSame (passed_back exports n) done_back))
+      (also (passed_values true exports n) (what_was_done true exports imports)) (IsCallSame n) (IsSameCall exports imports)
+      (λ x y h. record { export = refl; params = h.0.0; results = h.0.1; events = h.1.0; served = h.1.1 })
+      (also_agree (passed_values false exports n) (what_was_done false exports imports) (passed_values true exports n) (what_was_done true exports imports)
+      (ArePassedSame exports n) IsDoneSame (passed_back exports n) done_back))
 
   format_back : Agree (recording_format false exports imports) (recording_format true exports imports) (EachSame (IsSameCall exports imports))
   format_back = as_agree (λ (x : Unit {0} × List RecordedCall). x.1) (λ (x : Unit {0} × List RecordedCall). x.1)
       (also (exactly letters) (counted_row 4 (a_call false exports imports))) (also (exactly letters) (counted_row 4 (a_call true exports imports)))
       (λ x y. ⊤ × EachSame (IsSameCall exports imports) x.1 y.1) (EachSame (IsSameCall exports imports)) (λ x y h. h.1)
       (also_agree (exactly letters) (counted_row 4 (a_call false exports imports)) (exactly letters) (counted_row 4 (a_call true exports imports)) (λ u v. ⊤) (EachSame (IsSameCall exports imports))
-          (exactly_agree letters) (row_agree (a_call false exports imports) (a_call true exports imports) (IsSameCall exports imports) (EachSame (IsSameCall exports imports)) refl
-              (one_more (IsSameCall exports imports)) call_back 4))
+      (exactly_agree letters) (row_agree (a_call false exports imports) (a_call true exports imports) (IsSameCall exports imports) (EachSame (IsSameCall exports imports)) refl
+      (one_more (IsSameCall exports imports)) call_back 4))
 
 pub recordings_come_back : RecordingsComeBack
 recordings_come_back c calls read bs h k = (format_back (exports_of c) (imports_of c) calls read bs bs [] [] h k refl).2

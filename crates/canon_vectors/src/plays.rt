@@ -26,12 +26,11 @@ fn play(
     writes: Moves,
     transcript: &mut Transcript,
 ) -> Result<(u8, Vec<u8>), Fail> {
-    let (_, words, input, _, _) = *row;
     let mut given = Vec::new(alloc);
-    for word in words.split_whitespace() {
+    for word in row.words.split_whitespace() {
         given.push(String::from_str(alloc, word)?)?;
     }
-    let bytes = input.as_bytes().to_vec(alloc)?;
+    let bytes = row.input.as_bytes().to_vec(alloc)?;
     let mut source = MemorySource::new(bytes, reads.chunk.max(1), vec![in alloc; reads.fails]?);
     let mut sink = MemorySink::new(alloc, writes.chunk.max(1), vec![in alloc; writes.fails]?);
     let status = run(alloc, &given, &mut source, &mut sink, transcript);
@@ -54,17 +53,15 @@ fn ends(
 
 /// Whether a row ends as it says, where a source and a sink move so many bytes at a time.
 fn ends_as_told(alloc: Global, row: &Row, chunk: usize) -> Result<bool, Fail> {
-    let (_, _, _, status, text) = *row;
     let moves = Moves { chunk, fails: 0 };
-    ends(alloc, row, moves, moves, status, text.as_bytes())
+    ends(alloc, row, moves, moves, row.status, row.text.as_bytes())
 }
 
 /// Whether a row whose source gives a byte a call, and fails its first call, its second, or that of the end, is a read fault that wrote nothing. Faulty
 /// words read nothing.
 fn ends_at_a_read(alloc: Global, row: &Row) -> Result<bool, Fail> {
-    let (_, _, input, status, _) = *row;
-    let wanted = if status == 2 { 2 } else { 3 };
-    let end = (input.len() as u64).saturating_add(1);
+    let wanted = if row.status == 2 { 2 } else { 3 };
+    let end = (row.input.len() as u64).saturating_add(1);
     for fails in [1, end.min(2), end] {
         let reads = Moves { chunk: 1, fails };
         if !ends(alloc, row, reads, WHOLE, wanted, &[])? {
@@ -76,7 +73,7 @@ fn ends_at_a_read(alloc: Global, row: &Row) -> Result<bool, Fail> {
 
 /// Whether a row whose sink takes a byte a call and fails any one of its calls is a write fault that wrote the bytes before.
 fn ends_at_each_write(alloc: Global, row: &Row) -> Result<bool, Fail> {
-    let text = row.4.as_bytes();
+    let text = row.text.as_bytes();
     for taken in 0..text.len() {
         let writes = Moves {
             chunk: 1,
@@ -110,7 +107,7 @@ fn wrong_way(alloc: Global, row: &Row) -> Result<Option<&'static str>, Fail> {
 fn each_row_ends_as_it_says(rt: HostRuntime) -> Result<(), Fail> {
     for row in &ROWS {
         let wrong = wrong_way(rt.alloc(), row)?;
-        assert!(rt; wrong.is_none(), "{} {}", row.0, wrong.unwrap_or(""));
+        assert!(rt; wrong.is_none(), "{} {}", row.tried, wrong.unwrap_or(""));
     }
     Ok(())
 }
