@@ -1,0 +1,5 @@
+pub mod Definitions
+pub mod Resources
+pub mod Rows
+pub mod Steps
+pub mod TypeKinds
