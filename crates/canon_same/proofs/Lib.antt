@@ -1,4 +1,5 @@
 pub mod Definitions
+pub mod Equivalence
 pub mod Resources
 pub mod Rows
 pub mod Steps

@@ -12,7 +12,7 @@ use Rattle.canon_types.specs.declared.types.RecordField.{RecordField}
 use Rattle.canon_plan.proofs.Flats.{payload_depth as part_depth}
 use Rattle.canon_plan.proofs.Lookups.{count_fields, drop_all, drop_at, field_at, member_at}
 use Rattle.canon_same.specs.Same.{SamePayload}
-use Rattle.canon_same.proofs.Steps.{along, at_other, case_step, cases_count, member_step, members_count, payload_depth, through, unnamed_long}
+use Rattle.canon_same.proofs.Steps.{along, at_other, case_step, cases_count, member_step, members_count, depth_of_payload, through, unnamed_long}
 
 module _ (same : ℕ → ℕ → Type 0) (t u : TypeTable) where
   -- ---- fields
@@ -73,6 +73,6 @@ module _ (same : ℕ → ℕ → Type 0) (known other : List Shape) where
   second_alone p q y e f h = subst (λ o. SamePayload same (payload_in known None) (payload_in other o)) f (subst (λ o. SamePayload same (payload_in known o) (payload_in other q)) e h)
 
 -- a payload is no deeper than the deepest
-pub payload_falls : (known : List Shape) (ps : List (Option InterfaceType)) (k : ℕ) (p : Option InterfaceType) → p ≡ get_or ps k p → k < length ps → payload_depth known p ≤ deepest_case (unnamed_cases known ps)
+pub payload_falls : (known : List Shape) (ps : List (Option InterfaceType)) (k : ℕ) (p : Option InterfaceType) → p ≡ get_or ps k p → k < length ps → depth_of_payload known p ≤ deepest_case (unnamed_cases known ps)
 payload_falls known ps k None e lt = omega arith
 payload_falls known ps k (Some type) e lt = part_depth known ps k (Some type) type lt (sym e)

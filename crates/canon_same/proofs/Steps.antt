@@ -104,9 +104,9 @@ abbrev shape_or : Option Shape → Shape
 shape_or None = string
 shape_or (Some s) = s
 
-abbrev pub payload_depth : List Shape → Option InterfaceType → ℕ
-payload_depth known None = 0
-payload_depth known (Some type) = depth (shape_in known type)
+abbrev pub depth_of_payload : List Shape → Option InterfaceType → ℕ
+depth_of_payload known None = 0
+depth_of_payload known (Some type) = depth (shape_in known type)
 
 case_more : (name : Name) (p : Option Shape) (cs : Cases) → case_count (named_case name p cs) ≡ suc (case_count cs)
 case_more name None cs = refl

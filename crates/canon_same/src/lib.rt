@@ -2,7 +2,9 @@
 #![tactic(auto)]
 
 mod found;
+mod laws;
 mod names;
 mod same;
 
+pub use laws::{same_is_equivalence, same_lies_alike};
 pub use same::{is_same, is_same_func};

@@ -9,7 +9,7 @@ use Rattle.canon_plan.proofs.Flats.{field_part, member_part, record_made, result
 use Rattle.canon_same.specs.Same.{SamePayload, SameResource, SameTypes}
 use Rattle.canon_same.proofs.Definitions.{depth_here, fixed_same, here, lists_same, maps_same, options_same, parts_known, placed, records_same, results_same, rows_same, tuple_rows, tuples_same}
 use Rattle.canon_same.proofs.Rows.{fields_at, fields_end, fields_long, members_at, members_end, members_long, first_alone, no_payloads, payload_falls, payloads_at, payloads_end, payloads_long, second_alone, some_payloads}
-use Rattle.canon_same.proofs.Steps.{at_other, back, both, given, more, never, payload_depth, stopped, through, untrue}
+use Rattle.canon_same.proofs.Steps.{at_other, back, both, given, more, never, depth_of_payload, stopped, through, untrue}
 use Rattle.canon_same.proofs.TypeKinds.{number_of, plain_left, plain_same, unlike}
 use Rattle.canon_same.proofs.same.+same.Goals as goal
 
@@ -264,7 +264,7 @@ pub same_payload-same-requires : goal.same_payload-same-requires
 same_payload-same-requires t c = 
     let p = c.in-Some-Some in
     (
-      omega (arith, ap (payload_depth (all_shapes c.args.read.now.types)) p.is-0),
+      omega (arith, ap (depth_of_payload (all_shapes c.args.read.now.types)) p.is-0),
       (subst (KnowsPayload c.args.read.now.types) p.is-0 c.requires.known, (subst (KnowsPayload c.args.written.now.types) p.is-1 c.requires.other_known, c.requires.found)),
     )
 

@@ -7,7 +7,7 @@ use Rattle.canon_types.specs.Laid.{unnamed_cases}
 use Rattle.canon_types.specs.Table.{all_shapes, members_of, shape_of}
 use Rattle.canon_types.specs.declared.types.InterfaceType.TheVariants as ty
 use Rattle.canon_same.specs.Same.{AreFound, SameResource}
-use Rattle.canon_same.proofs.Steps.{payload_depth}
+use Rattle.canon_same.proofs.Steps.{depth_of_payload}
 use Rattle.canon_same.proofs.same.+same.Given as goal
 
 abbrev pub decreases-same : goal.decreases-same
@@ -50,7 +50,7 @@ abbrev pub decreases-same_payloads : goal.decreases-same_payloads
 decreases-same_payloads l = 6 * deepest_case (unnamed_cases (all_shapes l.read.now.types) l.payloads.now) + 7
 
 abbrev pub decreases-same_payload : goal.decreases-same_payload
-decreases-same_payload l = 6 * payload_depth (all_shapes l.read.now.types) l.payload + 6
+decreases-same_payload l = 6 * depth_of_payload (all_shapes l.read.now.types) l.payload + 6
 
 abbrev pub invariant-same_fields-loop-k : goal.invariant-same_fields-loop-k
 invariant-same_fields-loop-k l = record {
