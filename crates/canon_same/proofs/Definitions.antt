@@ -5,15 +5,14 @@ use Rattle.std.specs.Option.{option_map_or}
 use Rattle.std.specs.Prelude.{slice_index_or}
 use Rattle.std.specs.declared.alloc.Global.{Global}
 use Rattle.canon_model.specs.Same.{Same, SameCases, SameMembers}
-use Rattle.canon_model.specs.Shape.{Cases, Name, Shape, bare_cases, case_for, enum_of, no_cases, of_cases, of_fields, of_items, of_names, of_places, of_result, variant}
+use Rattle.canon_model.specs.Shape.{Cases, Name, Shape, case_for, no_cases, of_cases, of_fields, of_items, of_names, of_places, of_result}
 use Rattle.canon_types.proofs.Measures.{depth_defined}
 use Rattle.canon_types.specs.Depth.{deepest, depth}
 use Rattle.canon_types.specs.Instance.{Instance}
-use Rattle.canon_types.specs.Keeps.{cases_type, enum_type, fields_type, field_members, flags_type, names_of}
+use Rattle.canon_types.specs.Keeps.{cases_type, fields_type, field_members, names_of}
 use Rattle.canon_types.specs.Laid.{unnamed_cases}
-use Rattle.canon_types.specs.Table.{Definition, EnumType, FixedListType, FlagsType, IsDefined, Knows, ListType, MapType, OptionType, RecordType, ResultType, TupleType, TypeTable, VariantType, all_shapes, cases_in, defined_shape, members_of, named_case, no_shape, parts, payload_in, place, plain_shape, shape_in, shape_of, tuple_members, types_of}
+use Rattle.canon_types.specs.Table.{Definition, EnumType, FixedListType, FlagsType, IsDefined, Knows, ListType, MapType, OptionType, ResultType, TupleType, TypeTable, VariantType, all_shapes, defined_shape, members_of, named_case, no_shape, parts, payload_in, place, plain_shape, shape_of, tuple_members, types_of}
 use Rattle.canon_types.specs.declared.types.InterfaceType.{InterfaceType}
-use Rattle.canon_types.specs.declared.types.InterfaceType.TheVariants as ty
 use Rattle.canon_types.specs.declared.types.RecordField.{RecordField}
 use Rattle.canon_same.specs.Same.{SameDefinitions, SameResource, SameTypes}
 use Rattle.canon_same.proofs.Steps.{alike, along, back, cases_step, each, enum_step, fixed_step, flags_step, list_step, option_step, pair_step, product_step, through, variant_step}
@@ -63,7 +62,6 @@ pub placed : (i j : Instance) (type other : InterfaceType) (n m : ℕ) → place
 placed i j type other n m e f = back (along (Same (SameResource i j)) _ _ _ _ _
     (ap (λ o. option_map_or (λ k. slice_index_or (all_shapes i.types) k no_shape) o (plain_shape type)) e)
     (ap (λ o. option_map_or (λ k. slice_index_or (all_shapes j.types) k no_shape) o (plain_shape other)) f) (λ h. h, λ h. h))
-
 
 -- definitions of one kind, in the tables that the look-ups went to, whose shapes are the same exactly so
 module _ (i j : Instance) (t u : TypeTable) (e : t ≡ i.types) (f : u ≡ j.types) (type other : InterfaceType) where
@@ -121,5 +119,5 @@ module _ (i j : Instance) (t u : TypeTable) (e : t ≡ i.types) (f : u ≡ j.typ
       let cs : List (Name × Option InterfaceType) = map (λ c. (string_bytes c.0, c.1)) entries in
       let ds : List (Name × Option InterfaceType) = map (λ c. (string_bytes c.0, c.1)) others in
       through (variants_same cs ds x y) (each
-          (alike (names_listed entries ∙ sym (ap names_of e1)) (names_listed others ∙ sym (ap names_of e2)))
-          (along (SameCases (SameResource i j)) _ _ _ _ _ (ap (unnamed_cases (all_shapes i.types)) (payloads_listed entries ∙ sym e3)) (ap (unnamed_cases (all_shapes j.types)) (payloads_listed others ∙ sym e4)) (λ h. h, λ h. h)))
+      (alike (names_listed entries ∙ sym (ap names_of e1)) (names_listed others ∙ sym (ap names_of e2)))
+      (along (SameCases (SameResource i j)) _ _ _ _ _ (ap (unnamed_cases (all_shapes i.types)) (payloads_listed entries ∙ sym e3)) (ap (unnamed_cases (all_shapes j.types)) (payloads_listed others ∙ sym e4)) (λ h. h, λ h. h)))

@@ -1,5 +1,5 @@
 -- Being the same is an equivalence where having one type of resource is.
-use Rattle.std.proofs.Common.{◌≡◌, refl, subst, ℕ}
+use Rattle.std.proofs.Common.{refl, subst, ℕ}
 use Rattle.canon_model.specs.Same.{Same, SameCases, SameMembers}
 use Rattle.canon_model.specs.Shape.{Cases, Members, Shape, bare, borrow, fixed, flags, list, member, no_cases, no_members, own, payload, product, scalar, string, variant}
 

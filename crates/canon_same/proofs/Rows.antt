@@ -1,7 +1,7 @@
 -- Rows of members and of payloads, from a place on.
 use Rattle.std.proofs.Common.{◌≡◌, ◌≤◌, ◌<◌, ◌+◌, ◌↔◌, ◌∙◌, Bool, IsTrue, List, None, Option, Some, [], ap, arith, drop, get_or, length, refl, string_bytes, subst, sym, ℕ}
 use Rattle.canon_model.specs.Same.{Same, SameCases, SameMembers}
-use Rattle.canon_model.specs.Shape.{Shape, case_count, member_count, no_cases, no_members}
+use Rattle.canon_model.specs.Shape.{Shape, no_cases, no_members}
 use Rattle.canon_types.proofs.Measures.{count_members}
 use Rattle.canon_types.specs.Depth.{deepest_case}
 use Rattle.canon_types.specs.Keeps.{field_members}

@@ -1,15 +1,12 @@
 -- Types are the same where their parts are.
-use Rattle.std.proofs.Common.{◌≡◌, ◌≤◌, ◌<◌, ◌+◌, ◌↔◌, ◌∙◌, Bool, IsTrue, List, None, Option, Some, [], ◌∷◌, ap, arith, drop, false, get_or, length, map, refl, string_bytes, subst, suc, sym, true, zero, ℕ}
+use Rattle.std.proofs.Common.{◌≡◌, ◌↔◌, ◌∙◌, Bool, IsTrue, List, None, Option, Some, [], ◌∷◌, ap, arith, drop, false, get_or, length, map, refl, subst, suc, sym, true, ℕ}
 use Rattle.std.proofs.lemmas.Bool.{false≢true}
 use Rattle.canon_model.specs.Same.{Same, SameCases, SameMembers}
-use Rattle.canon_model.specs.Shape.{Cases, ListKind, Members, Name, ProductKind, Shape, VariantKind, bare, bare_cases, borrow, case_count, case_for, enum_of, fixed, flags, list, map_of, member, member_count, no_cases, no_members, of_items, of_option, of_pairs, of_places, of_result, option_of, own, payload, product, result_of, scalar, string, tuple, variant}
-use Rattle.canon_types.specs.Depth.{deepest_case, depth, element_shape, product_members, variant_cases}
-use Rattle.canon_types.specs.Keeps.{field_members}
+use Rattle.canon_model.specs.Shape.{Cases, ListKind, Members, Name, ProductKind, Shape, VariantKind, bare, bare_cases, borrow, case_count, fixed, flags, list, map_of, member, member_count, no_cases, no_members, of_option, of_pairs, of_places, option_of, own, payload, product, string, tuple, variant}
+use Rattle.canon_types.specs.Depth.{depth, element_shape, product_members, variant_cases}
 use Rattle.canon_types.specs.Laid.{unnamed_cases}
-use Rattle.canon_types.specs.Table.{TypeTable, all_shapes, cases_in, members_of, named_case, payload_in, shape_in, shape_of}
+use Rattle.canon_types.specs.Table.{cases_in, named_case, payload_in, shape_in}
 use Rattle.canon_types.specs.declared.types.InterfaceType.{InterfaceType}
-use Rattle.canon_types.specs.declared.types.RecordField.{RecordField}
-use Rattle.canon_plan.proofs.Lookups.{drop_all, drop_at, field_at, member_at}
 use Rattle.canon_same.specs.Same.{SamePayload}
 
 -- ---- truth values and what they tell
@@ -180,10 +177,12 @@ module _ (same : ℕ → ℕ → Type 0) where
   pair_step key value other_key other_value =
       let row : SameMembers same (member [] key (member [] value no_members)) (member [] other_key (member [] other_value no_members)) ↔ (Same same key other_key × Same same value other_value) = (
         λ h.
-          let first = (member_step [] [] key other_key (member [] value no_members) (member [] other_value no_members)).0 h in
-          (first.0.1, ((member_step [] [] value other_value no_members no_members).0 first.1).0.1),
+            let first = (member_step [] [] key other_key (member [] value no_members) (member [] other_value no_members)).0 h in
+            (first.0.1, ((member_step [] [] value other_value no_members no_members).0 first.1).0.1),
         λ h. (member_step [] [] key other_key (member [] value no_members) (member [] other_value no_members)).1 (
-          (refl, h.0), (member_step [] [] value other_value no_members no_members).1 ((refl, h.1), refl)),
+          (refl, h.0),
+          (member_step [] [] value other_value no_members no_members).1 ((refl, h.1), refl),
+        ),
       ) in
       through (list_step of_pairs (tuple (key ∷ value ∷ [])) (tuple (other_key ∷ other_value ∷ [])))
       (through (product_step of_places (member [] key (member [] value no_members)) (member [] other_key (member [] other_value no_members))) row)
@@ -219,13 +218,12 @@ module _ (same : ℕ → ℕ → Type 0) where
       let unnamed = case_step [] [] (payload_in known c.1) (payload_in other d.1) (unnamed_cases known (map (λ c. c.1) cs)) (unnamed_cases other (map (λ c. c.1) ds)) in
       let rest = cases_step known other cs ds in (
         λ h.
-          let it = step.0 h in
-          let left = rest.0 it.1 in
-          let same_name = it.0.0 in
-          let same_names = left.0 in
-          (cc, unnamed.1 ((refl, it.0.1), left.1)),
+            let it = step.0 h in
+            let left = rest.0 it.1 in
+            let same_name = it.0.0 in
+            let same_names = left.0 in
+            (cc, unnamed.1 ((refl, it.0.1), left.1)),
         λ h.
-          let it = unnamed.0 h.1 in
-          step.1 ((ap (λ xs. get_or xs 0 []) h.0, it.0.1), rest.1 (ap (drop 1) h.0, it.1)),
+            let it = unnamed.0 h.1 in
+            step.1 ((ap (λ xs. get_or xs 0 []) h.0, it.0.1), rest.1 (ap (drop 1) h.0, it.1)),
       )
-

@@ -241,7 +241,13 @@ fn same_variants(
     let (names, other_names) = (cases.keys(), others.keys());
     let (payloads, other_payloads) = (cases.values(), others.values());
     are_same_names(names.as_slice(), other_names.as_slice())
-        && same_payloads(read, written, found, payloads.as_slice(), other_payloads.as_slice())
+        && same_payloads(
+            read,
+            written,
+            found,
+            payloads.as_slice(),
+            other_payloads.as_slice(),
+        )
 }
 
 #[cycle(same)]
@@ -285,7 +291,13 @@ fn same_results(
     };
     let result = read.types().result(i);
     let its = written.types().result(*j);
-    same_payloads(read, written, found, &[result.ok, result.err], &[its.ok, its.err])
+    same_payloads(
+        read,
+        written,
+        found,
+        &[result.ok, result.err],
+        &[its.ok, its.err],
+    )
 }
 
 fn same_enums(

@@ -71,15 +71,11 @@ fn bytes(_alloc: Global, builder: &mut TypeBuilder) -> Option<InterfaceType> {
 }
 
 fn three_bytes(_alloc: Global, builder: &mut TypeBuilder) -> Option<InterfaceType> {
-    builder
-        .add_fixed_length_list(InterfaceType::U8, 3)
-        .ok()
+    builder.add_fixed_length_list(InterfaceType::U8, 3).ok()
 }
 
 fn four_bytes(_alloc: Global, builder: &mut TypeBuilder) -> Option<InterfaceType> {
-    builder
-        .add_fixed_length_list(InterfaceType::U8, 4)
-        .ok()
+    builder.add_fixed_length_list(InterfaceType::U8, 4).ok()
 }
 
 fn map(_alloc: Global, builder: &mut TypeBuilder) -> Option<InterfaceType> {
@@ -115,22 +111,34 @@ fn record(
 }
 
 fn score(alloc: Global, builder: &mut TypeBuilder) -> Option<InterfaceType> {
-    let (name, score) = (("name", InterfaceType::String), ("score", InterfaceType::U32));
+    let (name, score) = (
+        ("name", InterfaceType::String),
+        ("score", InterfaceType::U32),
+    );
     record(alloc, builder, name, score)
 }
 
 fn score_first(alloc: Global, builder: &mut TypeBuilder) -> Option<InterfaceType> {
-    let (name, score) = (("name", InterfaceType::String), ("score", InterfaceType::U32));
+    let (name, score) = (
+        ("name", InterfaceType::String),
+        ("score", InterfaceType::U32),
+    );
     record(alloc, builder, score, name)
 }
 
 fn points(alloc: Global, builder: &mut TypeBuilder) -> Option<InterfaceType> {
-    let (name, points) = (("name", InterfaceType::String), ("points", InterfaceType::U32));
+    let (name, points) = (
+        ("name", InterfaceType::String),
+        ("points", InterfaceType::U32),
+    );
     record(alloc, builder, name, points)
 }
 
 fn signed_score(alloc: Global, builder: &mut TypeBuilder) -> Option<InterfaceType> {
-    let (name, score) = (("name", InterfaceType::String), ("score", InterfaceType::S32));
+    let (name, score) = (
+        ("name", InterfaceType::String),
+        ("score", InterfaceType::S32),
+    );
     record(alloc, builder, name, score)
 }
 
@@ -156,7 +164,12 @@ fn records_with_another_name_type_or_order_differ(rt: HostRuntime) {
 }
 
 /// An enum of so many names, or flags of them.
-fn named(alloc: Global, builder: &mut TypeBuilder, count: u32, is_enum: bool) -> Option<InterfaceType> {
+fn named(
+    alloc: Global,
+    builder: &mut TypeBuilder,
+    count: u32,
+    is_enum: bool,
+) -> Option<InterfaceType> {
     let names = names(alloc, count)?;
     if is_enum {
         builder.add_enum(names).ok()

@@ -1,6 +1,6 @@
-use Rattle.std.proofs.Common.{None, Some, arith, refl, subst, sym, ◌≡◌, ◌∙◌, ap}
+use Rattle.std.proofs.Common.{None, arith, subst}
 use Rattle.std.specs.Prelude.{IfSome}
-use Rattle.std.proofs.lemmas.Bool.{eq-eqb, eqb-true, false≢true}
+use Rattle.std.proofs.lemmas.Bool.{eqb-true}
 use Rattle.canon_same.specs.Same.{SameDefinitions}
 use Rattle.canon_same.proofs.found.Found.has.Goals as goal
 
