@@ -1,4 +1,4 @@
-//! Tests of the table of types, of the numbers of the canonical ABI, and of types by name.
+//! Tests of the table of types, of the numbers of the canonical ABI, of types by name, and of types that are the same.
 #![tactic(auto)]
 
 #[cfg(test)]

@@ -2,6 +2,7 @@
 //! on.
 
 mod look_ups;
+mod same;
 
 use canon_types::{
     CanonicalAbiInfo, ComponentTypes, InstanceType, InterfaceType, RecordField, ResourceKind,
