@@ -1,5 +1,7 @@
 //! Each row is played through `run` from memory to memory: at once, a byte at a time, and with a read or a write that fails.
 
+ghost use Rattle.std.specs.Prelude.{◌≡◌, []};
+
 use crate::rows::{OVER_THE_LIST, ROWS, Row};
 use canon_cli::{Event, MemorySink, MemorySource, Transcript, run};
 use std::alloc::Global;
@@ -25,7 +27,9 @@ fn play(
     reads: Moves,
     writes: Moves,
     transcript: &mut Transcript,
-) -> Result<(u8, Vec<u8>), Fail> {
+) -> Result<(u8, Vec<u8>), Fail>
+    requires { transcript.old ≡ [] }
+{
     let mut given = Vec::new(alloc);
     for word in row.words.split_whitespace() {
         given.push(String::from_str(alloc, word)?)?;
