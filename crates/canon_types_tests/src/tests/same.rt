@@ -301,11 +301,12 @@ fn compare_funcs(alloc: Global, types: [InterfaceType; 2], async_: bool) -> Opti
 #[test]
 fn functions_are_the_same_by_their_parameters_and_results(rt: HostRuntime) {
     let alloc = rt.alloc();
-    let (text, byte) = (InterfaceType::String, InterfaceType::U8);
-    assert!(rt; compare_funcs(alloc, [text, byte], false) == Some(true));
-    assert!(rt; compare_funcs(alloc, [text, byte], true) == Some(true));
-    assert!(rt; compare_funcs(alloc, [byte, byte], false) == Some(false));
-    assert!(rt; compare_funcs(alloc, [text, text], false) == Some(false));
+    let same = compare_funcs(alloc, [InterfaceType::String, InterfaceType::U8], false);
+    let same_async = compare_funcs(alloc, [InterfaceType::String, InterfaceType::U8], true);
+    let other_params = compare_funcs(alloc, [InterfaceType::U8, InterfaceType::U8], false);
+    let other_results = compare_funcs(alloc, [InterfaceType::String, InterfaceType::String], false);
+    assert!(rt; same == Some(true) && same_async == Some(true));
+    assert!(rt; other_params == Some(false) && other_results == Some(false));
 }
 
 /// 49 tuples, each of two lists of the one before: written out, the last has 2^49 bytes.
