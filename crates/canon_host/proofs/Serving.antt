@@ -1,7 +1,7 @@
 -- The steps of an ask, one after another.
 use Rattle.std.proofs.Common.{[], Err, List, Ok, Result, Vec, ap, arith, false, inl, inr, length, true, refl, subst, subst₂, sym, ℕ, ◌++◌, ◌-◌, ◌<◌, ◌∙◌, ◌≡◌, ◌≤◌}
 use Rattle.std.proofs.Math.Seq.{drop-append_seam, drop-length, take-append_seam}
-use Rattle.std.proofs.lemmas.List.{append-nil, length-drop, take-append-drop}
+use Rattle.std.proofs.lemmas.List.{append-nil, length-drop, length-replicate, take-append-drop}
 use Rattle.std.specs.Prelude.{IfErr, IfSome, OnOk, Option, Some, drop, replicate, take}
 use Rattle.std.specs.declared.alloc.Global.{Global}
 use Rattle.canon_context.specs.Asks.{SameButHandles}
@@ -36,7 +36,7 @@ use Rattle.canon_val.specs.declared.val.Val.{Val}
 use Rattle.canon_val.specs.declared.val.Val.TheVariants as val
 use Rattle.canon_value_parts.proofs.Values.{have_count}
 use Rattle.canon_host.specs.Asked.{RestStays, row_words}
-use Rattle.canon_host.specs.Serves.{Answers, AnswersBy, AskValues, Calling, CallsFunction, CallsBlank, ConcludesAsk, ConcludesBy, EndingRelation, Ends, EndsAsk, AnswersInRow, IsResultPlace, WasToldPlace, WasNotTold, LiftsAsked, LoweringRelation, LowersGiven, Serves, ServesBy, ServesEntered, ServesEnteredBy, Steps, TellsPlace, Values, left_from, blank, value_steps, params_and_results}
+use Rattle.canon_host.specs.Serves.{AnswersBy, AskValues, Calling, CallsBy, CallsFunction, CallsBlank, ConcludesAsk, ConcludesBy, EndingRelation, Ends, EndsAsk, IsResultPlace, IsWholeRow, WasToldPlace, WasNotTold, LiftsAsked, LoweringRelation, LowersGiven, Serves, ServesBy, ServesEnteredBy, ServesAsTold, Steps, TellsPlace, ToldBy, Values, left_from, blank, value_steps, params_and_results}
 use Rattle.canon_host.specs.declared.asked.Asked.{Asked}
 use Rattle.canon_host.specs.declared.error.HostError.{HostError}
 use Rattle.canon_lowering.specs.Stages.{GoesBy, Stage}
@@ -167,8 +167,8 @@ with_ledger before after l same is = same ∙ ap (λ (x : LedgerState). record b
 -- ---- the call and what follows it
 
 module _ {F T G : Type 0} (g : Closure F (HostView T) Val (Result (Unit {0}) HostStop)) (f : F) (seen : G → Seen) (moves : GuestIn G → List Event → GuestIn G → Type 0) (asked : Asked) where
-  module _ (before made after : Parts T G) (params items old nv shown : List Val) (n k : ℕ) (words words2 : List ℕ) (hn : n ≡ length params) (hk : replicate k (val.Bool false) ≡ blank (component_types before) asked.func)
-      (hi : items ≡ params ++ replicate k (val.Bool false)) (ho : old ≡ items) (hp : take n nv ≡ take n old) (hc : CallsFunction g f asked before (take n old) (drop n old) (Ok tt) made (drop n nv)) (hs : shown ≡ drop n nv) where
+  module _ (before made : Parts T G) (params items old nv : List Val) (n k : ℕ) (hn : n ≡ length params) (hk : replicate k (val.Bool false) ≡ blank (component_types before) asked.func)
+      (hi : items ≡ params ++ replicate k (val.Bool false)) (ho : old ≡ items) (hp : take n nv ≡ take n old) where
     old_is : old ≡ params ++ blank (component_types before) asked.func
     old_is = ho ∙ (hi ∙ ap (λ xs. params ++ xs) hk)
 
@@ -178,18 +178,35 @@ module _ {F T G : Type 0} (g : Closure F (HostView T) Val (Result (Unit {0}) Hos
     back : drop n old ≡ blank (component_types before) asked.func
     back = ap (drop n) old_is ∙ (ap (λ m. drop m (params ++ blank (component_types before) asked.func)) hn ∙ drop-append_seam params (blank (component_types before) asked.func))
 
-    calls : CallsFunction g f asked before params (blank (component_types before) asked.func) (Ok tt) made (drop n nv)
-    calls = subst₂ (λ ps xs. CallsFunction g f asked before ps xs (Ok tt) made (drop n nv)) front back hc
+    pub calls_blank : (r : Result (Unit {0}) HostStop) → CallsFunction g f asked before (take n old) (drop n old) r made (drop n nv) → CallsBlank g f asked before params r made (drop n nv)
+    calls_blank r hc = subst₂ (λ ps xs. CallsFunction g f asked before ps xs r made (drop n nv)) front back hc
 
     split : nv ≡ params ++ drop n nv
     split = sym (take-append-drop n nv) ∙ ap (λ xs. xs ++ drop n nv) (hp ∙ front)
 
-    pub answered_ok : (final : List Val) → final ≡ nv → ConcludesAsk seen moves asked made shown words (Ok tt) after words2
-        → (told : AskValues) × (final ≡ told.params ++ told.results) × Answers (CallsBlank g f asked) seen moves asked before params words (Ok told) after words2
-    answered_ok final is h = (params_and_results params (drop n nv), is ∙ split, (made, refl, calls, subst (λ xs. ConcludesAsk seen moves asked made xs words (Ok tt) after words2) hs h))
+    -- what the function leaves has the values of the ask
+    pub left_in_row : (values : Vec Val Global) → values.items ≡ nv → CallsFunction g f asked before (take n old) (drop n old) (Ok tt) made (drop n nv)
+        → IsWholeRow (component_types before) asked values (params_and_results params (drop n nv))
+    left_in_row values is hc = record {
+      row = is ∙ split;
+      counted = hc.counted ∙ ap length back ∙ length-replicate (member_count (result_members (component_types before) asked.func)) (val.Bool false);
+    }
 
-    pub answered_err : (x : Fault) → ConcludesAsk seen moves asked made shown words (Err x) after words2 → Answers (CallsBlank g f asked) seen moves asked before params words (Err (error.Fault x)) after words2
-    answered_err x h = inr (inr (drop n nv, made, x, refl, calls, subst (λ xs. ConcludesAsk seen moves asked made xs words (Err x) after words2) hs h))
+-- ---- the call, whatever the form
+
+module _ {T G A P R S V : Type 0} (how : Steps T G A P R S) (asked : Asked) (leaves tells : V → Values P R → Type 0) where
+  pub answered_ok : (before called after : Parts T G) (params : A) (v v2 : V) (words words2 : List ℕ) → CallsBy how leaves before params (Ok v) called
+      → ((told : Values P R) → leaves v told → ConcludesBy how.ends how.lowers asked called told.results words (Ok tt) after words2) → ((told : Values P R) → leaves v told → tells v2 told)
+      → ToldBy tells (λ told. AnswersBy how asked before (how.told params) words told after words2) (Ok v2)
+  answered_ok before called after params v v2 words words2 (told, left, same, gave) ends tell = (told, tell told left, (called, same, gave, ends told left))
+
+  pub answered_err : (before called after : Parts T G) (params : A) (v : V) (words words2 : List ℕ) (x : Fault) → CallsBy how leaves before params (Ok v) called
+      → ((told : Values P R) → leaves v told → ConcludesBy how.ends how.lowers asked called told.results words (Err x) after words2) → AnswersBy how asked before (how.told params) words (Err (error.Fault x)) after words2
+  answered_err before called after params v words words2 x (told, left, same, gave) ends = inr (inr (told.results, called, x, refl, gave, ends told left))
+
+  pub not_answered : (before after : Parts T G) (params : A) (words : List ℕ) (e : HostError) → CallsBy how leaves before params (Err e) after → AnswersBy how asked before (how.told params) words (Err e) after words
+  not_answered before after params words e (inl fails) = inl (fails, refl)
+  not_answered before after params words e (inr (left, why, is, stops)) = inr (inl (left, why, is, stops, refl))
 
 -- ---- the whole ask
 
@@ -204,17 +221,18 @@ module _ {T G A P R S : Type 0} (how : Steps T G A P R S) (asked : Asked) where
   served_by before mid after words words2 (Ok told) is h = subst (λ k. ServesEnteredBy how asked k words (Ok told) after words2) is h
   served_by before mid after words words2 (Err e) is h = inr (subst (λ k. ServesEnteredBy how asked k words (Err e) after words2) is h)
 
+module _ {T G A P R S V : Type 0} (how : Steps T G A P R S) (asked : Asked) (tells : V → Values P R → Type 0) where
+  pub entered : (before lifted after : Parts T G) (words words2 : List ℕ) (params : A) (r : Result V HostError) → how.lifts before words (Ok params) lifted
+      → ToldBy tells (λ told. AnswersBy how asked lifted (how.told params) words told after words2) r → ToldBy tells (λ told. ServesEnteredBy how asked before words told after words2) r
+  entered before lifted after words words2 params (Ok v) lifts h = (h.0, h.1, entered_by how asked before lifted after words words2 params (Ok h.0) lifts h.2)
+  entered before lifted after words words2 params (Err e) lifts h = entered_by how asked before lifted after words words2 params (Err e) lifts h
+
+  pub served : (before mid after : Parts T G) (words words2 : List ℕ) (r : Result V HostError) → mid ≡ record before { ledger = enter before.ledger }
+      → ToldBy tells (λ told. ServesEnteredBy how asked mid words told after words2) r → ServesAsTold tells how asked before words r after words2
+  served before mid after words words2 (Ok v) is h = (h.0, h.1, served_by how asked before mid after words words2 (Ok h.0) is h.2)
+  served before mid after words words2 (Err e) is h = served_by how asked before mid after words words2 (Err e) is h
+
 module _ {T G : Type 0} (C : Calling T G) (seen : G → Seen) (moves : GuestIn G → List Event → GuestIn G → Type 0) (asked : Asked) where
-  pub ask_entered : (before lifted after : Parts T G) (words words2 : List ℕ) (params : Vec Val Global) (r : Result (Vec Val Global) HostError) → LiftsAsked asked before words (Ok params) lifted
-      → AnswersInRow (λ told. Answers C seen moves asked lifted params.items words told after words2) r → AnswersInRow (λ told. ServesEntered C seen moves asked before words told after words2) r
-  ask_entered before lifted after words words2 params (Ok values) lifts h = (h.0, h.1, entered_by (value_steps C seen moves asked) asked before lifted after words words2 params (Ok h.0) lifts h.2)
-  ask_entered before lifted after words words2 params (Err e) lifts h = entered_by (value_steps C seen moves asked) asked before lifted after words words2 params (Err e) lifts h
-
-  pub served : (before mid after : Parts T G) (words words2 : List ℕ) (r : Result (Vec Val Global) HostError) → mid ≡ record before { ledger = enter before.ledger }
-      → AnswersInRow (λ told. ServesEntered C seen moves asked mid words told after words2) r → AnswersInRow (λ told. Serves C seen moves asked before words told after words2) r
-  served before mid after words words2 (Ok values) is h = (h.0, h.1, served_by (value_steps C seen moves asked) asked before mid after words words2 (Ok h.0) is h.2)
-  served before mid after words words2 (Err e) is h = served_by (value_steps C seen moves asked) asked before mid after words words2 (Err e) is h
-
   -- there are as many parameters as the type has
   pub ask_params_count : (before lifted : Parts T G) (words : List ℕ) (params : Vec Val Global) → LiftsAsked asked before words (Ok params) lifted → length params.items ≡ member_count (param_members (component_types before) asked.func)
   ask_params_count before lifted words params lifts = have_count true (param_members (component_types before) asked.func) params.items lifts.0.1.ok.its_trees lifts.0.1.ok.have

@@ -134,6 +134,16 @@ pub record Values (P R : Type 0) : Type 0 where
   pub params : P
   pub results : R
 
+-- what was answered tells the values of the ask
+abbrev pub ToldBy : {V P R : Type 0} → (V → Values P R → Type 0) → (Result (Values P R) HostError → Type 0) → Result V HostError → Type 0
+ToldBy {V} {P} {R} tells Is (Ok x) = (told : Values P R) × tells x told × Is (Ok told)
+ToldBy tells Is (Err e) = Is (Err e)
+
+-- The function is called once with these parameters. What it leaves tells the values of the ask, else it says why there are none.
+abbrev pub CallsBy : {T G A P R S V : Type 0} → Steps T G A P R S → (V → Values P R → Type 0) → Parts T G → A → Result V HostError → Parts T G → Type 0
+CallsBy {T} {G} {A} {P} {R} {S} how tells before params (Ok v) after = (told : Values P R) × tells v told × (told.params ≡ how.told params) × how.gives before (how.told params) after told.results
+CallsBy {T} {G} {A} {P} {R} {S} how tells before params (Err e) after = how.fails before e after ⊎ ((left : S) × (why : HostStop) × (e ≡ stopped why) × how.stops before (how.told params) why after left)
+
 module _ {T G A P R S : Type 0} (how : Steps T G A P R S) (asked : Asked) where
   -- The function is called with these parameters, and the ask ends.
   abbrev pub AnswersBy : Parts T G → P → List ℕ → Result (Values P R) HostError → Parts T G → List ℕ → Type 0
@@ -155,6 +165,10 @@ module _ {T G A P R S : Type 0} (how : Steps T G A P R S) (asked : Asked) where
   abbrev pub ServesBy : Parts T G → List ℕ → Result (Values P R) HostError → Parts T G → List ℕ → Type 0
   ServesBy before words (Err e) after words2 = (how.declines before e × (after ≡ before) × (words2 ≡ words)) ⊎ ServesEnteredBy (record before { ledger = enter before.ledger }) words (Err e) after words2
   ServesBy before words result after words2 = ServesEnteredBy (record before { ledger = enter before.ledger }) words result after words2
+
+-- a function in one of its forms serves the ask so, and what it answers tells its values
+abbrev pub ServesAsTold : {T G A P R S V : Type 0} → (V → Values P R → Type 0) → Steps T G A P R S → Asked → Parts T G → List ℕ → Result V HostError → Parts T G → List ℕ → Type 0
+ServesAsTold tells how asked before words result after words2 = ToldBy tells (λ told. ServesBy how asked before words told after words2) result
 
 -- ---- the steps of a function over values
 
@@ -213,10 +227,17 @@ AskValues = Values (List Val) (List Val)
 abbrev pub params_and_results : List Val → List Val → AskValues
 params_and_results params results = record { params = params; results = results }
 
--- they stand in a row
+-- the parameters stand in a row, with the results behind them
+abbrev pub in_row : Vec Val Global → AskValues → Type 0
+in_row values told = values.items ≡ told.params ++ told.results
+
+-- and there is a result for each type of the function
+pub record IsWholeRow (types : TypeTable) (asked : Asked) (values : Vec Val Global) (told : AskValues) : Type 0 where
+  pub row : in_row values told
+  pub counted : length told.results ≡ member_count (result_members types asked.func)
+
 abbrev pub AnswersInRow : (Result AskValues HostError → Type 0) → Result (Vec Val Global) HostError → Type 0
-AnswersInRow Is (Ok values) = (told : AskValues) × (values.items ≡ told.params ++ told.results) × Is (Ok told)
-AnswersInRow Is (Err e) = Is (Err e)
+AnswersInRow Is result = ToldBy in_row Is result
 
 module _ {T G : Type 0} (C : Calling T G) (seen : G → Seen) (moves : GuestIn G → List Event → GuestIn G → Type 0) (asked : Asked) where
   -- the function is called as C says; memory for the scope may be wanting, and room for the slots

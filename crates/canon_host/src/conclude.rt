@@ -15,25 +15,6 @@ use crate::asked::{first_words, params_words, results_words};
 use canon_memory::{Guest, ValRaw};
 use canon_value::{Core, Fault, LowerContext, Val, lower_results, results_area};
 
-/// Tests the pointer for the results, ends the scope of the ask and leaves it, and lowers the results.
-pub(crate) fn conclude<T, G: Guest>(
-    core: &mut Core<T, G>,
-    asked: &Asked,
-    results: &[Val],
-    storage: &mut [ValRaw],
-) -> Result<(), Fault>
-    requires asked { IsAsked core.old.component asked.now }
-    requires room { HasWordsEnough (component_types core.old) asked.now storage.old }
-    requires count { length results.now ≡ member_count (tuple_members (component_types core.old) asked.now.func.results) }
-    ensures concludes { ConcludesAsk G.seen G.moves asked.now core.old results.now storage.old result core.new storage.new }
-    ensures same { SameButHandles core.old core.new }
-{
-    match end_ask(core, asked, storage) {
-        Ok(at) => lower(core, asked, at, results, storage),
-        Err(fault) => Err(fault),
-    }
-}
-
 /// Tests the pointer for the results, ends the scope of the ask and leaves it, and tells the guest of the place for results. Answers the
 /// address at which results are to be stored that don't go in a row.
 pub(crate) fn end_ask<T, G: Guest>(
@@ -88,27 +69,4 @@ fn place_of<T, G>(core: &Core<T, G>, asked: &Asked, storage: &[ValRaw]) -> Resul
     }
     let word = params_words(types, asked.func.params) as u32;
     results_area(core, asked.func.results, storage, word)
-}
-
-/// Lowers the results to the first words, or to the address.
-fn lower<T, G: Guest>(
-    core: &mut Core<T, G>,
-    asked: &Asked,
-    at: u64,
-    results: &[Val],
-    storage: &mut [ValRaw],
-) -> Result<(), Fault>
-    requires asked { IsAsked core.old.component asked.now }
-    requires room { HasWordsEnough (component_types core.old) asked.now storage.old }
-    requires place { IsResultPlace (component_types core.old) asked.now core.old.memory storage.old at }
-    requires count { length results.now ≡ member_count (tuple_members (component_types core.old) asked.now.func.results) }
-    ensures lowers { LowersGiven G.seen G.moves asked.now core.old at results.now result core.new storage.new }
-    ensures rest { RestStays (result_members (component_types core.old) asked.now.func) storage.old storage.new }
-    ensures same { SameButHandles core.old core.new }
-{
-    let tuple = asked.func.results;
-    let count = first_words(core.component().types.types(), tuple);
-    let words = &mut storage[..count];
-    let mut cx = LowerContext::new(core, asked.options);
-    lower_results(&mut cx, results, tuple, at, words)
 }

@@ -1,5 +1,9 @@
 //! The errors of host functions.
 
+ghost use Rattle.std.specs.Prelude.{◌≡◌};
+ghost use Rattle.canon_host.specs.Serves.{stopped};
+
+use crate::HostStop;
 use canon_value::Fault;
 
 /// Why an ask isn't answered: a fault, or the function refused.
@@ -9,4 +13,15 @@ pub enum HostError {
     Fault(Fault),
     /// The function refused.
     Refused,
+}
+
+impl From<HostStop> for HostError {
+    ghost from_gives = { λ why e. e ≡ stopped why };
+
+    fn from(why: HostStop) -> Self {
+        match why {
+            HostStop::Refused => HostError::Refused,
+            HostStop::OutOfMemory => HostError::Fault(Fault::OutOfMemory),
+        }
+    }
 }

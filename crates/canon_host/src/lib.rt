@@ -3,13 +3,13 @@
 
 mod asked;
 mod conclude;
+mod dynamic_host;
 mod error;
 mod host_func;
 mod imports;
 mod laws;
 mod no_imports;
 mod serve;
-mod serve_typed;
 mod static_host;
 mod typed_import;
 mod values_import;
@@ -19,8 +19,9 @@ pub use asked::{
 };
 pub use canon_context::{HostStop, HostView, MemoryView};
 pub use canon_named::TypecheckFailed;
+pub use dynamic_host::DynamicHostFn;
 pub use error::HostError;
-pub use host_func::{DynamicHostFn, HostFn, HostFunc};
+pub use host_func::{HostFn, HostFunc};
 pub use imports::Imports;
 pub use laws::{typed_answers_are_represented, typed_ask_is_steps, typed_asks_are_exact};
 pub use no_imports::NoImports;

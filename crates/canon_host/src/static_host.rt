@@ -1,17 +1,20 @@
 //! Functions of the host over Rust types.
 
+ghost use Rattle.std.proofs.Common.{refl};
 ghost use Rattle.std.specs.Prelude.{◌≡◌, IfSome, OnErr, OnOk, false, slice_get};
 ghost use Rattle.canon_types.specs.Table.{HasFunc};
-ghost use Rattle.canon_host.specs.ServesTyped.{FitRustTypes, FitsFunc};
+ghost use Rattle.canon_context.specs.Host.{StaticKeeps};
+ghost use Rattle.canon_host.specs.ServesTyped.{CallsTyped, FitRustTypes, FitsFunc, typed_steps};
 
-use crate::asked::asked_of;
-use crate::serve_typed::serve_typed;
-use crate::{HostCx, HostError, HostFn, HostFunc, HostStop, HostView, TypecheckFailed};
+use crate::asked::{first_words, params_words};
+use crate::{Asked, HostError, HostFn, HostFunc, HostStop, HostView, TypecheckFailed};
+use canon_args::{lift_params, lower_results};
 use canon_lift::Lift;
 use canon_lower::Lower;
 use canon_memory::{Guest, ValRaw};
 use canon_typed::ComponentNamedList;
 use canon_types::{InstanceType, InterfaceType, TypeFuncIndex};
+use canon_value::{Core, Fault, LiftContext, LowerContext};
 use std::alloc::Global;
 use std::marker::{Model, PhantomData};
 
@@ -35,41 +38,66 @@ impl<
     R: ComponentNamedList + Lower,
     F: Fn(&mut HostView<'_, '_, T>, P) -> Result<R, HostStop>,
 > HostFn<T, G> for StaticHostFn<F, P, R> {
-    ghost use Rattle.std.specs.Prelude.{◌≡◌, IfSome, slice_get};
-    ghost use Rattle.canon_types.specs.Table.{HasFunc};
-    ghost use Rattle.canon_context.specs.Component.{HasOptions};
-    ghost use Rattle.canon_context.specs.Core.{component_types};
-    ghost use Rattle.canon_host.specs.Asked.{HasRoomFor};
-    ghost use Rattle.canon_host.specs.ServesTyped.{FitsFunc, ServesTyped};
-    ghost use Rattle.canon_context.specs.Host.{StaticKeeps};
+    type Params = P;
 
-    type Log = ();
+    type Returned = R;
+
+    ghost ToldParams = { P };
+
+    ghost ToldResults = { R };
+
+    ghost Left = { Unit {0} };
 
     ghost ready = { λ f. StaticKeeps F.Fn f };
 
     ghost fits = { λ f i ty. FitsFunc P.fits R.fits i ty };
 
-    ghost serves = { λ f asked before words r after words2. ServesTyped F.Fn f P.reading R.walks R.gives G.seen G.moves asked before words r after words2 };
+    ghost steps = { λ f asked. typed_steps F.Fn f P.reading R.walks R.gives G.seen G.moves asked };
 
-    fn serve(
+    ghost leaves = { λ types asked results told. told.results ≡ results };
+
+    ghost tells = { λ results told. Unit {0} };
+
+    fn lift(
         &self,
         alloc: Global,
-        cx: HostCx<'_, T, G>,
-        storage: &mut [ValRaw],
-    ) -> Result<(), HostError>
-        requires ready { StaticKeeps F.Fn self.now }
-        requires fits { FitsFunc P.fits R.fits cx.core.now.component.types cx.ty }
-        requires func { HasFunc (component_types cx.core.now) cx.ty }
-        requires options { HasOptions cx.core.now.component cx.options }
-        requires room { HasRoomFor (component_types cx.core.now) cx.ty storage.old }
-        ensures serves { IfSome (slice_get (component_types cx.entry.core.now).funcs cx.entry.ty)
-            (λ t. ServesTyped F.Fn self.now P.reading R.walks R.gives G.seen G.moves (record { ty = cx.entry.ty; func = t; options = cx.entry.options }) cx.entry.core.now storage.old result cx.exit.0.now storage.new) }
-        ensures same { cx.exit.0.now ≡ record cx.entry.core.now { state = cx.exit.0.now.state; guest = cx.exit.0.now.guest; memory = cx.exit.0.now.memory; ledger = cx.exit.0.now.ledger } }
-    {
-        let HostCx { core, ty, options } = cx;
-        let asked = asked_of(core, ty, options);
-        serve_typed(alloc, &self.f, core, &asked, storage)
+        core: &mut Core<T, G>,
+        asked: &Asked,
+        storage: &[ValRaw],
+    ) -> Result<P, Fault> {
+        let tuple = asked.func.params;
+        let count = params_words(core.component().types.types(), tuple);
+        let words = &storage[..count];
+        let mut cx = LiftContext::new(core, asked.options);
+        lift_params(alloc, &mut cx, tuple, words)
     }
+
+    fn call(&self, core: &mut Core<T, G>, asked: &Asked, params: P) -> Result<R, HostError> {
+        let _ = asked;
+        match call_once(&self.f, core, params) {
+            Ok(results) => Ok(results),
+            Err(why) => Err(HostError::from(why)),
+        }
+    }
+
+    fn lower(
+        &self,
+        core: &mut Core<T, G>,
+        asked: &Asked,
+        at: u64,
+        returned: &mut R,
+        storage: &mut [ValRaw],
+    ) -> Result<(), Fault> {
+        let tuple = asked.func.results;
+        let count = first_words(core.component().types.types(), tuple);
+        let words = &mut storage[..count];
+        let mut cx = LowerContext::new(core, asked.options);
+        lower_results(&mut cx, returned, tuple, at, words)
+    }
+
+    ghost declined = { λ f asked before. refl };
+
+    ghost ended = { λ f asked before words at after ends. ends };
 }
 
 impl<F, P: ComponentNamedList + Lift, R: ComponentNamedList + Lower> HostFunc<
@@ -102,4 +130,16 @@ impl<F, P: ComponentNamedList + Lift, R: ComponentNamedList + Lower> HostFunc<
         R::typecheck(&InterfaceType::Tuple(func.results), types)?;
         Ok(())
     }
+}
+
+/// Calls the function.
+fn call_once<T, G, P, R, F: Fn(&mut HostView<'_, '_, T>, P) -> Result<R, HostStop>>(
+    f: &F,
+    core: &mut Core<T, G>,
+    params: P,
+) -> Result<R, HostStop>
+    requires keeps { StaticKeeps F.Fn f.now }
+    ensures calls { CallsTyped F.Fn f.now core.old params result core.new }
+{
+    core.host_call_static(f, params)
 }

@@ -91,7 +91,7 @@ fn serve_fitting<
     ensures same { cx.exit.0.now ≡ record cx.entry.core.now { state = cx.exit.0.now.state; guest = cx.exit.0.now.guest; memory = cx.exit.0.now.memory; ledger = cx.exit.0.now.ledger } }
 {
     match func.entrypoint(alloc, cx, storage) {
-        Ok(()) => Ok(()),
+        Ok(_results) => Ok(()),
         Err(HostError::Refused) => {
             *refusals = refusals.saturating_add(1);
             Err(HostError::Refused)

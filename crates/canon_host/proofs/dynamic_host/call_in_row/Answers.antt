@@ -1,5 +1,5 @@
 use Rattle.canon_host.proofs.Serving.{called}
-use Rattle.canon_host.proofs.serve.call.Goals as goal
+use Rattle.canon_host.proofs.dynamic_host.call_in_row.Goals as goal
 
 pub returns-clause-calls : goal.returns-clause-calls
 returns-clause-calls g c =
