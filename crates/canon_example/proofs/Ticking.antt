@@ -62,7 +62,7 @@ imports_in component (Some e) = refl
 called_once : (form : HostFuncForm Clock) → IsClock form → (answers : Answering Clock) (index : ℕ) (log : Option (List LoggedEntry)) (what : Asked) (reached : InView Clock)
     (params : (ask_form form).Params) (answer : Result (ask_form form).Results HostStop) (state : Clock) (ledger : LedgerState)
     → (ask_form form).gave answers index log what reached params answer state ledger → state.now ≡ (reached.state.now + 1) % 2 ^ 32
-called_once (over_values may) is answers index log what reached params answer state ledger gave = (is what.func reached params.items answer state ledger gave.0).0
+called_once (over_values may) is answers index log what reached params answer state ledger gave = (is what.func reached params answer state ledger gave.0).0
 called_once (over_types types may) is answers index log what reached params answer state ledger gave = absurd is
 
 module _ (gives : Giving Clock) (clocks : AreClocks gives) (callee : Callee) (limits : Limits) (clock notebook : ℕ) (imports : callee.imports ≡ notes_imports clock notebook) where

@@ -2,25 +2,20 @@
 use Rattle.std.proofs.Common.{Err, List, Option, [], arith, inl, inr, refl, subst, sym, ℕ, ⊎_elim, ◌<◌, ◌∷◌, ◌≤◌, ◌⊎◌}
 use Rattle.std.proofs.lemmas.Bool.{cases_lt, le-leb, lt-leb}
 use Rattle.std.specs.Prelude.{false, if◌then◌else◌, ◌≢◌}
-use Rattle.canon_model.proofs.Layouts.{members_end-le-size}
 use Rattle.canon_model.specs.Flat.{max_results}
 use Rattle.canon_model.specs.Layout.{members_flat}
 use Rattle.canon_model.specs.Memory.{Block, Within}
-use Rattle.canon_model.specs.Shape.{of_places}
 use Rattle.canon_memory.specs.Counts.{Rose}
 use Rattle.canon_memory.specs.Guest.{Moment, Seen, moment}
 use Rattle.canon_ledger.specs.Ledger.{LedgerState}
-use Rattle.canon_lowering.proofs.Attempts.{within_block}
-use Rattle.canon_lowering.specs.Attempt.{members_span, value_place}
+use Rattle.canon_lowering.specs.Attempt.{value_place}
 use Rattle.canon_lowering.specs.Lowering.{Answer, Calm, Ending, Lowering, Trap, refused}
 use Rattle.canon_context.specs.declared.fault.Fault.{Fault}
 use Rattle.canon_context.specs.declared.fault.Fault.TheVariants as fault
-use Rattle.canon_host.specs.Forms.{HostFuncForm, over_types, over_values}
 use Rattle.canon_host.specs.HostSide.{Answering, Giving, HostSide}
 use Rattle.canon_host.specs.declared.asked.Asked.{Asked}
-use Rattle.canon_func.specs.AskForms.{AskForm, ask_at, ask_form}
-use Rattle.canon_func.specs.AskTypes.{given_shape}
-use Rattle.canon_func.specs.AskValues.{asked_results}
+use Rattle.canon_func.specs.AskForms.{AskForm, AskLowers, ask_at}
+use Rattle.canon_func.specs.AskedFor.{asked_results, given_shape}
 use Rattle.canon_func.specs.Asks.{AskStops}
 use Rattle.canon_func.specs.Call.{CountsWithin}
 use Rattle.canon_func.specs.HostAsks.{HostStops, IsHostAsk, IsToldPlace, NothingAsked, StopsAtAsk, StopsGiven}
@@ -28,6 +23,8 @@ use Rattle.canon_func.specs.Laws.{RefusedAskStands, StandsAsked, StandsBut, resu
 use Rattle.canon_func.specs.Stores.{Callee}
 use Rattle.canon_func.specs.declared.error.Error.{Error}
 use Rattle.canon_func.specs.declared.error.Error.TheVariants as error
+use Rattle.canon_func.proofs.AskLaws.{AskSound}
+use Rattle.canon_func.proofs.FormLaws.{form_sound}
 use Rattle.canon_func.proofs.Refusals.{calm_so}
 use Rattle.canon_lowering.specs.Stages.{Stage, bare, moment_at}
 use Rattle.canon_func.proofs.Told.{told_grows, told_same}
@@ -66,28 +63,16 @@ module _ (callee : Callee) (asked : Asked) (at : ℕ) (from to : Moment) (answer
   far_stands : max_results < members_flat (asked_results callee asked) → StandsBut (value_place false (given_shape callee asked) at ∷ []) from to answers → TurnStands
   far_stands far h = subst (λ b. StandsBut (if b then [] else value_place false (given_shape callee asked) at ∷ []) from to answers) (sym (lt-leb (members_flat (asked_results callee asked)) max_results far)) h
 
-  span_within : Within (members_span false (asked_results callee asked) 0 at ∷ []) (value_place false (given_shape callee asked) at ∷ [])
-  span_within = within_block _ _ _ _ (omega arith) (omega (arith, members_end-le-size false of_places (asked_results callee asked)))
-
--- where lowering the results was refused, in each form
-abbrev KeepsMemory : {T : Type 0} → AskForm T → Type 0
-KeepsMemory its = (callee : Callee) (asked : Asked) (at : ℕ) (from to : Moment) (results : its.Results) (low : List ℕ) (answers : List Answer) (trap : Option Trap) (l n : LedgerState) (f : Fault) → Calm refused from.guest to.guest
-    → its.lowers callee asked at from to results low answers trap l n (Err f) → StandsBut (result_places callee asked at) from to answers
-
-form_keeps : {T : Type 0} (form : HostFuncForm T) → KeepsMemory (ask_form form)
-form_keeps (over_values may) callee asked at from to results low answers trap l n f calm h = ⊎_elim
-    (λ far. let w = h.crosses.lowered.far far in
-    subst (λ xs. StandsBut (result_places callee asked at) from to xs) w.1 (far_stands callee asked at from to w.0.answers far
-    (stands_more _ _ from to w.0.answers (span_within callee asked at from to w.0.answers) (lowering_stands _ (bare from) (bare to) h.crosses.ending w.0.answers w.0.trap w.0.fresh w.0.lowering calm))))
-    (λ near. let w = h.crosses.lowered.near near in
-    subst (λ xs. StandsBut (result_places callee asked at) from to xs) w.1 (near_stands callee asked at from to w.0.answers near (lowering_stands [] (bare from) (bare to) h.crosses.ending w.0.answers w.0.trap w.0.fresh w.0.lowering calm)))
-    (cases_lt max_results (members_flat (asked_results callee asked)))
-form_keeps (over_types types may) callee asked at from to results low answers trap l n f calm h = ⊎_elim
-    (λ far. let w = h.lowered.far far in
-    subst (λ xs. StandsBut (result_places callee asked at) from to xs) w.1 (far_stands callee asked at from to w.0.answers far (lowering_stands _ (bare from) (bare to) h.ending w.0.answers w.0.trap w.0.fresh w.0.lowering calm)))
-    (λ near. let w = h.lowered.near near in
-    subst (λ xs. StandsBut (result_places callee asked at) from to xs) w.1 (near_stands callee asked at from to w.0.answers near (lowering_stands [] (bare from) (bare to) h.ending w.0.answers w.0.trap w.0.fresh w.0.lowering calm)))
-    (cases_lt max_results (members_flat (asked_results callee asked)))
+-- where lowering the results was refused
+module _ {T : Type 0} (its : AskForm T) (sound : AskSound its) (callee : Callee) (asked : Asked) (at : ℕ) (from to : Moment) (results : its.Results) (low : List ℕ) (answers : List Answer) (trap : Option Trap) (l n : LedgerState) (f : Fault) where
+  keeps_memory : Calm refused from.guest to.guest → AskLowers its callee asked at from to results low answers trap l n (Err f) → StandsBut (result_places callee asked at) from to answers
+  keeps_memory calm h = ⊎_elim
+      (λ far. let w = h.lowered.far far in
+      subst (λ xs. StandsBut (result_places callee asked at) from to xs) w.1 (far_stands callee asked at from to w.0.answers far
+      (stands_more _ _ from to w.0.answers (sound.within callee asked at) (lowering_stands _ (bare from) (bare to) h.ending w.0.answers w.0.trap w.0.fresh w.0.lowering calm))))
+      (λ near. let w = h.lowered.near near in
+      subst (λ xs. StandsBut (result_places callee asked at) from to xs) w.1 (near_stands callee asked at from to w.0.answers near (lowering_stands [] (bare from) (bare to) h.ending w.0.answers w.0.trap w.0.fresh w.0.lowering calm)))
+      (cases_lt max_results (members_flat (asked_results callee asked)))
 
 -- ---- once the guest was told of the place
 
@@ -103,7 +88,7 @@ told_stands callee asked at places from held to answers tells h = record { tidy 
 nothing_stands : (callee : Callee) (index : ℕ) (words : List ℕ) (from to : Moment) (answers : List Answer) (trap : Option Trap) → NothingAsked from.bytes to.bytes answers trap → StandsAsked callee index words from to answers
 nothing_stands callee index words from to answers trap (none, quiet, same) = inl same
 
-module _ {T : Type 0} (its : AskForm T) (keeps : KeepsMemory its) (answers_so : Answering T) (callee : Callee) (fuel : ℕ) (asked : Asked) (index : ℕ) (words : List ℕ) (from to : Moment) (answers : List Answer)
+module _ {T : Type 0} (its : AskForm T) (sound : AskSound its) (answers_so : Answering T) (callee : Callee) (fuel : ℕ) (asked : Asked) (index : ℕ) (words : List ℕ) (from to : Moment) (answers : List Answer)
     (trap : Option Trap) (before after : HostSide T) (is : IsHostAsk callee index words asked) (calm : Calm refused from.guest to.guest) (e : Error) where
   quiet_stands : NothingAsked from.bytes to.bytes answers trap → StandsAsked callee index words from to answers
   quiet_stands = nothing_stands callee index words from to answers trap
@@ -113,7 +98,7 @@ module _ {T : Type 0} (its : AskForm T) (keeps : KeepsMemory its) (answers_so : 
   given_stands results called (inr (at, place, inl (x, told, exit, quiet))) = quiet_stands quiet
   given_stands results called (inr (at, place, inr (ended, ends, inl (short, far, unheld, left, quiet)))) = quiet_stands quiet
   given_stands results called (inr (at, place, inr (ended, ends, inr (f, low, held, told, tells, lowers)))) =
-      inr (asked, at, is, place, told_stands callee asked at _ from held to answers tells (keeps callee asked at (moment held from.bytes) to results low answers trap _ _ f (told_calm callee asked at from.guest held to.guest tells calm) lowers))
+      inr (asked, at, is, place, told_stands callee asked at _ from held to answers tells (keeps_memory its sound callee asked at (moment held from.bytes) to results low answers trap _ _ f (told_calm callee asked at from.guest held to.guest tells calm) lowers))
 
   host_stands : StopsAtAsk its answers_so callee fuel asked index words from to answers trap before after e → StandsAsked callee index words from to answers
   host_stands (inl (why, left, same, quiet)) = quiet_stands quiet
@@ -126,7 +111,7 @@ module _ {T : Type 0} (its : AskForm T) (keeps : KeepsMemory its) (answers_so : 
 
 module _ {T : Type 0} (gives : Giving T) (callee : Callee) (fuel index : ℕ) (words : List ℕ) (from to : Moment) (answers : List Answer) (trap : Option Trap) (before after : HostSide T) (calm : Calm refused from.guest to.guest) where
   stops_stand : (e : Error) (asked : Asked) → HostStops gives callee fuel asked index words from to answers trap before after e → StandsAsked callee index words from to answers
-  stops_stand e asked h = host_stands (ask_at gives index) (form_keeps (gives.form index)) gives.answers callee fuel asked index words from to answers trap before after h.is calm e h.stops
+  stops_stand e asked h = host_stands (ask_at gives index) (form_sound (gives.form index)) gives.answers callee fuel asked index words from to answers trap before after h.is calm e h.stops
 
   ask_stands : (e : Error) → e ≢ error.Fault fault.OutOfMemory → AskStops gives callee fuel e index words from to answers trap before after → StandsAsked callee index words from to answers
   ask_stands error.TurnsExhausted other h = nothing_stands callee index words from to answers trap h.1

@@ -30,7 +30,7 @@ use Rattle.canon_host.specs.Asked.{row_words}
 use Rattle.canon_func.specs.AskForms.{ask_at}
 use Rattle.canon_func.specs.Call.{Advances}
 use Rattle.canon_func.specs.HostAsks.{HostStops, IsHostAsk, IsHostServed, NothingAsked, asked_error}
-use Rattle.canon_func.specs.AskValues.{asked_results}
+use Rattle.canon_func.specs.AskedFor.{asked_results}
 use Rattle.canon_func.specs.Runs.{Leg, answers_in, living}
 use Rattle.canon_func.specs.Steps.{MayRun, HostAsked, Proceeds, Resumed, Resumes, RisesAt, SameButHost, ServesAsk, Serving, Started, Stepping, TrapsLate, ask_turn, so_far}
 use Rattle.canon_func.specs.Stores.{Callee, export_callee}

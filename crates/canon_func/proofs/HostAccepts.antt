@@ -16,13 +16,13 @@ use Rattle.canon_context.specs.declared.host.HostStop.TheVariants as stop
 use Rattle.canon_passing.specs.Args.{IsArea, IsNoArea}
 use Rattle.canon_host.specs.HostSide.{Answering, HostSide}
 use Rattle.canon_host.specs.declared.asked.Asked.{Asked}
-use Rattle.canon_func.specs.AskForms.{AskForm}
-use Rattle.canon_func.specs.AskValues.{asked_results}
+use Rattle.canon_func.specs.AskForms.{AskForm, AskLifts, AskLowerable}
+use Rattle.canon_func.specs.AskedFor.{asked_results}
 use Rattle.canon_func.specs.HostAsks.{AcceptsGiven, AcceptsHostBy, HostStopsBy, IsHostAsk, IsUnrefused, StopsAtAsk, StopsCalled, StopsGiven, asked_error}
 use Rattle.canon_func.specs.Stores.{Callee}
 use Rattle.canon_func.specs.declared.error.Error.{Error}
 use Rattle.canon_func.specs.declared.error.Error.TheVariants as error
-use Rattle.canon_func.proofs.AskLaws.{AskLawful, AskSound}
+use Rattle.canon_func.proofs.AskLaws.{AskLawful, AskSound, lift_excluded, lower_excluded}
 use Rattle.canon_func.proofs.Handled.{not_both, same_end}
 
 -- ---- one import is asked for
@@ -57,11 +57,11 @@ module _ {T : Type 0} (its : AskForm T) (sound : AskSound its) (lawful : AskLawf
   given_excluded results called e ok (inr (at, place, inl (x, told, exit, quiet))) = absurd (not_both called after.ledger ok.ended x exit ok.ends)
   given_excluded results called e ok (inr (at, place, inr (ended, ends, inl (short, far, unheld, left, quiet)))) = short
   given_excluded results called e ok (inr (at, place, inr (ended, ends, inr (f, low, held, told, tells, lowers)))) =
-      let lowerable : its.lowerable callee asked from.bytes results (leave ended) = subst (λ k. its.lowerable callee asked from.bytes results (leave k)) (same_end called ok.ended ended ok.ends ends) ok.lowerable in
-      told ∙ told_short index f (lawful.lower_excluded callee asked at (moment held from.bytes) to results low answers trap (leave ended) after.ledger f lowerable lowers kept none)
+      let lowerable : AskLowerable its callee asked results (leave ended) = subst (λ k. AskLowerable its callee asked results (leave k)) (same_end called ok.ended ended ok.ends ends) ok.lowerable in
+      told ∙ told_short index f (lower_excluded its callee asked at (moment held from.bytes) to results low answers trap (leave ended) after.ledger lawful lowerable kept none f lowers)
 
   called_excluded : (params : its.Params) (lifted : LedgerState) (e : Error) → AcceptsHostBy its answers_so callee fuel asked index words from.bytes before
-      → its.lifts before.store callee fuel asked words from.bytes (enter before.ledger) (Ok params) lifted
+      → AskLifts its before.store callee fuel asked words from.bytes (enter before.ledger) (Ok params) lifted
       → IsUnrefused e → StopsCalled its answers_so callee fuel asked index words from to answers trap before after e params lifted → e ≡ error.Fault fault.OutOfMemory
   called_excluded params lifted e ok lift unrefused (inl (wants, left, same, quiet)) = wants
   called_excluded params lifted e ok lift unrefused (inr (inl (stop.Refused, told, steps, gave, quiet))) = absurd (unrefused index told)
@@ -76,7 +76,7 @@ module _ {T : Type 0} (its : AskForm T) (sound : AskSound its) (lawful : AskLawf
   ends_so : (e : Error) → AcceptsHostBy its answers_so callee fuel asked index words from.bytes before → IsUnrefused e
       → StopsAtAsk its answers_so callee fuel asked index words from to answers trap before after e → e ≡ error.Fault fault.OutOfMemory
   ends_so e ok unrefused (inl (wants, left, same, quiet)) = declined_excluded e unrefused (sound.declined callee asked index before.log e wants)
-  ends_so e ok unrefused (inr (inl (f, told, lift, same, quiet))) = told ∙ sound.lift_excluded before.store callee fuel asked words from.bytes (enter before.ledger) after.ledger index f ok.liftable lift
+  ends_so e ok unrefused (inr (inl (f, told, lift, same, quiet))) = told ∙ lift_excluded its before.store callee fuel asked words from.bytes (enter before.ledger) after.ledger (lawful.reads before.store callee asked) index ok.liftable f lift
   ends_so e ok unrefused (inr (inr (params, lifted, lift, stops))) = called_excluded params lifted e ok lift unrefused stops
 
   pub asked_excluded : (e : Error) → HostStopsBy its answers_so callee fuel asked index words from to answers trap before after e → AcceptsHostBy its answers_so callee fuel asked index words from.bytes before → IsUnrefused e

@@ -30,15 +30,15 @@ use Rattle.canon_host.specs.Serves.{AnswersBy, ConcludesBy, EndsAsk, IsNoPlace, 
 use Rattle.canon_host.specs.declared.asked.Asked.{Asked}
 use Rattle.canon_host.specs.declared.error.HostError.{HostError}
 use Rattle.canon_host.specs.declared.error.HostError.TheVariants as host
-use Rattle.canon_func.specs.AskForms.{AskForm}
-use Rattle.canon_func.specs.AskValues.{asked_params, asked_results}
+use Rattle.canon_func.specs.AskForms.{AskForm, AskLifts, AskLowers}
+use Rattle.canon_func.specs.AskedFor.{asked_params, asked_results}
 use Rattle.canon_func.specs.Call.{OnAnswered}
 use Rattle.canon_func.specs.HostAsks.{RefusalCounted, HostStopsBy, IsHostAsk, IsToldPlace, NothingAsked, StopsAtAsk, StopsGiven, asked_error, asked_exit, called_on, host_error, stopped_error}
 use Rattle.canon_func.specs.Steps.{HostAskedBy, RisesAt, Serving}
 use Rattle.canon_func.specs.Stores.{Callee, export_callee}
 use Rattle.canon_func.specs.declared.error.Error.{Error}
 use Rattle.canon_func.specs.declared.error.Error.TheVariants as error
-use Rattle.canon_func.proofs.AskLaws.{AskSound, FollowsSteps}
+use Rattle.canon_func.proofs.AskLaws.{AskSound, FollowsSteps, lift_calm}
 use Rattle.canon_func.proofs.Composed.{answered as answered_so, answers as answered}
 use Rattle.canon_func.proofs.HostLowered.{CountsHost, fault_counted, host_counted, no_rise, no_trap_there, pointer_counts, call_row_is, stopped_counted}
 use Rattle.canon_func.proofs.Told.{told_goes, told_rises, untold_goes}
@@ -53,9 +53,9 @@ Out its seen moves answers_so log log2 refusals refusals2 index a b export asked
 
 -- ---- the chain of steps, said of the ask
 
-module _ {T G P S : Type 0} (its : AskForm T) (sound : AskSound its) (seen : G → Seen) (moves : GuestIn G → List Event → GuestIn G → Type 0) (answers_so : Answering T)
+module _ {T G A S : Type 0} (its : AskForm T) (sound : AskSound its) (seen : G → Seen) (moves : GuestIn G → List Event → GuestIn G → Type 0) (answers_so : Answering T)
     (log log2 : Option (List LoggedEntry)) (refusals refusals2 index : ℕ) (a b : Parts T G) (export : Export) (asked : Asked)
-    (words pad storage2 : List ℕ) (is : IsHostAsk (export_callee a.component export) index words asked) (how : Steps T G its.Params P its.Results S) (Logged : Values P its.Results → Option (List LoggedEntry))
+    (words pad storage2 : List ℕ) (is : IsHostAsk (export_callee a.component export) index words asked) (how : Steps T G A its.Params its.Results S) (Logged : Values its.Params its.Results → Option (List LoggedEntry))
     (law : FollowsSteps its answers_so how Logged seen moves log index a b (export_callee a.component export) asked words pad storage2) where
   abbrev callee : Callee
   callee = export_callee a.component export
@@ -161,11 +161,11 @@ module _ {T G P S : Type 0} (its : AskForm T) (sound : AskSound its) (seen : G �
   concluded_id s l results (Err e) (inr h) = law.id h.left.guest s (leave h.ends.1.0.ledger) h.at results (Err e) (lowered_at s l results (Err e) h)
 
   -- it was served
-  pub ask_served : (told : Values P its.Results) → row_words (asked_results callee asked) ≤ length storage2 → refusals2 ≡ refusals → log2 ≡ Logged told
+  pub ask_served : (told : Values its.Params its.Results) → row_words (asked_results callee asked) ≤ length storage2 → refusals2 ≡ refusals → log2 ≡ Logged told
       → ServesBy how asked a (words ++ pad) (Ok told) b storage2 → Ends (Ok tt)
   ask_served told room none_refused logs (params, lifted, lift, (called, same, calls, concludes)) =
       let lifting = law.lifts (enter a.ledger) (Ok params) lifted lift in
-      let gave = law.gives lifted called params told.results calls in
+      let gave = law.gives lifted called (how.told params) told.results calls in
       let core_is = called_core a.state (enter a.ledger) lifted called lifting.1 gave.1 in
       let ended_so = concludes_so called.state called.ledger told.results (Ok tt) (subst (λ k. ConcludesBy how.ends how.lowers asked k told.results (words ++ pad) (Ok tt) b storage2) core_is concludes) in
       let at = ended_so.at in
@@ -185,7 +185,7 @@ module _ {T G P S : Type 0} (its : AskForm T) (sound : AskSound its) (seen : G �
           record {
             asked = asked;
             is = is;
-            params = params;
+            params = how.told params;
             results = told.results;
             lifted = lifted.ledger;
             called = called.ledger;
@@ -194,7 +194,7 @@ module _ {T G P S : Type 0} (its : AskForm T) (sound : AskSound its) (seen : G �
             words = take (members_flat (asked_results callee asked)) storage2;
             lifts = lifting.0;
             steps = gave.0;
-            gave = gave_so params (Ok told.results) lifted called.ledger called.state lifting.1 (sym (concluded_state called.state called.ledger told.results (Ok tt) ended_so)) gave.2;
+            gave = gave_so (how.told params) (Ok told.results) lifted called.ledger called.state lifting.1 (sym (concluded_state called.state called.ledger told.results (Ok tt) ended_so)) gave.2;
             place = place at placed;
             ends = exit_is called.ledger ended.ledger (Ok tt) ends.0;
             asking = seen a.guest;
@@ -202,10 +202,10 @@ module _ {T G P S : Type 0} (its : AskForm T) (sound : AskSound its) (seen : G �
             answered = seen b.guest;
             lives = refl;
             tells = tells;
-            lowers = subst (λ o. its.lowers callee asked at (moment (seen left.guest) a.memory) (moment_of seen b) told.results (take (members_flat (asked_results callee asked)) storage2) by.answers o (leave ended.ledger) b.ledger (Ok tt)) none by.lowers;
+            lowers = subst (λ o. AskLowers its callee asked at (moment (seen left.guest) a.memory) (moment_of seen b) told.results (take (members_flat (asked_results callee asked)) storage2) by.answers o (leave ended.ledger) b.ledger (Ok tt)) none by.lowers;
             resumed = call_row_is (members_flat (asked_results callee asked)) storage2;
             count = length-take-le (row_words (asked_results callee asked)) storage2 room;
-            told = logs ∙ law.logs params told same;
+            told = logs ∙ (law.logs told ∙ ap (λ ps. its.logged_with log index ps told.results) same);
             refused_none = none_refused;
             same_store = concluded_id called.state called.ledger told.results (Ok tt) ended_so;
           },
@@ -318,7 +318,7 @@ module _ {T G P S : Type 0} (its : AskForm T) (sound : AskSound its) (seen : G �
 
     -- from the call on
     stopped_called : (e : HostError) → CountsHost refusals refusals2 e → (params : its.Params) (lifted : Parts T G) → lifted ≡ record a { ledger = lifted.ledger }
-        → its.lifts a.id callee a.fuel asked words a.memory (enter a.ledger) (Ok params) lifted.ledger → AnswersBy how asked lifted (how.told params) (words ++ pad) (Err e) b storage2 → Ends (Err (host_error index e))
+        → AskLifts its a.id callee a.fuel asked words a.memory (enter a.ledger) (Ok params) lifted.ledger → AnswersBy how asked lifted params (words ++ pad) (Err e) b storage2 → Ends (Err (host_error index e))
     stopped_called e counts params lifted same lift (inl (wants, words_same)) =
         let short = law.fails lifted b e wants in
         let is_short : host_error index e ≡ error.Fault fault.OutOfMemory = ap (host_error index) short.0 in
@@ -354,11 +354,11 @@ module _ {T G P S : Type 0} (its : AskForm T) (sound : AskSound its) (seen : G �
         let is_fault : host_error index e ≡ asked_error index x = ap (host_error index) told in
         let mine = law.lifts (enter a.ledger) (Err x) b lift in
         subst (λ err. Ends (Err err)) (sym is_fault) (quiet a.state b.ledger (asked_error index x) (fault_counted index x (subst (CountsHost refusals refusals2) told counts)) mine.1
-        (no_rise index x (moment_of seen a) (moment_of seen b) (sound.calm a.id callee a.fuel asked words a.memory (enter a.ledger) b.ledger x mine.0))
+        (no_rise index x (moment_of seen a) (moment_of seen b) (lift_calm its a.id callee a.fuel asked words a.memory (enter a.ledger) b.ledger x mine.0))
         (inr (inl (x, refl, mine.0, state_is a.state b.ledger mine.1, nothing_asked a.state b.ledger mine.1))))
     ask_stopped e counts (inr (inr (params, lifted, lift, rest))) =
         let lifting = law.lifts (enter a.ledger) (Ok params) lifted lift in
-        stopped_called e counts params lifted lifting.1 lifting.0 rest
+        stopped_called e counts (how.told params) lifted lifting.1 lifting.0 rest
 
   -- ---- by what was logged
 

@@ -10,12 +10,12 @@ use Rattle.canon_context.specs.declared.host.HostStop.{HostStop}
 use Rattle.canon_context.specs.declared.host.HostStop.TheVariants as stop
 use Rattle.canon_host.specs.HostSide.{Answering, HostSide}
 use Rattle.canon_host.specs.declared.asked.Asked.{Asked}
-use Rattle.canon_func.specs.AskForms.{AskForm}
+use Rattle.canon_func.specs.AskForms.{AskForm, AskLowers}
 use Rattle.canon_func.specs.HostAsks.{HostStopsBy, StopsAtAsk, StopsGiven, asked_error, stopped_error}
 use Rattle.canon_func.specs.Stores.{Callee}
 use Rattle.canon_func.specs.declared.error.Error.{Error}
 use Rattle.canon_func.specs.declared.error.Error.TheVariants as error
-use Rattle.canon_func.proofs.AskLaws.{AskSound}
+use Rattle.canon_func.proofs.AskLaws.{AskSound, lift_calm, lower_traps}
 
 -- ---- errors
 
@@ -123,12 +123,12 @@ module _ {T : Type 0} (its : AskForm T) (sound : AskSound its) (answers_so : Ans
   trapped_given n results called (inr (at, place, inl (x, told, exit, quiet))) = let w = trap_fault n index (fault.Resource x) told in cc
   trapped_given n results called (inr (at, place, inr (ended, ends, inl (short, far, unheld, left, quiet)))) = cc
   trapped_given n results called (inr (at, place, inr (ended, ends, inr (f, low, held, told, tells, lowers)))) =
-      sound.traps callee asked at (moment held from.bytes) to results low answers trap (leave ended) after.ledger
-      (subst (λ g. its.lowers callee asked at (moment held from.bytes) to results low answers trap (leave ended) after.ledger (Err g)) (trap_fault n index f told) lowers)
+      lower_traps its callee asked at (moment held from.bytes) to results low answers trap (leave ended) after.ledger
+      (subst (λ g. AskLowers its callee asked at (moment held from.bytes) to results low answers trap (leave ended) after.ledger (Err g)) (trap_fault n index f told) lowers)
 
   trapped_so : (n : ℕ) → At (error.ImportFault n fault.GuestTrap) → Traps
   trapped_so n (inl (wants, left, same, quiet)) = absurd (trap_no_decline n (sound.declined callee asked index before.log (error.ImportFault n fault.GuestTrap) wants))
-  trapped_so n (inr (inl (f, told, lift, same, quiet))) = absurd (sound.calm before.store callee fuel asked words from.bytes (enter before.ledger) after.ledger f lift (trap_fault n index f told))
+  trapped_so n (inr (inl (f, told, lift, same, quiet))) = absurd (lift_calm its before.store callee fuel asked words from.bytes (enter before.ledger) after.ledger f lift (trap_fault n index f told))
   trapped_so n (inr (inr (params, lifted, lift, inl (none, left, same, quiet)))) = cc
   trapped_so n (inr (inr (params, lifted, lift, inr (inl (why, told, steps, gave, quiet))))) = absurd (trap_no_stop n index why told)
   trapped_so n (inr (inr (params, lifted, lift, inr (inr (results, called, steps, gave, given))))) = trapped_given n results called given

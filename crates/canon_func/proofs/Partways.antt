@@ -20,7 +20,7 @@ use Rattle.canon_host.specs.declared.asked.Asked.{Asked}
 use Rattle.canon_func.specs.Asks.{AskStops, BuiltinIsShort, ask_step, builtin_at}
 use Rattle.canon_func.specs.Call.{HandlesPassOf, LiftsReturned, StopsReturned, StopsStartedOf, dynamic, dynamic_results, scope_exit, stopped_by}
 use Rattle.canon_func.specs.HostAsks.{HostStops, IsHostAsk, StopsAtAsk, StopsCalled, StopsGiven, asked_exit}
-use Rattle.canon_func.specs.AskForms.{AskForm, ask_at}
+use Rattle.canon_func.specs.AskForms.{AskForm, AskLifts, ask_at, ask_gives, ask_parts}
 use Rattle.canon_func.specs.Laws.{TurnPartway, TurnThrough, GoesOn, HostCalled, HostPartway, HostThrough, PassesPartway, RefusedTurnIsPartway, ask_steps, host_asked_steps, host_given_steps, last_steps}
 use Rattle.canon_func.specs.Passing.{Arguments, ReturnedValues}
 use Rattle.canon_func.specs.Runs.{AskTurn, BeginsInAsk, Each, IsNoStart, SomeReturn, living}
@@ -31,8 +31,8 @@ use Rattle.canon_func.specs.declared.error.Error.{Error}
 use Rattle.canon_func.specs.declared.error.Error.TheVariants as error
 use Rattle.canon_func.specs.Dynamic.{dynamic_reads}
 use Rattle.canon_func.specs.Passed.{ReadsRightly}
-use Rattle.canon_func.proofs.AskLaws.{AskLawful, AskSound}
-use Rattle.canon_func.proofs.FormLaws.{form_lawful, form_sound}
+use Rattle.canon_func.proofs.AskLaws.{AskLawful, lift_takes}
+use Rattle.canon_func.proofs.FormLaws.{form_lawful}
 use Rattle.canon_func.proofs.Throughs.{call_through, ended_can_leave, ended_is, host_through, left_through}
 
 -- ---- events
@@ -66,7 +66,7 @@ ended_partway_of l ended n steps ends rest = inr (inr (0, ap (λ (d : Done (Unit
 
 -- ---- an ask of a function of the host
 
-module _ {T : Type 0} (its : AskForm T) (sound : AskSound its) (lawful : AskLawful its) (answers_so : Answering T) (callee : Callee) (fuel : ℕ) (asked : Asked) (index : ℕ) (words : List ℕ)
+module _ {T : Type 0} (its : AskForm T) (lawful : AskLawful its) (answers_so : Answering T) (callee : Callee) (fuel : ℕ) (asked : Asked) (index : ℕ) (words : List ℕ)
     (from to : Moment) (answers : List Answer) (trap : Option Trap) (before after : HostSide T) (e : Error)
     (is : IsHostAsk callee index words asked) where
   abbrev FirstSteps : List LedgerStep
@@ -88,35 +88,34 @@ module _ {T : Type 0} (its : AskForm T) (sound : AskSound its) (lawful : AskLawf
   given_partway results called (inr (at, place, inl (x, told, refused, quiet))) =
       inr (inl (x, ap (λ (d : Done (Unit {0})). (numbered (λ _. 0) d).answer) refused, sym (ap (λ (d : Done (Unit {0})). d.after) refused)))
   given_partway results called (inr (at, place, inr (ended, ends, inl (short, far, unheld, left, quiet)))) =
-      subst (λ k. Partway called (ExitScope (top_scope called.handles) ∷ Leave ∷ leaves_steps (leave k) (its.gives callee asked results)) after.ledger) (ended_is called ended ends)
-      (ended_partway_of called ended after.ledger (Leave ∷ leaves_steps (leave ended) (its.gives callee asked results)) ends
-      (compose_parts ended (leave ended) after.ledger (Leave ∷ []) (leaves_steps (leave ended) (its.gives callee asked results)) (left_through ended (leave ended) (ended_can_leave called ended ends) refl)
-      (partway_none (leave ended) after.ledger (leaves_steps (leave ended) (its.gives callee asked results)) left)))
+      subst (λ k. Partway called (ExitScope (top_scope called.handles) ∷ Leave ∷ leaves_steps (leave k) (ask_gives its callee asked results)) after.ledger) (ended_is called ended ends)
+      (ended_partway_of called ended after.ledger (Leave ∷ leaves_steps (leave ended) (ask_gives its callee asked results)) ends
+      (compose_parts ended (leave ended) after.ledger (Leave ∷ []) (leaves_steps (leave ended) (ask_gives its callee asked results)) (left_through ended (leave ended) (ended_can_leave called ended ends) refl)
+      (partway_none (leave ended) after.ledger (leaves_steps (leave ended) (ask_gives its callee asked results)) left)))
   given_partway results called (inr (at, place, inr (ended, ends, inr (f, low, held, told, tells, lowers)))) =
-      subst (λ k. Partway called (ExitScope (top_scope called.handles) ∷ Leave ∷ leaves_steps (leave k) (its.gives callee asked results)) after.ledger) (ended_is called ended ends)
-      (ended_partway_of called ended after.ledger (Leave ∷ leaves_steps (leave ended) (its.gives callee asked results)) ends
-      (compose_parts ended (leave ended) after.ledger (Leave ∷ []) (leaves_steps (leave ended) (its.gives callee asked results)) (left_through ended (leave ended) (ended_can_leave called ended ends) refl)
-      (leaves_partway (stop_of f) (leave ended) after.ledger (its.gives callee asked results) (sound.ungiven callee asked at (moment held from.bytes) to results low answers trap (leave ended) after.ledger f lowers))))
+      subst (λ k. Partway called (ExitScope (top_scope called.handles) ∷ Leave ∷ leaves_steps (leave k) (ask_gives its callee asked results)) after.ledger) (ended_is called ended ends)
+      (ended_partway_of called ended after.ledger (Leave ∷ leaves_steps (leave ended) (ask_gives its callee asked results)) ends
+      (compose_parts ended (leave ended) after.ledger (Leave ∷ []) (leaves_steps (leave ended) (ask_gives its callee asked results)) (left_through ended (leave ended) (ended_can_leave called ended ends) refl)
+      (leaves_partway (stop_of f) (leave ended) after.ledger (ask_gives its callee asked results) lowers.passed.0)))
 
-  after_lifting : (params : its.Params) (lifted : LedgerState) → its.lifts before.store callee fuel asked words from.bytes (enter before.ledger) (Ok params) lifted → Through before.ledger FirstSteps lifted
+  after_lifting : (params : its.Params) (lifted : LedgerState) → AskLifts its before.store callee fuel asked words from.bytes (enter before.ledger) (Ok params) lifted → Through before.ledger FirstSteps lifted
       → StopsCalled its answers_so callee fuel asked index words from to answers trap before after e params lifted → PartwayStopped
   after_lifting params lifted lift first (inl (short, left, same, quiet)) = (asked, is, inl (whole_first lifted first left))
   after_lifting params lifted lift first (inr (inl (why, told, steps, gave, quiet))) = (asked, is, inr (inl (params, lifted, why, after.state, told, record { lifts = lift; first = first; steps = steps }, gave)))
   after_lifting params lifted lift first (inr (inr (results, called, steps, gave, given))) =
       (asked, is, inr (inr (params, results, lifted, called, after.state, record { lifts = lift; first = first; steps = steps }, gave, given_partway results called given)))
 
-  called_partway : (params : its.Params) (lifted : LedgerState) → its.lifts before.store callee fuel asked words from.bytes (enter before.ledger) (Ok params) lifted
+  called_partway : (params : its.Params) (lifted : LedgerState) → AskLifts its before.store callee fuel asked words from.bytes (enter before.ledger) (Ok params) lifted
       → StopsCalled its answers_so callee fuel asked index words from to answers trap before after e params lifted → PartwayStopped
   called_partway params lifted lift stops =
-      let taken = lawful.taken before.store callee fuel asked words from.bytes (enter before.ledger) lifted params lift in
-      let first : Through before.ledger FirstSteps lifted = (0, refl, leaves_through (enter before.ledger) lifted (its.parts before.store callee asked words from.bytes) taken.0 taken.1) in
+      let taken = lift_takes its before.store callee fuel asked words from.bytes (enter before.ledger) lifted (lawful.reads before.store callee asked) params lift in
+      let first : Through before.ledger FirstSteps lifted = (0, refl, leaves_through (enter before.ledger) lifted (ask_parts its before.store callee asked words from.bytes) taken.0 taken.1) in
       after_lifting params lifted lift first stops
 
   host_partway : StopsAtAsk its answers_so callee fuel asked index words from to answers trap before after e → (after.ledger ≡ before.ledger) ⊎ PartwayStopped
   host_partway (inl (why, left, same, quiet)) = inl left
   host_partway (inr (inl (f, told, lift, same, quiet))) =
-      let unlifted = sound.unlifted before.store callee fuel asked words from.bytes (enter before.ledger) after.ledger f lift in
-      inr (asked, is, inl (inr (inr (0, refl, leaves_partway (stop_of f) (enter before.ledger) after.ledger (its.parts before.store callee asked words from.bytes) unlifted))))
+      inr (asked, is, inl (inr (inr (0, refl, leaves_partway (stop_of f) (enter before.ledger) after.ledger (ask_parts its before.store callee asked words from.bytes) lift.3))))
   host_partway (inr (inr (params, lifted, lift, stops))) = inr (called_partway params lifted lift stops)
 
 -- what was served went through all steps
@@ -142,7 +141,7 @@ module _ {T : Type 0} (gives : Giving T) (lawful : (n : ℕ) → IsLawful (gives
       → TurnPartway gives callee fuel e index words from.bytes l n.ledger
   stops_partway asked index words from to answers trap l n e h =
       ⊎_elim (λ same. inl same) (λ part. inr (inr part))
-      (host_partway (ask_at gives index) (form_sound (gives.form index)) (form_lawful (gives.form index) (lawful index)) gives.answers callee fuel asked index words from to answers trap l n e h.is h.stops)
+      (host_partway (ask_at gives index) (form_lawful (gives.form index) (lawful index)) gives.answers callee fuel asked index words from to answers trap l n e h.is h.stops)
 
   served_partway : (t : AskTurn) (l n : HostSide T) (e : Error) → TurnThrough gives callee fuel t l n → TurnPartway gives callee fuel e t.index t.words t.memory l n.ledger
   served_partway t l n e (inl (builtin, through)) = inr (inl (builtin.called, builtin.is.known, through_partway l.ledger n.ledger (ask_steps callee builtin.called t.words) through))

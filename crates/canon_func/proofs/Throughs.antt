@@ -1,6 +1,6 @@
 -- The ledger of a call, step after step.
-use Rattle.std.proofs.Common.{List, None, Ok, Option, [], ap, inl, inr, refl, subst, sym, true, ℕ, ◌++◌, ◌∷◌, ◌≡◌}
-use Rattle.canon_memory.specs.Guest.{Moment, Seen, moment}
+use Rattle.std.proofs.Common.{List, Ok, Option, [], ap, inl, inr, refl, subst, sym, true, ℕ, ◌++◌, ◌∷◌, ◌≡◌}
+use Rattle.canon_memory.specs.Guest.{Moment, Seen}
 use Rattle.canon_memory.specs.declared.event.Event.{Event}
 use Rattle.canon_memory.specs.declared.event.Event.TheVariants as event
 use Rattle.canon_lowering.specs.Lowering.{Answer, Trap}
@@ -13,7 +13,7 @@ use Rattle.canon_resources.specs.Steps.{leaves_steps}
 use Rattle.canon_func.proofs.Leaving.{call_ended_leaves}
 use Rattle.canon_host.specs.Forms.{IsLawful}
 use Rattle.canon_host.specs.HostSide.{Answering, Giving, HostSide}
-use Rattle.canon_func.specs.AskForms.{AskForm, ask_at}
+use Rattle.canon_func.specs.AskForms.{AskForm, ask_at, ask_gives, ask_parts}
 use Rattle.canon_func.specs.Asks.{AreServed}
 use Rattle.canon_func.specs.Call.{Concludes, HandlesPassOf, dynamic, dynamic_results}
 use Rattle.canon_func.specs.HostAsks.{IsHostServed, IsHostServedBy, asked_exit}
@@ -23,8 +23,8 @@ use Rattle.canon_func.specs.Runs.{AskTurn, Each, OnReturn}
 use Rattle.canon_func.specs.Stores.{Callee}
 use Rattle.canon_func.specs.Dynamic.{dynamic_reads}
 use Rattle.canon_func.specs.Passed.{ReadsRightly}
-use Rattle.canon_func.proofs.AskLaws.{AskLawful, AskSound}
-use Rattle.canon_func.proofs.FormLaws.{form_lawful, form_sound}
+use Rattle.canon_func.proofs.AskLaws.{AskLawful, lift_takes}
+use Rattle.canon_func.proofs.FormLaws.{form_lawful}
 
 each_return : (P Q : List ℕ → List ℕ → Type 0) → ((ws m : List ℕ) → P ws m → Q ws m) → (events : List Event) → Each (OnReturn P) events → Each (OnReturn Q) events
 each_return P Q f [] h = tt
@@ -49,23 +49,22 @@ ended_is l ended ends = sym (ap (λ (d : Done (Unit {0})). d.after) ends)
 pub ended_can_leave : (l ended : LedgerState) → asked_exit l ≡ record { answer = Ok tt; after = ended } → can_leave ended.handles ≡ true
 ended_can_leave l ended ends = call_ended_leaves l ended ends
 
-module _ {T : Type 0} (its : AskForm T) (sound : AskSound its) (lawful : AskLawful its) (answers_so : Answering T) (callee : Callee) (fuel : ℕ) where
+module _ {T : Type 0} (its : AskForm T) (lawful : AskLawful its) (answers_so : Answering T) (callee : Callee) (fuel : ℕ) where
   pub form_through : (t : AskTurn) (l n : HostSide T) → IsHostServedBy its answers_so callee fuel t l n → HostThrough its answers_so callee fuel t l n
   form_through t l n h =
-      let lifts = lawful.taken l.store callee fuel h.asked t.words t.memory (enter l.ledger) h.lifted h.params h.lifts in
-      let gave = sound.given callee h.asked h.at (moment h.held t.memory) (moment h.answered t.resumed_memory) h.results h.words t.answers None (leave h.ended) n.ledger h.lowers in
+      let lifts = lift_takes its l.store callee fuel h.asked t.words t.memory (enter l.ledger) h.lifted (lawful.reads l.store callee h.asked) h.params h.lifts in
       record {
         served = h;
-        first = (0, refl, leaves_through (enter l.ledger) h.lifted (its.parts l.store callee h.asked t.words t.memory) lifts.0 lifts.1);
-        last = subst (λ k. Through h.called (ExitScope (top_scope h.called.handles) ∷ Leave ∷ leaves_steps (leave k) (its.gives callee h.asked h.results)) n.ledger) (ended_is h.called h.ended h.ends)
-            (ended_through h.called h.ended n.ledger (Leave ∷ leaves_steps (leave h.ended) (its.gives callee h.asked h.results)) h.ends
-            (compose h.ended (leave h.ended) n.ledger (Leave ∷ []) (leaves_steps (leave h.ended) (its.gives callee h.asked h.results)) (left_through h.ended (leave h.ended) (ended_can_leave h.called h.ended h.ends) refl)
-            (leaves_through (leave h.ended) n.ledger (its.gives callee h.asked h.results) gave.0 gave.1)));
+        first = (0, refl, leaves_through (enter l.ledger) h.lifted (ask_parts its l.store callee h.asked t.words t.memory) lifts.0 lifts.1);
+        last = subst (λ k. Through h.called (ExitScope (top_scope h.called.handles) ∷ Leave ∷ leaves_steps (leave k) (ask_gives its callee h.asked h.results)) n.ledger) (ended_is h.called h.ended h.ends)
+            (ended_through h.called h.ended n.ledger (Leave ∷ leaves_steps (leave h.ended) (ask_gives its callee h.asked h.results)) h.ends
+            (compose h.ended (leave h.ended) n.ledger (Leave ∷ []) (leaves_steps (leave h.ended) (ask_gives its callee h.asked h.results)) (left_through h.ended (leave h.ended) (ended_can_leave h.called h.ended h.ends) refl)
+            (leaves_through (leave h.ended) n.ledger (ask_gives its callee h.asked h.results) h.lowers.handles h.lowers.passed)));
       }
 
 module _ {T : Type 0} (gives : Giving T) (lawful : (n : ℕ) → IsLawful (gives.form n)) (callee : Callee) (fuel : ℕ) where
   pub host_through : (t : AskTurn) (l n : HostSide T) → IsHostServed gives callee fuel t l n → TurnThrough gives callee fuel t l n
-  host_through t l n h = inr (form_through (ask_at gives t.index) (form_sound (gives.form t.index)) (form_lawful (gives.form t.index) (lawful t.index)) gives.answers callee fuel t l n h)
+  host_through t l n h = inr (form_through (ask_at gives t.index) (form_lawful (gives.form t.index) (lawful t.index)) gives.answers callee fuel t l n h)
 
   pub turns_through : (turns : List AskTurn) (l n : HostSide T) → AreServed gives callee fuel turns l n → AsksThrough gives callee fuel turns l n
   turns_through [] l n h = h

@@ -8,7 +8,7 @@ use Rattle.canon_memory.specs.declared.event.Event.{Event}
 use Rattle.canon_memory.specs.Guest.{Goes, IsUnheld, Mark, Moment, Seen, moment}
 use Rattle.canon_lowering.proofs.Lowerings.{goes_none}
 use Rattle.canon_host.specs.declared.asked.Asked.{Asked}
-use Rattle.canon_func.specs.AskValues.{asked_results}
+use Rattle.canon_func.specs.AskedFor.{asked_results}
 use Rattle.canon_func.specs.HostAsks.{IsToldPlace}
 use Rattle.canon_func.specs.Steps.{RisesAt}
 use Rattle.canon_func.specs.Stores.{Callee}

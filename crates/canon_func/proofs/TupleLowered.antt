@@ -25,7 +25,7 @@ use Rattle.canon_context.specs.Faults.{stop_of}
 use Rattle.canon_func.proofs.Lowered.{args_done, args_refused, ended_moves}
 use Rattle.canon_func.specs.Call.{Adding, AsksByTypes, OnAnswered, words_within}
 use Rattle.canon_func.specs.Steps.{EndsFor}
-use Rattle.canon_func.specs.Typed.{tuple_args}
+use Rattle.canon_func.specs.PassedTuples.{tuple_args}
 use Rattle.canon_func.specs.TypedLaws.{blamed_one}
 use Rattle.canon_lowering.specs.Stages.{bare}
 use Rattle.canon_lowering.proofs.Lowerings.{unless}
@@ -43,7 +43,7 @@ wanted_not : (f : Fault) → IsElsewhere f ⊎ IsLargeFault f → f ≡ fault.Re
 wanted_not f (inl h) is = subst IsElsewhere is h
 wanted_not f (inr h) is = subst IsLargeFault is h
 
-told_so : (f : Fault) → IsElsewhere f ⊎ IsLargeFault f → told_fault f ≡ f
+pub told_so : (f : Fault) → IsElsewhere f ⊎ IsLargeFault f → told_fault f ≡ f
 told_so f h = value_told_by (λ x. x ≡ f) f (λ is. absurd (wanted_not f h is)) refl
 
 same_fault : (A : Type 0) (e f : Fault) → ◌≡◌ {A = Result A Fault} (Err e) (Err f) → e ≡ f

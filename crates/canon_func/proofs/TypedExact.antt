@@ -22,7 +22,7 @@ use Rattle.canon_types.specs.Instance.{Instance}
 use Rattle.canon_types.specs.Table.{shape_of}
 use Rattle.canon_types.specs.declared.types.InterfaceType.{InterfaceType}
 use Rattle.canon_types.specs.declared.types.InterfaceType.TheVariants as ty
-use Rattle.canon_func.specs.Dynamic.{words_of_results}
+use Rattle.canon_func.specs.Dynamic.{words_of_values}
 use Rattle.canon_func.specs.Laws.{OnlyRepresented, RepresentedIsEnough}
 use Rattle.canon_func.specs.Typed.{returned_setting}
 
@@ -111,7 +111,7 @@ only_represented Fit reading price faulted priced Means told taken callee option
 pub represented_enough : {R : Type 0} (Fit : Instance → InterfaceType → Type 0) (reading : Reading R) (price : Tree → ℕ) → IsPriced Fit reading price → IsFaulted Fit reading → RepresentedIsEnough Fit reading price
 represented_enough Fit reading price priced faulted callee options store type fuel words memory ts fits shape rep few =
     let w : Setting = returned_setting callee options store memory in (
-      words_of_results callee.encoding (narrow memory) words callee.results ts rep,
+      words_of_values max_results callee.encoding (narrow memory) words callee.results ts rep,
       λ k x (y, named, h). faultless Fit reading price priced max_results w type callee.results words fits shape faulted fuel ts few rep k y h,
       within Fit reading price priced max_results w type callee.results words fits shape faulted fuel ts few rep,
     )

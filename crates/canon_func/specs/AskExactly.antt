@@ -1,20 +1,21 @@
 -- Laws of an ask that a function over Rust types serves, by the types of its form: which parameters it has, and what its results are.
-use Rattle.std.specs.Prelude.{IsTrue, List, Ok, Result, false, length, take, ⊤, ℕ, ◌≡◌, ◌≤◌}
+use Rattle.std.specs.Prelude.{IsTrue, List, Ok, Result, false, length, ⊤, ℕ, ◌≡◌, ◌≤◌}
+use Rattle.canon_args.specs.Returned.{passed_reading}
 use Rattle.canon_context.specs.declared.fault.Fault.{Fault}
-use Rattle.canon_func.specs.AskForms.{ask_types}
-use Rattle.canon_func.specs.AskTypes.{asked_reading, asked_setting, asked_shape, given_shape, typed_given, typed_parts}
-use Rattle.canon_func.specs.AskValues.{asked_origin, asked_params, asked_results}
+use Rattle.canon_func.specs.AskForms.{AskLiftable, AskLifts, ask_parts, ask_types, typed_given}
+use Rattle.canon_func.specs.AskedFor.{asked_encoding, asked_params, asked_results, asked_shape, given_shape, lifted_words}
 use Rattle.canon_func.specs.Stores.{Callee}
 use Rattle.canon_host.specs.Forms.{HostFuncForm, RustTypes, TypedAnswering, over_types, over_values}
 use Rattle.canon_host.specs.TypedAsks.{IsTreeLifted}
 use Rattle.canon_host.specs.declared.asked.Asked.{Asked}
 use Rattle.canon_resources.specs.Parts.{LeavesTake}
 use Rattle.canon_ledger.specs.Ledger.{LedgerState}
+use Rattle.canon_reading.specs.Reading.{Setting}
 use Rattle.canon_reading.specs.Spots.{flat_in}
 use Rattle.canon_reading.specs.Ways.{AreLiftedBy}
 use Rattle.canon_lower_parts.specs.Given.{AreGivenBy}
 use Rattle.canon_lowering.specs.Storing.{narrow}
-use Rattle.canon_model.specs.Flat.{RepArgs}
+use Rattle.canon_model.specs.Flat.{RepArgs, max_params}
 use Rattle.canon_model.specs.Leaves.{members_leaves}
 use Rattle.canon_model.specs.Reach as reach
 use Rattle.canon_model.specs.Reach.{Kind}
@@ -31,12 +32,16 @@ pub record HasEnoughWords (callee : Callee) (asked : Asked) (words : List ℕ) :
 
 -- the words and memory of the ask represent these trees
 abbrev pub RepAskedWords : Callee → Asked → List ℕ → List ℕ → Trees → Type 0
-RepAskedWords callee asked words memory trees = RepArgs false (asked_origin callee asked memory).encoding (narrow memory) (take (args_words (asked_params callee asked)) words) (asked_params callee asked) trees
+RepAskedWords callee asked words memory trees = RepArgs false (asked_encoding callee asked) (narrow memory) (lifted_words callee asked words) (asked_params callee asked) trees
+
+-- where parameters are lifted in the store of a number, from the memory that the guest left
+abbrev pub asked_setting : Callee → Asked → List ℕ → ℕ → Setting
+asked_setting callee asked memory store = record { types = callee.types; memory = narrow memory; encoding = asked_encoding callee asked; options = asked.options; store = store }
 
 module _ {T P R : Type 0} (types : RustTypes P R) (may : TypedAnswering T P R) where
   -- parameters of an ask were lifted in the store of a number with this fuel, or why not
   abbrev pub LiftsParamsOf : ℕ → Callee → ℕ → Asked → List ℕ → List ℕ → LedgerState → Result P Fault → LedgerState → Type 0
-  LiftsParamsOf = (ask_types types may).lifts
+  LiftsParamsOf = AskLifts (ask_types types may)
 
   -- The words and memory represent trees of a cost within the fuel, which the parameters mean, and whose handles went through the ledger.
   pub record AreMeant (store : ℕ) (callee : Callee) (fuel : ℕ) (asked : Asked) (words memory : List ℕ) (before : LedgerState) (params : P) (after : LedgerState) : Type 0 where
@@ -44,8 +49,8 @@ module _ {T P R : Type 0} (types : RustTypes P R) (may : TypedAnswering T P R) w
     pub represented : RepAskedWords callee asked words memory trees
     pub means : types.lifts params (parts trees)
     pub within : types.cost (parts trees) ≤ fuel
-    pub steps : AreLiftedBy callee.types (members_leaves (asked_params callee asked) trees) (typed_parts types.reading callee asked words memory store)
-    pub taken : (hs : List ℕ) × LeavesTake before (typed_parts types.reading callee asked words memory store) hs after
+    pub steps : AreLiftedBy callee.types (members_leaves (asked_params callee asked) trees) (ask_parts (ask_types types may) store callee asked words memory)
+    pub taken : (hs : List ℕ) × LeavesTake before (ask_parts (ask_types types may) store callee asked words memory) hs after
 
   -- They are lifted only there.
   abbrev pub OnlyMeant : Type 0
@@ -55,20 +60,20 @@ module _ {T P R : Type 0} (types : RustTypes P R) (may : TypedAnswering T P R) w
   -- And where trees of a cost within the fuel are represented whose handles the ledger accepts, they are lifted, or memory runs out.
   abbrev pub MeantIsEnough : Type 0
   MeantIsEnough = (store : ℕ) (callee : Callee) (fuel : ℕ) (asked : Asked) (words memory : List ℕ) (before after end : LedgerState) (result : Result P Fault) (trees : Trees) (hs : List ℕ) → HasEnoughWords callee asked words
-      → RepAskedWords callee asked words memory trees → types.cost (parts trees) ≤ fuel → LeavesTake before (typed_parts types.reading callee asked words memory store) hs end
+      → RepAskedWords callee asked words memory trees → types.cost (parts trees) ≤ fuel → LeavesTake before (ask_parts (ask_types types may) store callee asked words memory) hs end
       → LiftsParamsOf store callee fuel asked words memory before result after → IsTreeLifted types.reading types.lifts (parts trees) end result after
 
   -- Of any type, where trees of a cost within the fuel are represented whose handles the ledger accepts, they can be lifted.
   abbrev pub MeantIsLiftable : Type 0
   MeantIsLiftable = (store : ℕ) (callee : Callee) (fuel : ℕ) (asked : Asked) (words memory : List ℕ) (before end : LedgerState) (trees : Trees) (hs : List ℕ) → HasEnoughWords callee asked words
       → types.fits_params callee.types (Tuple asked.func.params) → RepAskedWords callee asked words memory trees → types.cost (parts trees) ≤ fuel
-      → LeavesTake before (typed_parts types.reading callee asked words memory store) hs end → (ask_types types may).liftable store callee fuel asked words memory before
+      → LeavesTake before (ask_parts (ask_types types may) store callee asked words memory) hs end → AskLiftable (ask_types types may) store callee fuel asked words memory before
 
   -- Where they are lifted, no reached place has a fault.
   abbrev pub LiftedIsFaultless : Type 0
   LiftedIsFaultless = (store : ℕ) (callee : Callee) (fuel : ℕ) (asked : Asked) (words memory : List ℕ) (before after : LedgerState) (params : P) (k : Kind) (x : reach.At)
       → LiftsParamsOf store callee fuel asked words memory before (Ok params) after
-      → ¬ (asked_reading types.reading callee asked words memory).faults (asked_setting callee asked memory store) (flat_in (take (args_words (asked_params callee asked)) words) 0) (asked_shape callee asked) k x
+      → ¬ (passed_reading max_params (asked_shape callee asked) types.reading).faults (asked_setting callee asked memory store) (flat_in (lifted_words callee asked words) 0) (asked_shape callee asked) k x
 
   -- Trees that results walk, of which the words or the area are one, are what they mean, and of the function's type; their handles are given
   -- as those of the trees.

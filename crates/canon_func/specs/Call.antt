@@ -1,13 +1,12 @@
 -- What a call did. Of a call that entered the guest this is said over what its parameters and its results are (`Arguments` and `ReturnedValues`);
 -- at the end stands what it says of dynamic values.
 use Rattle.std.specs.Prelude.{Bool, Err, IfErr, IfOk, IsOkUnless, List, None, Ok, OnOk, Option, Result, Some, [], false, if◌then◌else◌, length, map, nat_le, not, slice_get, slice_index, true, ℕ, ⊤, ◌%◌, ◌&&◌, ◌++◌, ◌+◌, ◌<◌, ◌==◌, ◌∷◌, ◌≡◌, ◌≢◌, ◌≤◌, ◌⊎◌}
-use Rattle.canon_model.specs.Cost.{members_cost}
-use Rattle.canon_model.specs.Flat.{RepArgs, RepResults, max_params, max_results}
+use Rattle.canon_model.specs.Flat.{RepArgs, max_params, max_results}
 use Rattle.canon_model.specs.Homes.{ParamsHome, PointsTo, host_texts}
 use Rattle.canon_model.specs.Layout.{members_flat}
 use Rattle.canon_model.specs.Leaves.{Leaf, members_leaves, values_leaves}
 use Rattle.canon_model.specs.Memory.{InBlocks}
-use Rattle.canon_model.specs.Reach.{Kind, ValuesFault, badly_spelled, misaligned, no_case, no_scalar, out_of_bounds, values_reach}
+use Rattle.canon_model.specs.Reach.{Kind, badly_spelled, misaligned, no_case, no_scalar, out_of_bounds}
 use Rattle.canon_model.specs.Requests.{Request, host_asks, params_requests}
 use Rattle.canon_model.specs.Shape.{Members, member_count}
 use Rattle.canon_model.specs.Text.{in_utf16, in_utf8}
@@ -24,17 +23,13 @@ use Rattle.canon_types.specs.Refusal.{first_error}
 use Rattle.canon_ledger.specs.Handles.{can_leave, top_scope}
 use Rattle.canon_ledger.specs.Ledger.{Done, LedgerState, enter, leave, validate_scope_exit}
 use Rattle.canon_ledger.specs.declared.fault.ResourceFault.{ResourceFault}
-use Rattle.canon_resources.specs.Held.{Any}
-use Rattle.canon_resources.specs.Parts.{LeavesLift, LeavesStop, LeavesTake, Part, lift_parts, lower_parts, refusal_of}
+use Rattle.canon_resources.specs.Parts.{LeavesStop, LeavesTake, Part, lift_parts, lower_parts, refusal_of}
 use Rattle.canon_passing.specs.Args.{AsksTuple}
-use Rattle.canon_value_parts.specs.Fails.{AreSmall, BlamesMembers}
-use Rattle.canon_value_parts.specs.Lifts.{AreResults}
 use Rattle.canon_context.specs.Lowers.{fault_ending}
 use Rattle.canon_context.specs.Told.{place_of}
 use Rattle.canon_context.specs.Quiet.{have_block}
-use Rattle.canon_value_parts.specs.Resources.{all_passes, all_resources}
+use Rattle.canon_value_parts.specs.Resources.{all_passes}
 use Rattle.canon_context.specs.Faults.{stop_of}
-use Rattle.canon_val.specs.Value.{HaveTrees}
 use Rattle.canon_context.specs.declared.fault.At.{At}
 use Rattle.canon_context.specs.declared.fault.Fault.{Fault}
 use Rattle.canon_context.specs.declared.component.Import.{Import}
@@ -44,6 +39,7 @@ use Rattle.canon_val.specs.declared.val.Val.{Val}
 use Rattle.canon_host.specs.HostSide.{Giving, HostSide}
 use Rattle.canon_func.specs.Asks.{AreServed, AskStops, AcceptsAsk, Limits, import_words}
 use Rattle.canon_func.specs.HostAsks.{IsUnrefused}
+use Rattle.canon_func.specs.PassedValues.{values_args, values_results}
 use Rattle.canon_func.specs.Passing.{Arguments, ReturnedValues}
 use Rattle.canon_func.specs.Runs.{AskTurn, AsksLive, BeginsInAsk, ByLegs, Each, EndsIn, Grows, IsNoPost, IsNoReturn, IsNoStart, IsOneRun, IsPrefixOfRun, IsReallocAnswer, IsReturn, IsTrap, Leg, MayStart, OnAsk, OnReturn, OnStart, SomeReturn, answers_in, asks_in, living}
 use Rattle.canon_func.specs.Stores.{Callee}
@@ -378,24 +374,11 @@ result_parts callee words memory = map (lift_parts callee.types) (returned_leave
 
 -- values that are passed
 abbrev pub dynamic : Callee → List Val → Arguments
-dynamic callee params = record {
-  are = HaveTrees callee.params params;
-  small = AreSmall callee.encoding callee.params params;
-  blames = BlamesMembers callee.encoding callee.params params;
-  parts = param_parts callee params;
-}
+dynamic callee params = values_args callee.encoding callee.types callee.params params
 
--- values that are lifted: the only ones that the words and memory represent
+-- values that are lifted
 abbrev pub dynamic_results : Callee → ReturnedValues (List Val)
-dynamic_results callee = record {
-  are = λ words memory fuel left results. AreResults callee.encoding (narrow memory) callee.results words fuel left results;
-  faults = λ words memory kind at. ValuesFault callee.encoding (narrow memory) words max_results callee.results kind at;
-  reach = λ words memory. values_reach callee.encoding (narrow memory) words max_results callee.results;
-  parts = result_parts callee;
-  lifts = λ words memory before results after. LeavesLift callee.types before (returned_leaves callee words memory) (all_resources results) after;
-  accepts = λ words memory before after. (resources : List Any) × LeavesLift callee.types before (returned_leaves callee words memory) resources after;
-  represent = λ words memory fuel. (us : Trees) × RepResults false callee.encoding (narrow memory) words callee.results us × (members_cost callee.results us ≤ fuel);
-}
+dynamic_results callee = values_results callee.encoding callee.types max_results callee.results
 
 -- an answer with the results that it left, where it is Ok
 abbrev pub with_results : {R : Type 0} → Result (Unit {0}) Error → R → Result R Error

@@ -22,8 +22,8 @@ use Rattle.canon_host.specs.Serves.{IsNoPlace, IsResultPlace, results_place}
 use Rattle.canon_host.specs.declared.asked.Asked.{Asked}
 use Rattle.canon_host.specs.declared.error.HostError.{HostError}
 use Rattle.canon_host.specs.declared.error.HostError.TheVariants as host
-use Rattle.canon_func.specs.AskForms.{AskForm, ask_at}
-use Rattle.canon_func.specs.AskValues.{asked_params, asked_results}
+use Rattle.canon_func.specs.AskForms.{AskForm, AskLiftable, AskLifts, AskLowerable, AskLowers, ask_at}
+use Rattle.canon_func.specs.AskedFor.{asked_params, asked_results}
 use Rattle.canon_func.specs.Runs.{AskTurn, living}
 use Rattle.canon_func.specs.Stores.{Callee}
 use Rattle.canon_func.specs.declared.error.Error.{Error}
@@ -102,7 +102,7 @@ module _ {T : Type 0} (its : AskForm T) (answers_so : Answering T) (callee : Cal
     pub ended : LedgerState
     pub at : ℕ
     pub words : List ℕ
-    pub lifts : its.lifts before.store callee fuel asked t.words t.memory (enter before.ledger) (Ok params) lifted
+    pub lifts : AskLifts its before.store callee fuel asked t.words t.memory (enter before.ledger) (Ok params) lifted
     pub steps : HostSteps lifted called
     pub gave : Gives before t.index asked t.memory lifted params (Ok results) after.state called
     pub place : IsResultPlace callee.types.types asked t.memory t.words at
@@ -113,7 +113,7 @@ module _ {T : Type 0} (its : AskForm T) (answers_so : Answering T) (callee : Cal
     pub answered : Seen
     pub lives : living asking ≡ t.live
     pub tells : IsToldPlace callee asked at asking held
-    pub lowers : its.lowers callee asked at (moment held t.memory) (moment answered t.resumed_memory) results words t.answers None (leave ended) after.ledger (Ok tt)
+    pub lowers : AskLowers its callee asked at (moment held t.memory) (moment answered t.resumed_memory) results words t.answers None (leave ended) after.ledger (Ok tt)
     pub resumed : t.resumed_words ≡ resumed_with callee asked words
     pub count : length t.resumed_words ≡ row_words (asked_results callee asked)
     pub told : after.log ≡ its.logged_with before.log t.index params results
@@ -133,7 +133,7 @@ module _ {T : Type 0} (its : AskForm T) (answers_so : Answering T) (callee : Cal
         ⊎ ((ended : LedgerState) × (asked_exit called ≡ record { answer = Ok tt; after = ended })
         × (((e ≡ error.Fault fault.OutOfMemory) × (max_results < members_flat (asked_results callee asked)) × IsUnheld from.guest to.guest × (after.ledger ≡ leave ended) × NothingAsked from.bytes to.bytes answers trap)
         ⊎ ((f : Fault) × (low : List ℕ) × (held : Seen) × (e ≡ asked_error index f) × IsToldPlace callee asked at from.guest held
-        × its.lowers callee asked at (moment held from.bytes) to results low answers trap (leave ended) after.ledger (Err f))))))
+        × AskLowers its callee asked at (moment held from.bytes) to results low answers trap (leave ended) after.ledger (Err f))))))
 
     -- from the call on: there was no room for results, the function gave none, or it stopped later
     abbrev pub StopsCalled : its.Params → LedgerState → Type 0
@@ -146,8 +146,8 @@ module _ {T : Type 0} (its : AskForm T) (answers_so : Answering T) (callee : Cal
     abbrev pub StopsAtAsk : Type 0
     StopsAtAsk =
         (its.declines callee asked index before.log e × (after.ledger ≡ before.ledger) × (after.state ≡ before.state) × NothingAsked from.bytes to.bytes answers trap)
-        ⊎ ((f : Fault) × (e ≡ asked_error index f) × its.lifts before.store callee fuel asked words from.bytes (enter before.ledger) (Err f) after.ledger × (after.state ≡ before.state) × NothingAsked from.bytes to.bytes answers trap)
-        ⊎ ((params : its.Params) × (lifted : LedgerState) × its.lifts before.store callee fuel asked words from.bytes (enter before.ledger) (Ok params) lifted × StopsCalled params lifted)
+        ⊎ ((f : Fault) × (e ≡ asked_error index f) × AskLifts its before.store callee fuel asked words from.bytes (enter before.ledger) (Err f) after.ledger × (after.state ≡ before.state) × NothingAsked from.bytes to.bytes answers trap)
+        ⊎ ((params : its.Params) × (lifted : LedgerState) × AskLifts its before.store callee fuel asked words from.bytes (enter before.ledger) (Ok params) lifted × StopsCalled params lifted)
 
     -- the asks that are exposed stay
     pub record HostStopsBy : Type 0 where
@@ -166,12 +166,12 @@ module _ {T : Type 0} (its : AskForm T) (answers_so : Answering T) (callee : Cal
     pub place : IsResultPlace callee.types.types asked memory words at
     pub ended : LedgerState
     pub ends : asked_exit called ≡ record { answer = Ok tt; after = ended }
-    pub lowerable : its.lowerable callee asked memory results (leave ended)
+    pub lowerable : AskLowerable its callee asked results (leave ended)
 
   pub record AcceptsHostBy (asked : Asked) (index : ℕ) (words memory : List ℕ) (before : HostSide T) : Type 0 where
     pub is : IsHostAsk callee index words asked
-    pub liftable : its.liftable before.store callee fuel asked words memory (enter before.ledger)
-    pub given : (params : its.Params) (results : its.Results) (from called : LedgerState) (state : T) → its.lifts before.store callee fuel asked words memory (enter before.ledger) (Ok params) from
+    pub liftable : AskLiftable its before.store callee fuel asked words memory (enter before.ledger)
+    pub given : (params : its.Params) (results : its.Results) (from called : LedgerState) (state : T) → AskLifts its before.store callee fuel asked words memory (enter before.ledger) (Ok params) from
         → HostSteps from called → Gives before index asked memory from params (Ok results) state called → AcceptsGiven asked words memory results called
 
 -- ---- by the form of the import

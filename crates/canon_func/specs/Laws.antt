@@ -22,8 +22,7 @@ use Rattle.canon_val.specs.declared.val.Val.{Val}
 use Rattle.canon_host.specs.HostSide.{Answering, Giving, HostSide}
 use Rattle.canon_host.specs.Serves.{IsResultPlace}
 use Rattle.canon_host.specs.declared.asked.Asked.{Asked}
-use Rattle.canon_func.specs.AskTypes.{given_shape}
-use Rattle.canon_func.specs.AskValues.{asked_results}
+use Rattle.canon_func.specs.AskedFor.{asked_results, given_shape}
 use Rattle.canon_func.specs.Asks.{AskStops, IsBuiltinServed, builtin_at, builtin_step}
 use Rattle.canon_reading.specs.Reading.{Reading}
 use Rattle.canon_reading.specs.Ways.{AreLiftedBy}
@@ -34,7 +33,7 @@ use Rattle.canon_types.specs.Table.{shape_of}
 use Rattle.canon_types.specs.declared.types.InterfaceType.{InterfaceType}
 use Rattle.canon_types.specs.declared.types.InterfaceType.TheVariants as ty
 use Rattle.canon_func.specs.Call.{CountsWithin, HandlesPass, HandlesPassOf, param_parts, result_parts}
-use Rattle.canon_func.specs.AskForms.{AskForm, ask_at}
+use Rattle.canon_func.specs.AskForms.{AskForm, AskLifts, ask_at, ask_gives, ask_parts}
 use Rattle.canon_func.specs.HostAsks.{Gives, IsHostAsk, IsHostServedBy, stopped_error}
 use Rattle.canon_func.specs.Passing.{Arguments, ReturnedValues}
 use Rattle.canon_func.specs.Typed.{params_shape, results_shape, typed_args, typed_results}
@@ -52,13 +51,13 @@ ask_steps callee called words = builtin_step callee.types called (low (slice_ind
 
 -- up to the call of a function of the host: a scope is opened, and the handles of the parameters are lifted
 abbrev pub host_asked_steps : {T : Type 0} → AskForm T → ℕ → Callee → Asked → List ℕ → List ℕ → LedgerState → List LedgerStep
-host_asked_steps its store callee asked words memory l = Enter ∷ leaves_steps (enter l) (its.parts store callee asked words memory)
+host_asked_steps its store callee asked words memory l = Enter ∷ leaves_steps (enter l) (ask_parts its store callee asked words memory)
 
 -- from then on: the scope ends and is left, and the handles of the results are lowered
 abbrev pub host_given_steps : {T : Type 0} → (its : AskForm T) → Callee → Asked → its.Results → LedgerState → List LedgerStep
 host_given_steps its callee asked results l =
     let exit : LedgerStep = ExitScope (top_scope l.handles) in
-    exit ∷ Leave ∷ leaves_steps (leave (do_step exit l).after) (its.gives callee asked results)
+    exit ∷ Leave ∷ leaves_steps (leave (do_step exit l).after) (ask_gives its callee asked results)
 
 -- A function of the host served the ask, and the ledger went through these steps, each of which it accepted, but for those that the function
 -- took itself, which may be refused. The parameters and the results are those of the ask.
@@ -114,7 +113,7 @@ CallIsThrough {T} gives = (callee : Callee) (fuel : ℕ) (params : List Val) (tu
 module _ {T : Type 0} (its : AskForm T) (answers_so : Answering T) (callee : Callee) (fuel : ℕ) (index : ℕ) (words memory : List ℕ) (served : HostSide T) where
   -- A function of the host was called on these parameters, which were lifted before: the ledger went so far, and to here by the function itself.
   pub record HostCalled (asked : Asked) (params : its.Params) (lifted called : LedgerState) : Type 0 where
-    pub lifts : its.lifts served.store callee fuel asked words memory (enter served.ledger) (Ok params) lifted
+    pub lifts : AskLifts its served.store callee fuel asked words memory (enter served.ledger) (Ok params) lifted
     pub first : Through served.ledger (host_asked_steps its served.store callee asked words memory served.ledger) lifted
     pub steps : HostSteps lifted called
 

@@ -1,8 +1,7 @@
 pub mod Alike
 pub mod AskExactly
 pub mod AskForms
-pub mod AskTypes
-pub mod AskValues
+pub mod AskedFor
 pub mod Asks
 pub mod Call
 pub mod Called
@@ -10,6 +9,8 @@ pub mod Drop
 pub mod HostAsks
 pub mod Laws
 pub mod Letting
+pub mod PassedTuples
+pub mod PassedValues
 pub mod Passing
 pub mod Runs
 pub mod Steps

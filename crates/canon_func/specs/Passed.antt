@@ -40,13 +40,17 @@ BlamesRightly args = (f : Fault) → args.blames f → BlamesUnfit args f
 
 -- ---- results
 
-pub record ReadsRightly {R : Type 0} (callee : Callee) (its : ReturnedValues R) : Type 0 where
+-- of so many words
+pub record ReadsWords {R : Type 0} (count : ℕ) (its : ReturnedValues R) : Type 0 where
   -- results are of as many words as they take
-  pub whole : (ws m : List ℕ) (fuel left : ℕ) (results : R) → its.are ws m fuel left results → length ws ≡ result_words callee.results
+  pub whole : (ws m : List ℕ) (fuel left : ℕ) (results : R) → its.are ws m fuel left results → length ws ≡ count
   -- what represents results is as many words as they take, has no fault, and its charges are no more than the fuel that it is said with
-  pub counted : (ws m : List ℕ) (fuel : ℕ) → its.represent ws m fuel → length ws ≡ result_words callee.results
+  pub counted : (ws m : List ℕ) (fuel : ℕ) → its.represent ws m fuel → length ws ≡ count
   pub faultless : (ws m : List ℕ) (fuel : ℕ) (k : Kind) (x : reach.At) → its.faults ws m k x → its.represent ws m fuel → ⊥
   pub within : (ws m : List ℕ) (fuel : ℕ) → its.represent ws m fuel → its.reach ws m ≤ fuel
   -- what was lifted is accepted, and what is accepted takes its parts
   pub accepted : (ws m : List ℕ) (l n : LedgerState) (results : R) → its.lifts ws m l results n → its.accepts ws m l n
   pub taken : (ws m : List ℕ) (l n : LedgerState) → its.accepts ws m l n → (hs : List ℕ) × LeavesTake l (its.parts ws m) hs n
+
+abbrev pub ReadsRightly : {R : Type 0} → Callee → ReturnedValues R → Type 0
+ReadsRightly callee its = ReadsWords (result_words callee.results) its

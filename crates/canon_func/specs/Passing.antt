@@ -1,5 +1,5 @@
 -- What is said of the parameters and of the results of a call, whatever they are.
-use Rattle.std.specs.Prelude.{List, ℕ}
+use Rattle.std.specs.Prelude.{Bool, List, ℕ}
 use Rattle.canon_model.specs.Reach as reach
 use Rattle.canon_model.specs.Reach.{Kind}
 use Rattle.canon_model.specs.Tree.{Trees}
@@ -34,3 +34,5 @@ pub record ReturnedValues (R : Type 0) : Type 1 where
   pub accepts : List ℕ → List ℕ → LedgerState → LedgerState → Type 0
   -- they represent results that cost no more than this fuel
   pub represent : List ℕ → List ℕ → ℕ → Type 0
+  -- whether lifting them takes memory of the host
+  pub allocates : Bool

@@ -40,7 +40,7 @@ use Rattle.canon_host.specs.declared.asked.Asked.{Asked}
 use Rattle.canon_func.specs.Asks.{AreServed, AskStops, IsServed, Limits}
 use Rattle.canon_func.specs.AskForms.{AskForm, ask_at}
 use Rattle.canon_func.specs.HostAsks.{HostStopsBy, IsHostServedBy, IsUnrefused}
-use Rattle.canon_func.specs.AskValues.{asked_results}
+use Rattle.canon_func.specs.AskedFor.{asked_results}
 use Rattle.canon_func.specs.Call.{AcceptsLater, AfterTurns, AskCause, AsksByTypes, Concludes, CountsWithin, HasFault, IsPastFuel, Left, StopsStartedOf, refused_by, result_words, scope_exit, words_within}
 use Rattle.canon_func.specs.Passing.{Arguments, ReturnedValues}
 use Rattle.canon_func.specs.Runs.{AskTurn, AsksFrom, AsksLive, Each, EndsIn, Grows, IsNoPost, IsNoStart, IsOneRun, IsPrefixOfRun, IsReturn, IsTrap, Leg, MayStart, OnReturn, OnStart, answers_in, asks_in, events_in, last_len, legs_in, posts, since_last, living, Living}

@@ -12,12 +12,15 @@ use Rattle.canon_lower_parts.proofs.Blamed.{large_fault}
 use Rattle.canon_lower_parts.specs.Blames.{IsElsewhere, IsLargeFault}
 use Rattle.canon_model.specs.Flat.{max_results}
 use Rattle.canon_model.specs.Layout.{flat}
-use Rattle.canon_model.specs.Shape.{Members}
+use Rattle.canon_model.specs.Shape.{Members, of_places, product}
 use Rattle.canon_model.specs.Text.{Encoding}
+use Rattle.canon_types.specs.Instance.{Instance}
 use Rattle.canon_model.specs.Tree.{Tree, Trees, parts, trees_of}
-use Rattle.canon_func.specs.Passed.{BlamesRightly, ReadsRightly}
+use Rattle.canon_func.specs.Call.{words_within}
+use Rattle.canon_func.specs.Passed.{BlamesRightly, ReadsRightly, ReadsWords}
+use Rattle.canon_func.specs.PassedTuples.{tuple_results, tuple_setting}
 use Rattle.canon_func.specs.Stores.{Callee}
-use Rattle.canon_func.specs.Typed.{results_shape, returned_setting, typed_args, typed_results}
+use Rattle.canon_func.specs.Typed.{typed_args, typed_results}
 
 -- ---- parameters
 
@@ -62,13 +65,17 @@ typed_blames Walks walkable v gives callee = tuple_blames (Walks v) gives callee
 
 -- ---- results
 
-pub typed_reads : {R : Type 0} (reading : Reading R) → AreTaken reading → (options store : ℕ) (callee : Callee) → ReadsRightly callee (typed_results reading options store callee)
-typed_reads reading law options store callee = record {
+pub tuple_reads : {R : Type 0} (reading : Reading R) → AreTaken reading → (types : Instance) (enc : Encoding) (options store most : ℕ) (ms : Members)
+    → ReadsWords (words_within most ms) (tuple_results reading types enc options store most ms)
+tuple_reads reading law types enc options store most ms = record {
   whole = λ words memory fuel left results are. are.0;
   counted = λ words memory fuel rep. rep.0;
   faultless = λ words memory fuel k x fault rep. rep.1 k x fault;
   within = λ words memory fuel rep. rep.2;
   accepted = λ words memory l n results read.
-      passed_taken reading law (nat_le (flat (results_shape callee)) max_results) (returned_setting callee options store memory) (flat_in words 0) (results_shape callee) l n results read;
+      passed_taken reading law (nat_le (flat (product of_places ms)) most) (tuple_setting reading types enc options store most ms memory) (flat_in words 0) (product of_places ms) l n results read;
   taken = λ words memory l n taken. taken;
 }
+
+pub typed_reads : {R : Type 0} (reading : Reading R) → AreTaken reading → (options store : ℕ) (callee : Callee) → ReadsRightly callee (typed_results reading options store callee)
+typed_reads reading law options store callee = tuple_reads reading law callee.types callee.encoding options store max_results callee.results

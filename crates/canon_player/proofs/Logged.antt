@@ -38,7 +38,7 @@ one_more log log1 log2 x is e = (x ∷ [], e ∙ ap (λ o. logged o x) is)
 -- so is it after an ask that was served in a form
 told_more : {T : Type 0} (form : HostFuncForm T) (index : ℕ) (params : (ask_form form).Params) (results : (ask_form form).Results) (log : List LoggedEntry) (log1 log2 : Option (List LoggedEntry))
     → log1 ≡ Some log → log2 ≡ (ask_form form).logged_with log1 index params results → Longer log log2
-told_more (over_values may) index params results log log1 log2 is e = one_more log log1 log2 (entry index params.items results) is e
+told_more (over_values may) index params results log log1 log2 is e = one_more log log1 log2 (entry index params results) is e
 told_more (over_types types may) index params results log log1 log2 is e = same log log1 log2 is e
 
 module _ {T : Type 0} (gives : Giving T) (callee : Callee) (fuel : ℕ) where

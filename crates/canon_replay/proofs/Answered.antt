@@ -1,22 +1,20 @@
 -- Asks that were served by functions over values, where the log is exposed: what each was asked with, what it gave, and with which words the guest was
 -- resumed.
-use Rattle.std.proofs.Common.{All, Bool, List, None, Ok, Option, Some, Vec, [], ap, append_assoc, append-nil, arith, false, inl, inr, length, length-append, map, refl, slice_set, subst, suc, sym, take, true, zero, ℕ, ◌+◌, ◌++◌, ◌-◌, ◌<◌, ◌∙◌, ◌∷◌, ◌≡◌, ◌≤◌}
+use Rattle.std.proofs.Common.{All, Bool, List, None, Ok, Option, Some, [], ap, append_assoc, append-nil, arith, false, inl, inr, length, length-append, map, refl, slice_set, subst, suc, sym, take, true, zero, ℕ, ◌+◌, ◌++◌, ◌-◌, ◌<◌, ◌∙◌, ◌∷◌, ◌≡◌, ◌≤◌}
 use Rattle.std.proofs.Math.Seq.{set-append_seam}
 use Rattle.std.proofs.lemmas.Bool.{le-leb, leb-false, leb-true}
 use Rattle.std.proofs.lemmas.List.Elements.{All-head, All-tail}
 use Rattle.std.proofs.lemmas.Option.{slice_get_within}
 use Rattle.std.specs.Option.{option_and_then}
 use Rattle.std.specs.Prelude.{IfSome, if◌then◌else◌, nat_le, slice_get, ⊤}
-use Rattle.std.specs.declared.alloc.Global.{Global}
 use Rattle.canon_model.specs.Flat.{AreWords, max_params, max_results}
 use Rattle.canon_model.specs.Homes.{AnyPointer, MembersFlatHome, ParamsHome, host_texts}
 use Rattle.canon_model.specs.Layout.{members_flat}
 use Rattle.canon_model.specs.Leaves.{Leaf, values_leaves}
 use Rattle.canon_model.specs.Shape.{Members}
-use Rattle.canon_model.specs.Text.{Encoding}
 use Rattle.canon_model.specs.Tree.{Trees}
 use Rattle.canon_ledger.specs.Handles as handles
-use Rattle.canon_ledger.specs.Handles.{Handles, no_scope}
+use Rattle.canon_ledger.specs.Handles.{no_scope}
 use Rattle.canon_ledger.specs.Ledger.{Done, LedgerState, enter, leave}
 use Rattle.canon_lowering.specs.Lowering.{Answer, Ending, WhenDone, addresses_of, done}
 use Rattle.canon_lowering.specs.Storing.{narrow}
@@ -26,7 +24,6 @@ use Rattle.canon_resources.specs.Parts.{LeavesLift, LeavesTake, PassedResource, 
 use Rattle.canon_types.specs.Instance.{Instance}
 use Rattle.canon_types.specs.Table.{param_members, result_members}
 use Rattle.canon_passing.specs.Args.{args_words}
-use Rattle.canon_context.specs.Component.{encoding_in}
 use Rattle.canon_context.specs.Quiet.{have_block}
 use Rattle.canon_context.specs.declared.component.Component.{Component}
 use Rattle.canon_context.specs.declared.component.Export.{Export}
@@ -47,10 +44,11 @@ use Rattle.canon_host.specs.HostSide.{Answering, Giving, HostSide, LoggedEntry, 
 use Rattle.canon_host.specs.Imports.{logged}
 use Rattle.canon_host.specs.Serves.{IsResultPlace}
 use Rattle.canon_host.specs.declared.asked.Asked.{Asked}
+use Rattle.canon_func.proofs.AskLaws.{lower_done}
 use Rattle.canon_func.proofs.HostAccepts.{is_asked}
 use Rattle.canon_func.proofs.Scoped.{leave_entered}
 use Rattle.canon_func.specs.AskForms.{ask_form, ask_values}
-use Rattle.canon_func.specs.AskValues.{asked_params, asked_results}
+use Rattle.canon_func.specs.AskedFor.{asked_encoding, asked_params, asked_results}
 use Rattle.canon_func.specs.Asks.{AreServed, builtin_at, builtin_of}
 use Rattle.canon_func.specs.HostAsks.{IsHostAsk, IsHostServedBy, asked_exit}
 use Rattle.canon_func.specs.Runs.{AskTurn}
@@ -112,10 +110,6 @@ module _ (c : Component) (recordable : IsRecordable c) where
 
 -- ---- one ask
 
--- how its texts are spelled, and the words that its parameters are lifted from
-abbrev pub asked_encoding : Callee → Asked → Encoding
-asked_encoding callee asked = encoding_in (slice_get callee.options asked.options)
-
 -- The results have trees, and the words of the resume are as many as they take in a row, and the homes of these.
 pub record IsGivenRow (callee : Callee) (asked : Asked) (words : List ℕ) (results : List Val) : Type 0 where
   pub trees : Trees
@@ -176,7 +170,7 @@ module _ {T : Type 0} (may : ValuesAnswering T) (answers_so : Answering T) (call
   its : IsPlainAsk callee h.asked
   its = plain.plain t.index t.words h.asked h.is
 
-  abbrev given : Vec Val Global
+  abbrev given : List Val
   given = h.params
 
   abbrev gave_results : List Val
@@ -185,25 +179,25 @@ module _ {T : Type 0} (may : ValuesAnswering T) (answers_so : Answering T) (call
   abbrev its_words : List ℕ
   its_words = take (args_words (asked_params callee h.asked)) t.words
 
-  are : AreValues max_params (asked_encoding callee h.asked) (narrow t.memory) (asked_params callee h.asked) its_words fuel h.lifts.0 given.items
-  are = h.lifts.1.ok
+  are : AreValues max_params (asked_encoding callee h.asked) (narrow t.memory) (asked_params callee h.asked) its_words fuel h.lifts.1 given
+  are = h.lifts.2
 
   leaves : values_leaves (narrow t.memory) its_words max_params (asked_params callee h.asked) ≡ []
-  leaves = no_leaves callee.types (enter before.ledger) (values_leaves (narrow t.memory) its_words max_params (asked_params callee h.asked)) (all_resources given.items) h.lifted
-      (no_member_resources true (asked_params callee h.asked) given.items are.its_trees (members_handles (asked_params callee h.asked) its.params) are.have) h.lifts.1.handles
+  leaves = no_leaves callee.types (enter before.ledger) (values_leaves (narrow t.memory) its_words max_params (asked_params callee h.asked)) (all_resources given) h.lifted
+      (no_member_resources true (asked_params callee h.asked) given are.its_trees (members_handles (asked_params callee h.asked) its.params) are.have) h.lifts.3
 
   lifted_is : h.lifted ≡ enter before.ledger
-  lifted_is = lifts_none callee.types (enter before.ledger) h.lifted (values_leaves (narrow t.memory) its_words max_params (asked_params callee h.asked)) (all_resources given.items) leaves h.lifts.1.handles
+  lifted_is = lifts_none callee.types (enter before.ledger) h.lifted (values_leaves (narrow t.memory) its_words max_params (asked_params callee h.asked)) (all_resources given) leaves h.lifts.3
 
-  by_log : (h.called ≡ h.lifted) × answers_so entries t.index before.state given.items (Ok gave_results) after.state
-  by_log = subst (λ (o : Option (List LoggedEntry)). IfSome o (λ es. (h.called ≡ h.lifted) × answers_so es t.index before.state given.items (Ok gave_results) after.state)) told h.gave.1
+  by_log : (h.called ≡ h.lifted) × answers_so entries t.index before.state given (Ok gave_results) after.state
+  by_log = subst (λ (o : Option (List LoggedEntry)). IfSome o (λ es. (h.called ≡ h.lifted) × answers_so es t.index before.state given (Ok gave_results) after.state)) told h.gave.1
 
   ended_is : h.ended ≡ enter before.ledger
   ended_is = ap (λ (d : Done (Unit {0})). d.after) (sym h.ends ∙ (ap asked_exit (by_log.0 ∙ lifted_is) ∙ entered_ends before.ledger))
 
   ledger_kept : after.ledger ≡ before.ledger
   ledger_kept =
-      takes_none callee.types (leave h.ended) after.ledger (all_passes results_are gave_results) h.lowers.crosses.given (no_row_passes results_are gave_results (members_handles results_are its.results)) h.lowers.crosses.passed
+      takes_none callee.types (leave h.ended) after.ledger (all_passes results_are gave_results) h.lowers.handles (no_row_passes results_are gave_results (members_handles results_are its.results)) h.lowers.passed
       ∙ (ap leave ended_is ∙ leave_entered before.ledger)
 
   quiet_is : t.answers ≡ []
@@ -211,8 +205,8 @@ module _ {T : Type 0} (may : ValuesAnswering T) (answers_so : Answering T) (call
 
   row_by : (b : Bool) → nat_le (members_flat results_are) max_results ≡ b → IsGivenRow callee h.asked t.resumed_words gave_results
   row_by true e =
-      let (low, same, none) = h.lowers.crosses.lowered.near (leb-true (members_flat results_are) max_results e) in
-      let shown = when_done h.lowers.crosses.ending _ h.lowers.crosses.ends low.shown in
+      let (low, same, none) = h.lowers.lowered.near (leb-true (members_flat results_are) max_results e) in
+      let shown = when_done h.lowers.ending _ (lower_done (ask_values may) callee h.asked h.at _ _ h.results h.words t.answers None _ _ h.lowers) low.shown in
       let words : t.resumed_words ≡ h.words = h.resumed ∙ ap (λ (b : Bool). if b then h.words else []) e in
       record {
         trees = shown.it;
@@ -223,17 +217,17 @@ module _ {T : Type 0} (may : ValuesAnswering T) (answers_so : Answering T) (call
       }
   row_by false e =
       let past : max_results < members_flat results_are = leb-false (members_flat results_are) max_results e in
-      let (low, same, none) = h.lowers.crosses.lowered.far past in
-      let shown = when_done h.lowers.crosses.ending _ h.lowers.crosses.ends low.shown in
+      let (low, same, none) = h.lowers.lowered.far past in
+      let shown = when_done h.lowers.ending _ (lower_done (ask_values may) callee h.asked h.at _ _ h.results h.words t.answers None _ _ h.lowers) low.shown in
       record { trees = shown.it; have = shown.is; count = h.count; homes = λ n. absurd (omega (arith, n, past)) }
 
   answers_once : AnswersOnce answers_so callee fuel t before after entries
   answers_once = record {
-    params = given.items;
+    params = given;
     results = gave_results;
-    answered = record { asked = h.asked; is = h.is; left = h.lifts.0; are = are; leaves = leaves; at = h.at; place = h.place; row = row_by (nat_le (members_flat results_are) max_results) refl; quiet = quiet_is };
+    answered = record { asked = h.asked; is = h.is; left = h.lifts.1; are = are; leaves = leaves; at = h.at; place = h.place; row = row_by (nat_le (members_flat results_are) max_results) refl; quiet = quiet_is };
     gave = by_log.1;
-    log = h.told ∙ ap (λ (o : Option (List LoggedEntry)). logged o (entry t.index given.items gave_results)) told;
+    log = h.told ∙ ap (λ (o : Option (List LoggedEntry)). logged o (entry t.index given gave_results)) told;
     ledger = ledger_kept;
   }
 

@@ -18,7 +18,7 @@ use Rattle.canon_host.specs.HostSide.{Answering, HostSide, LoggedEntry, gives_va
 use Rattle.canon_host.specs.declared.asked.Asked.{Asked}
 use Rattle.canon_func.proofs.HostStopped.{refused_no_fault}
 use Rattle.canon_func.specs.AskForms.{ask_values}
-use Rattle.canon_func.specs.AskValues.{asked_params, asked_results}
+use Rattle.canon_func.specs.AskedFor.{asked_params, asked_results}
 use Rattle.canon_func.specs.Asks.{AcceptsAsk, AskStops, IsShort}
 use Rattle.canon_func.specs.HostAsks.{AcceptsHost, HostStops, StopsAtAsk, StopsGiven, asked_exit}
 use Rattle.canon_func.specs.Runs.{AskTurn}
@@ -94,8 +94,8 @@ module _ {T : Type 0} (answers_so : Answering T) (callee : Callee) (fuel : ℕ) 
     at_refused asked n (inr (inr (params, lifted, lift, inl (wants, left, same, quiet)))) = cc
     at_refused asked n (inr (inr (params, lifted, lift, inr (inl (stop.OutOfMemory, told, steps, gave, quiet))))) = cc
     at_refused asked n (inr (inr (params, lifted, lift, inr (inl (stop.Refused, told, steps, gave, quiet))))) =
-        let by = subst (λ (o : Option (List LoggedEntry)). IfSome o (λ es. (after.ledger ≡ lifted) × answers_so es index before.state params.items (Err stop.Refused) after.state)) logged gave.1 in
-        (params.items, before.state, after.state, by.1)
+        let by = subst (λ (o : Option (List LoggedEntry)). IfSome o (λ es. (after.ledger ≡ lifted) × answers_so es index before.state params (Err stop.Refused) after.state)) logged gave.1 in
+        (params, before.state, after.state, by.1)
     at_refused asked n (inr (inr (params, lifted, lift, inr (inr (results, called, steps, gave, given))))) = absurd (given_no_refusal asked n results called given)
 
     pub refused_so : (n : ℕ) → AskStops (gives_values answers_so) callee fuel (error.HostRefused n) index words from to answers trap before after → MayRefuse
@@ -131,26 +131,22 @@ module _ (callee : Callee) (fuel : ℕ) (imports : HasPlainImports callee) (asks
     accepts_turn : AcceptsHost (GivesNext {T = T} asks) callee fuel a.asked turn.index turn.words turn.memory h
     accepts_turn = record {
       is = a.is;
-      liftable = record {
-        trees = a.are.its_trees;
-        represented = a.are.represented;
-        cheap = within_fuel fuel a.left (members_cost (asked_params callee a.asked) a.are.its_trees) a.are.spent;
-        resources = [];
-        lifted = enter h.ledger;
-        lifts = subst (λ (ls : List Leaf). LeavesLift callee.types (enter h.ledger) ls [] (enter h.ledger)) (sym a.leaves) (refl, refl);
-      };
+      liftable = (
+        (a.are.its_trees, a.are.represented, within_fuel fuel a.left (members_cost (asked_params callee a.asked) a.are.its_trees) a.are.spent),
+        enter h.ledger,
+        ([], subst (λ (ls : List Leaf). LeavesLift callee.types (enter h.ledger) ls [] (enter h.ledger)) (sym a.leaves) (refl, refl)),
+      );
       given = λ params results from called state lift steps gave.
-          let by = subst (λ (o : Option (List LoggedEntry)). IfSome o (λ es. (called ≡ from) × (GivesNext {T = T} asks).answers es turn.index h.state params.items (Ok results) state)) logged gave.1 in
-          let there : called ≡ enter h.ledger = by.0 ∙ lifts_none callee.types (enter h.ledger) from _ _ a.leaves lift.1.handles in
-          let same = its_results params.items results h.state state by.1 in
+          let by = subst (λ (o : Option (List LoggedEntry)). IfSome o (λ es. (called ≡ from) × (GivesNext {T = T} asks).answers es turn.index h.state params (Ok results) state)) logged gave.1 in
+          let there : called ≡ enter h.ledger = by.0 ∙ lifts_none callee.types (enter h.ledger) from _ _ a.leaves lift.3 in
+          let same = its_results params results h.state state by.1 in
           record {
             at = a.at;
             place = a.place;
             ended = enter h.ledger;
             ends = ap asked_exit there ∙ entered_ends h.ledger;
             lowerable = record {
-              trees = a.row.trees;
-              have = same_trees false (asked_results callee a.asked) r.results results a.row.trees (members_handles (asked_results callee a.asked) its.results) same a.row.have;
+              able = (a.row.trees, same_trees false (asked_results callee a.asked) r.results results a.row.trees (members_handles (asked_results callee a.asked) its.results) same a.row.have);
               small = all_small _ (asked_results callee a.asked) results its.quiet;
               given = [];
               left = leave (enter h.ledger);

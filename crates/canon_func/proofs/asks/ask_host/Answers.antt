@@ -12,7 +12,7 @@ returns-in-Ok-clause-did g c = λ export words pad front is.
     let j = c.serve.new.self in
     imports_served L (imports.gives (imports.plan i)) (imports.log i) (imports.log j) (imports.refusals i)
     (imports.refusals j) c.args.index c.args.core.now c.serve.new.cx.0 export c.args.asked.now words pad c.args.storage.now c.serve.new.storage
-    is front (call_has_room _ _ c.args.storage.now c.serve.new.storage c.serve.auto.storage (found_asked _ c.args.asked.now.func _ c.requires.asked.found c.requires.room))
+    is front (g.met.I.Imports.lawful (imports.plan i) c.args.index) (call_has_room _ _ c.args.storage.now c.serve.new.storage c.serve.auto.storage (found_asked _ c.args.asked.now.func _ c.requires.asked.found c.requires.room))
     (found_asked _ c.args.asked.now.func _ c.requires.asked.found c.in-Ok.ensures.serves)
 
 pub returns-in-Err-clause-did : goal.returns-in-Err-clause-did
@@ -26,4 +26,4 @@ returns-in-Err-clause-did g c = λ export words pad front is.
     subst (λ e. Asking L (imports.gives (imports.plan i)) (imports.log i) (imports.log j) (imports.refusals i) (imports.refusals j) c.args.index a b export c.args.asked.now words pad c.args.storage.now c.serve.new.storage is front (Err e))
     (sym c.host_error.ensures)
     (imports_stopped L (imports.gives (imports.plan i)) (imports.log i) (imports.log j) (imports.refusals i) (imports.refusals j) c.args.index a b export c.args.asked.now words pad c.args.storage.now c.serve.new.storage
-    is front (g.met.G.Guest.stays _) c.in-Err.error (found_asked _ c.args.asked.now.func _ c.requires.asked.found c.in-Err.ensures.serves))
+    is front (g.met.I.Imports.lawful (imports.plan i) c.args.index) (g.met.G.Guest.stays _) c.in-Err.error (found_asked _ c.args.asked.now.func _ c.requires.asked.found c.in-Err.ensures.serves))
