@@ -36,7 +36,7 @@ use Rattle.canon_val.specs.declared.val.Val.{Val}
 use Rattle.canon_val.specs.declared.val.Val.TheVariants as val
 use Rattle.canon_value_parts.proofs.Values.{have_count}
 use Rattle.canon_host.specs.Asked.{RestStays, row_words}
-use Rattle.canon_host.specs.Serves.{AnswersBy, AskValues, Calling, CallsBy, CallsFunction, CallsBlank, ConcludesAsk, ConcludesBy, EndingRelation, Ends, EndsAsk, IsResultPlace, IsWholeRow, WasToldPlace, WasNotTold, LiftsAsked, LoweringRelation, LowersGiven, Serves, ServesBy, ServesEnteredBy, ServesAsTold, Steps, TellsPlace, ToldBy, Values, left_from, blank, value_steps, params_and_results}
+use Rattle.canon_host.specs.Serves.{AnswersBy, AskValues, Calling, CallsBy, CallsFunction, CallsBlank, ConcludesAsk, ConcludesBy, EndingRelation, Ends, EndsAsk, IsResultPlace, IsWholeRow, WasToldPlace, WasNotTold, LiftsAsked, LoweringRelation, LowersGiven, Serves, ServesBy, ServesEnteredBy, ServesAsTold, Steps, TellsPlace, ToldBy, Values, left_from, blank, params_and_results}
 use Rattle.canon_host.specs.declared.asked.Asked.{Asked}
 use Rattle.canon_host.specs.declared.error.HostError.{HostError}
 use Rattle.canon_lowering.specs.Stages.{GoesBy, Stage}

@@ -1,4 +1,3 @@
-use Rattle.std.proofs.Common.{inl, refl}
 use Rattle.canon_ledger.specs.Ledger.{enter}
 use Rattle.canon_host.proofs.Serving.{served, with_ledger}
 use Rattle.canon_host.proofs.serve.serve.Goals as goal

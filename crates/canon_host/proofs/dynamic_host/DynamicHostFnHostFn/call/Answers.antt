@@ -1,4 +1,4 @@
-use Rattle.std.proofs.Common.{Ok, ap, false, inr, length, refl, subst, ◌∙◌}
+use Rattle.std.proofs.Common.{Ok, ap, false, length, refl, subst, ◌∙◌}
 use Rattle.std.specs.Prelude.{drop, replicate}
 use Rattle.canon_types.specs.Table.{TypeTable, tuple_members}
 use Rattle.canon_context.specs.declared.component.Component.{Component}

@@ -3,8 +3,8 @@ use Rattle.canon_context.specs.Host.{StaticKeeps}
 use Rattle.canon_host.specs.ServesTyped.{CallsTyped}
 use Rattle.canon_host.proofs.static_host.StaticHostFnHostFn.call.Goals as goal
 
-pub call_once-requires-clause-keeps : goal.call_once-requires-clause-keeps
-call_once-requires-clause-keeps g c = subst (λ f. StaticKeeps g.F.Fn f) (sym c.self.view_is) c.requires.ready
+pub call_once-requires : goal.call_once-requires
+call_once-requires g c = record { keeps = subst (λ f. StaticKeeps g.F.Fn f) (sym c.self.view_is) c.requires.ready }
 
 pub returns-in-Ok-clause-calls : goal.returns-in-Ok-clause-calls
 returns-in-Ok-clause-calls g c =
