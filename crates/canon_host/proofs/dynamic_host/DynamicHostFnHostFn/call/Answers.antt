@@ -18,11 +18,12 @@ returns-in-Ok-call_in_row-clause-calls g c =
     let types = c.types.ensures ∙ ap (λ (x : Component). x.types.types) c.component.ensures.component in
     let slots = ap (λ m. replicate m (val.Bool false)) (c.value_count-count.ensures ∙ ap (λ (t : TypeTable). member_count (tuple_members t a.asked.now.func.results)) types) in
     let given = c.len-given.ensures ∙ a.params.ok.0 in
-    let made = c.in-Ok-call_in_row.ensures in
-    (params_and_results a.params.items (drop n nv),
-    left_in_row g.F.Fn c.self.inside.f g.G.Guest.seen g.G.Guest.moves a.asked.now a.core.now c.call_in_row.new.core a.params.items items old nv n c.value_count-count.result given slots c.in-Ok.ensures c.deref_mut.ensures.value
-    made.params _ (ask_whole _ nv items c.in-Ok.values.ok.0 (made.count ∙ ap length c.deref_mut.ensures.value)) made.calls,
-    refl,
-    subst (λ f. CallsBlank g.F.Fn f a.asked.now a.core.now a.params.items (Ok tt) c.call_in_row.new.core (drop n nv)) c.self.view_is
-    (calls_blank g.F.Fn c.self.inside.f g.G.Guest.seen g.G.Guest.moves a.asked.now a.core.now c.call_in_row.new.core a.params.items items old nv n c.value_count-count.result given slots c.in-Ok.ensures c.deref_mut.ensures.value
-    made.params (Ok tt) made.calls))
+    let made = c.in-Ok-call_in_row.ensures in (
+      params_and_results a.params.items (drop n nv),
+      left_in_row g.F.Fn c.self.inside.f g.G.Guest.seen g.G.Guest.moves a.asked.now a.core.now c.call_in_row.new.core a.params.items items old nv n c.value_count-count.result given slots c.in-Ok.ensures c.deref_mut.ensures.value
+          made.params _ (ask_whole _ nv items c.in-Ok.values.ok.0 (made.count ∙ ap length c.deref_mut.ensures.value)) made.calls,
+      refl,
+      subst (λ f. CallsBlank g.F.Fn f a.asked.now a.core.now a.params.items (Ok tt) c.call_in_row.new.core (drop n nv)) c.self.view_is
+          (calls_blank g.F.Fn c.self.inside.f g.G.Guest.seen g.G.Guest.moves a.asked.now a.core.now c.call_in_row.new.core a.params.items items old nv n c.value_count-count.result given slots c.in-Ok.ensures c.deref_mut.ensures.value
+          made.params (Ok tt) made.calls),
+    )
