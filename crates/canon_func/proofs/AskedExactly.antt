@@ -16,7 +16,7 @@ use Rattle.canon_host.proofs.TypedAsked.{its_lifted}
 use Rattle.canon_host.specs.Forms.{AreLawful, HostFuncForm, IsLawful, IsOfThese, RustTypes, TypedAnswering, over_types, over_values}
 use Rattle.canon_host.specs.declared.asked.Asked.{Asked}
 use Rattle.canon_context.proofs.Told.{blamed_by}
-use Rattle.canon_context.specs.Told.{ToldAt}
+use Rattle.canon_context.specs.Told.{Exactly, ToldAt}
 use Rattle.canon_context.specs.declared.fault.Fault.{Fault}
 use Rattle.canon_ledger.specs.Ledger.{LedgerState}
 use Rattle.canon_reading.specs.Apart.{AreApart, IsApart}
@@ -47,7 +47,7 @@ module _ {T P R : Type 0} (types : RustTypes P R) (may : TypedAnswering T P R) (
       × (left : ℕ) × Lifts (passed_reading max_params (asked_shape callee asked) types.reading) (asked_setting callee asked memory store) (flat_in (lifted_words callee asked words) 0) (asked_shape callee asked) before fuel result after left
   lifts_back store callee fuel asked words memory before after (Ok params) (fits, left, (count, some, spent), read) = (fits, left, (read, spent))
   lifts_back store callee fuel asked words memory before after (Err f) (fits, blames, short, stops) =
-      (fits, 0, record { cause = blamed_by _ (ToldAt _) _ _ (λ k x (y, named, h). (y, named_place x y named, h)) (λ low. low) f blames; memory = short; stops = stops; falls = omega arith })
+      (fits, 0, record { cause = blamed_by (Exactly (((ask_types types may).reads store callee asked).faults (lifted_words callee asked words) memory)) (ToldAt _) _ _ (λ k x (y, named, h). (y, named_place x y named, h)) (λ low. low) f blames; memory = short; stops = stops; falls = omega arith })
 
   only_meant : IsTrue types.told → OnlyMeant types may
   only_meant told store callee fuel asked words memory before after params are (fits, left, (count, some, spent), read) =

@@ -33,6 +33,7 @@ use Rattle.canon_context.specs.declared.fault.Fault.{Fault}
 use Rattle.canon_context.specs.declared.fault.Fault.TheVariants as fault
 use Rattle.canon_val.specs.declared.val.Val.{Val}
 use Rattle.canon_func.specs.Call.{Adding, AsksByTypes, AsksNothing, OnAnswered, words_within}
+use Rattle.canon_func.specs.PassedValues.{values_args}
 use Rattle.canon_func.specs.Passing.{Arguments}
 use Rattle.canon_func.specs.Steps.{EndsFor, LowersFor}
 use Rattle.canon_func.specs.Stores.{params_in}
@@ -194,12 +195,7 @@ module _ {K : Type 0} (a b : Stage K) (enc : Encoding) (ms : Members) (args : Ar
 -- dynamic values were
 module _ {K : Type 0} (a b : Stage K) (enc : Encoding) (types : Instance) (ms ns : Members) (params : List Val) (l l2 : LedgerState) (is : ms ≡ ns) where
   abbrev values : Members → Arguments
-  values ks = record {
-    are = HaveTrees ks params;
-    small = AreSmall enc ks params;
-    blames = BlamesMembers enc ks params;
-    parts = map (lower_parts types) (all_passes ks params);
-  }
+  values ks = values_args enc types ks params
 
   abbrev LowersValues : List ℕ → List ℕ → Ending → Type 0
   LowersValues words handles ending = LowersParams a b enc ms (HaveTrees ms params) words handles ending

@@ -5,7 +5,7 @@ use Rattle.canon_args.specs.Areas.{passed_kept, passed_taken}
 use Rattle.canon_args.specs.Returned.{passed_count, passed_reading}
 use Rattle.canon_context.proofs.Told.{blamed_by}
 use Rattle.canon_context.specs.Core.{Parts, component_types}
-use Rattle.canon_context.specs.Told.{Exactly, IsPlace, LiftBlames, place_of}
+use Rattle.canon_context.specs.Told.{Exactly, IsPlace, LiftBlames, ToldAt, place_of}
 use Rattle.canon_context.specs.declared.component.Export.{Export}
 use Rattle.canon_context.specs.declared.fault.At.{At as Place}
 use Rattle.canon_context.specs.declared.fault.At.TheVariants as at
@@ -56,7 +56,8 @@ module _ {A : Type 0} (R : Reading A) (types : Instance) (enc : Encoding) (optio
   tuple_read v count (read, spent) = (count, (l, n, read), spent)
 
   pub tuple_blamed : (e : Fault) → LiftsThere (Err e) → LiftBlames (Exactly (its.faults words memory)) (fuel < its.reach words memory) e
-  tuple_blamed e h = blamed_by _ (Exactly (its.faults words memory)) _ _ (λ k x (y, place, fault). (y, place_named x y place, fault)) (λ low. low) e h.cause
+  tuple_blamed e h = blamed_by (ToldAt ((passed_reading most (product of_places ms) R).faults (record { types = types; memory = narrow memory; encoding = enc; options = options; store = store }) (flat_in words 0) (product of_places ms)))
+      (Exactly (its.faults words memory)) _ _ (λ k x (y, place, fault). (y, place_named x y place, fault)) (λ low. low) e h.cause
 
 module _ {T G A : Type 0} (core : Parts T G) (export : Export) (words : List ℕ) (m : LedgerState) (R : Reading A) (taken : AreTaken R) (Fit : Instance → InterfaceType → Type 0) (kept : IsKept Fit R) where
   abbrev callee : Callee

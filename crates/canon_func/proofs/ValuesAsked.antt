@@ -1,5 +1,5 @@
 -- An ask of a function of the host over values is as it has to be.
-use Rattle.std.proofs.Common.{Err, List, Ok, Option, Result, Vec, [], ap, inl, inr, map, refl, subst, ℕ, ◌∷◌, ◌≡◌, ◌⊎◌}
+use Rattle.std.proofs.Common.{Err, List, Ok, Option, Result, Vec, [], ap, arith, inl, inr, map, refl, subst, ℕ, ◌∷◌, ◌≡◌, ◌⊎◌}
 use Rattle.std.specs.Prelude.{Bool, IfErr, false}
 use Rattle.std.specs.declared.alloc.Global.{Global}
 use Rattle.canon_model.proofs.Layouts.{members_end-le-size}

@@ -61,5 +61,5 @@ module _ {R : Type 0} (reading : Reading R) (types : Instance) (enc : Encoding) 
     lifts = TupleReads;
     accepts = λ words memory before after. (hs : List ℕ) × LeavesTake before (tuple_steps words memory) hs after;
     represent = λ words memory fuel. (length words ≡ passed_count most ms) × ((k : Kind) (x : reach.At) → ¬ TupleFault words memory k x) × (tuple_reach words memory ≤ fuel);
-    allocates = reading.allocates;
+    allocates = tuple_reading.allocates;
   }
