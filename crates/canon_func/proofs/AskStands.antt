@@ -1,5 +1,5 @@
 -- What memory holds after an ask for which a call was refused.
-use Rattle.std.proofs.Common.{Err, List, Option, [], arith, inl, inr, refl, subst, sym, ℕ, ⊎_elim, ◌<◌, ◌∷◌, ◌≤◌, ◌⊎◌}
+use Rattle.std.proofs.Common.{Err, List, Option, [], arith, inl, inr, refl, subst, sym, ℕ, ⊎_elim, ◌<◌, ◌∷◌, ◌≤◌}
 use Rattle.std.proofs.lemmas.Bool.{cases_lt, le-leb, lt-leb}
 use Rattle.std.specs.Prelude.{false, if◌then◌else◌, ◌≢◌}
 use Rattle.canon_model.specs.Flat.{max_results}

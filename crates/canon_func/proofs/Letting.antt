@@ -1,5 +1,5 @@
 -- How often a call lets the guest go: once at its start, and once for each ask that was served.
-use Rattle.std.proofs.Common.{Err, List, None, Ok, Option, Result, Some, [], ap, append_assoc, arith, inl, inr, refl, subst, suc, sym, zero, ℕ, ◌++◌, ◌+◌, ◌∙◌, ◌∷◌, ◌≡◌, ◌≢◌, ◌≤◌, ◌⊎◌}
+use Rattle.std.proofs.Common.{Err, List, None, Ok, Option, Result, Some, [], ap, append_assoc, arith, inl, inr, refl, subst, suc, sym, zero, ℕ, ◌++◌, ◌+◌, ◌∙◌, ◌∷◌, ◌≡◌, ◌≢◌, ◌≤◌}
 use Rattle.std.specs.Prelude.{⊤}
 use Rattle.canon_memory.specs.Guest.{Moment}
 use Rattle.canon_memory.specs.declared.event.Event.{Event}
@@ -10,7 +10,7 @@ use Rattle.canon_func.specs.Asks.{Limits}
 use Rattle.canon_func.specs.Call.{IsCallOf}
 use Rattle.canon_func.specs.Letting.{let_go_in}
 use Rattle.canon_func.specs.Passing.{Arguments, ReturnedValues}
-use Rattle.canon_func.specs.Runs.{AskTurn, BeginsInAsk, Each, IsOneRun, IsPrefixOfRun, IsRealloc, IsRun, Leg, MayStart, MayTrap, asks_in, events_in, last_len, posts}
+use Rattle.canon_func.specs.Runs.{AskTurn, BeginsInAsk, Each, IsOneRun, IsPrefixOfRun, IsRealloc, Leg, MayStart, MayTrap, asks_in, events_in, last_len, posts}
 use Rattle.canon_func.specs.Stores.{Callee}
 use Rattle.canon_func.specs.declared.error.Error.{Error}
 use Rattle.canon_func.specs.declared.error.Error.TheVariants as error

@@ -74,53 +74,10 @@ ends_for T some ps fault.OutOfMemory ending (inl is) = inl is
 ends_for T some ps fault.OutOfMemory ending (inr both) = inr both.1
 ends_for T some ps f ending is = is
 
--- what a refused lowering says of the guest's moves
-pub refused_moves : (V : Type 0) (f : Fault) (P : Type 0) → UnlessShort (fault_ending f) P → OnAnswered {T = V} (Err (error.Fault f)) P
-refused_moves V fault.OutOfMemory P m = tt
-refused_moves V (fault.TypeMismatch k) P m = m
-refused_moves V (fault.FieldName k) P m = m
-refused_moves V (fault.UnknownCase k) P m = m
-refused_moves V (fault.UnknownFlag k) P m = m
-refused_moves V (fault.PayloadExpected k) P m = m
-refused_moves V (fault.PayloadNotExpected k) P m = m
-refused_moves V (fault.LengthMismatch k) P m = m
-refused_moves V (fault.StringTooLong n) P m = m
-refused_moves V (fault.SizeOverflow n) P m = m
-refused_moves V (fault.ReallocMisaligned k) P m = m
-refused_moves V (fault.ReallocOutOfBounds k) P m = m
-refused_moves V fault.GuestTrap P m = m
-refused_moves V (fault.PointerMisaligned at) P m = m
-refused_moves V (fault.PointerOutOfBounds at) P m = m
-refused_moves V (fault.InvalidUtf8 at) P m = m
-refused_moves V (fault.InvalidUtf16 at) P m = m
-refused_moves V (fault.InvalidChar at) P m = m
-refused_moves V (fault.BadDiscriminant at d) P m = m
-refused_moves V fault.HostcallFuelExhausted P m = m
-refused_moves V (fault.Resource r) P m = m
-
--- the same by how it ended
+-- what a refused lowering says of the guest's moves, by how it ended
 pub ended_moves : (V : Type 0) (f : Fault) (ending : Ending) (P : Type 0) → EndsFor f ending → UnlessShort ending P → OnAnswered {T = V} (Err (error.Fault f)) P
 ended_moves V fault.OutOfMemory ending P ends m = tt
-ended_moves V (fault.TypeMismatch k) ending P ends m = subst (λ end. UnlessShort end P) ends m
-ended_moves V (fault.FieldName k) ending P ends m = subst (λ end. UnlessShort end P) ends m
-ended_moves V (fault.UnknownCase k) ending P ends m = subst (λ end. UnlessShort end P) ends m
-ended_moves V (fault.UnknownFlag k) ending P ends m = subst (λ end. UnlessShort end P) ends m
-ended_moves V (fault.PayloadExpected k) ending P ends m = subst (λ end. UnlessShort end P) ends m
-ended_moves V (fault.PayloadNotExpected k) ending P ends m = subst (λ end. UnlessShort end P) ends m
-ended_moves V (fault.LengthMismatch k) ending P ends m = subst (λ end. UnlessShort end P) ends m
-ended_moves V (fault.StringTooLong n) ending P ends m = subst (λ end. UnlessShort end P) ends m
-ended_moves V (fault.SizeOverflow n) ending P ends m = subst (λ end. UnlessShort end P) ends m
-ended_moves V (fault.ReallocMisaligned k) ending P ends m = subst (λ end. UnlessShort end P) ends m
-ended_moves V (fault.ReallocOutOfBounds k) ending P ends m = subst (λ end. UnlessShort end P) ends m
-ended_moves V fault.GuestTrap ending P ends m = subst (λ end. UnlessShort end P) ends m
-ended_moves V (fault.PointerMisaligned at) ending P ends m = subst (λ end. UnlessShort end P) ends m
-ended_moves V (fault.PointerOutOfBounds at) ending P ends m = subst (λ end. UnlessShort end P) ends m
-ended_moves V (fault.InvalidUtf8 at) ending P ends m = subst (λ end. UnlessShort end P) ends m
-ended_moves V (fault.InvalidUtf16 at) ending P ends m = subst (λ end. UnlessShort end P) ends m
-ended_moves V (fault.InvalidChar at) ending P ends m = subst (λ end. UnlessShort end P) ends m
-ended_moves V (fault.BadDiscriminant at d) ending P ends m = subst (λ end. UnlessShort end P) ends m
-ended_moves V fault.HostcallFuelExhausted ending P ends m = subst (λ end. UnlessShort end P) ends m
-ended_moves V (fault.Resource r) ending P ends m = subst (λ end. UnlessShort end P) ends m
+ended_moves V f ending P ends m = subst (λ end. UnlessShort end P) ends m
 
 -- what is said of the answers is said of them where nothing is said of how the guest goes on
 as_bare : {K : Type 0} {X : Type 0} {hs : List ℕ} (a b : Stage K) (places : List Block) (aim : Aim X) (e : Ending) (h : Attempt false a b places aim hs e) (P : List Answer → Option Trap → Type 0) → P h.answers h.trap

@@ -10,7 +10,6 @@ use Rattle.canon_context.specs.declared.component.Export.{Export}
 use Rattle.canon_context.specs.declared.fault.At.{At as Place}
 use Rattle.canon_context.specs.declared.fault.At.TheVariants as at
 use Rattle.canon_context.specs.declared.fault.Fault.{Fault}
-use Rattle.canon_context.specs.declared.fault.Fault.TheVariants as fault
 use Rattle.canon_ledger.specs.Ledger.{LedgerState}
 use Rattle.canon_reading.specs.Reading.{AreTaken, Lifts, Reading, Setting, setting_in}
 use Rattle.canon_reading.specs.Scopes.{AllKeep, IsKept, keep_scopes}
