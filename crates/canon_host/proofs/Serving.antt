@@ -1,7 +1,7 @@
 -- The steps of an ask, one after another.
 use Rattle.std.proofs.Common.{[], Err, List, Ok, Result, Vec, ap, arith, false, inl, inr, length, true, refl, subst, subst₂, sym, ℕ, ◌++◌, ◌-◌, ◌<◌, ◌∙◌, ◌≡◌, ◌≤◌}
 use Rattle.std.proofs.Math.Seq.{drop-append_seam, drop-length, take-append_seam}
-use Rattle.std.proofs.lemmas.List.{append-nil, length-drop, length-replicate, take-append-drop}
+use Rattle.std.proofs.lemmas.List.{append-nil, length-replicate, take-append-drop}
 use Rattle.std.specs.Prelude.{IfErr, IfSome, OnOk, Option, Some, drop, replicate, take}
 use Rattle.std.specs.declared.alloc.Global.{Global}
 use Rattle.canon_context.specs.Asks.{SameButHandles}
@@ -36,7 +36,7 @@ use Rattle.canon_val.specs.declared.val.Val.{Val}
 use Rattle.canon_val.specs.declared.val.Val.TheVariants as val
 use Rattle.canon_value_parts.proofs.Values.{have_count}
 use Rattle.canon_host.specs.Asked.{RestStays, row_words}
-use Rattle.canon_host.specs.Serves.{AnswersBy, AskValues, Calling, CallsBy, CallsFunction, CallsBlank, ConcludesAsk, ConcludesBy, EndingRelation, Ends, EndsAsk, IsResultPlace, IsWholeRow, WasToldPlace, WasNotTold, LiftsAsked, LoweringRelation, LowersGiven, Serves, ServesBy, ServesEnteredBy, ServesAsTold, Steps, TellsPlace, ToldBy, Values, left_from, blank, params_and_results}
+use Rattle.canon_host.specs.Serves.{AnswersBy, AskValues, Calling, CallsBy, CallsFunction, CallsBlank, ConcludesBy, EndingRelation, Ends, EndsAsk, IsResultPlace, IsWholeRow, WasToldPlace, WasNotTold, LiftsAsked, LoweringRelation, LowersGiven, Serves, ServesBy, ServesEnteredBy, ServesAsTold, Steps, TellsPlace, ToldBy, Values, left_from, blank, params_and_results}
 use Rattle.canon_host.specs.declared.asked.Asked.{Asked}
 use Rattle.canon_host.specs.declared.error.HostError.{HostError}
 use Rattle.canon_lowering.specs.Stages.{GoesBy, Stage}
@@ -46,10 +46,6 @@ use Rattle.canon_host.specs.declared.error.HostError.TheVariants as error
 
 take_all : {A : Type 0} (xs : List A) → take (length xs) xs ≡ xs
 take_all xs = ap (take (length xs)) (sym (append-nil xs)) ∙ take-append_seam xs []
-
--- the items past some
-pub ask_past : {A : Type 0} (n : ℕ) (xs nv : List A) → xs ≡ nv → take (length xs - n) (drop n xs) ≡ drop n nv
-ask_past n xs nv is = ap (λ m. take m (drop n xs)) (sym (length-drop n xs)) ∙ (take_all (drop n xs) ∙ ap (drop n) is)
 
 -- the slice after a write to all of it
 pub ask_whole : {A : Type 0} (n : ℕ) (nv items : List A) → n ≡ length items → length nv ≡ length items → take n (nv ++ drop (length nv) items) ≡ nv
@@ -128,9 +124,6 @@ module _ {T G R : Type 0} (E : EndingRelation T G) (L : LoweringRelation T G R) 
       → RestStays (result_members (component_types left) asked.func) words words2 → ConcludesBy E L asked before results words r after words2
   concluded before left after at results words words2 (Ok x) ends h rest = record { at = at; left = left; ends = ends; lowers = h; rest = rest }
   concluded before left after at results words words2 (Err e) ends h rest = inr (record { at = at; left = left; ends = ends; lowers = h; rest = rest })
-
-  pub not_ended : (before after : Parts T G) (results : R) (words : List ℕ) (e : Fault) → E before words (Err e) after → ConcludesBy E L asked before results words (Err e) after words
-  not_ended before after results words e ends = inl (ends, refl)
 
 -- it was told of the place, or memory was wanting for that
 module _ {T G : Type 0} (seen : G → Seen) (moves : GuestIn G → List Event → GuestIn G → Type 0) (goes_on : (g h k : GuestIn G) (xs ys : List Event) → moves g xs h → moves h ys k
@@ -247,21 +240,7 @@ found_at Is f f2 asked ty options made after words2 words3 o ef found ety eopt h
     let told : Is f2 (record { ty = ty; func = asked.func; options = options }) made words2 = subst₂ (λ a b. Is f2 (record { ty = a; func = asked.func; options = b }) made words2) ety eopt (subst (λ x. Is x asked made words2) ef h) in
     subst (λ p. IfSome p (λ t. Is f2 (record { ty = ty; func = t; options = options }) after words3)) (sym found) (subst₂ (λ k ws. Is f2 (record { ty = ty; func = asked.func; options = options }) k ws) (sym ea) (sym ew) told)
 
--- ---- the data of the host
-
-ended_state : {T G : Type 0} (seen : G → Seen) (moves : GuestIn G → List Event → GuestIn G → Type 0) (asked : Asked) (before after : Parts T G) (words : List ℕ) (r : Result ℕ Fault)
-    → EndsAsk seen moves asked before words r after → after.state ≡ before.state
-ended_state {T} {G} seen moves asked before after words (Ok at) (place, (ended, ends, told)) = ap (λ (k : Parts T G). k.state) told.same ∙ ap (λ (k : Parts T G). k.state) ends.1
-ended_state {T} {G} seen moves asked before after words (Err e) (inl (none, same)) = ap (λ (k : Parts T G). k.state) same
-ended_state {T} {G} seen moves asked before after words (Err e) (inr (at, place, inl (x, is, ends))) = ap (λ (k : Parts T G). k.state) ends.1
-ended_state {T} {G} seen moves asked before after words (Err e) (inr (at, place, inr (ended, ends, is, far, untold))) = ap (λ (k : Parts T G). k.state) untold.same ∙ ap (λ (k : Parts T G). k.state) ends.1
-
--- nothing after the call changes them
-pub concluded_state : {T G : Type 0} (seen : G → Seen) (moves : GuestIn G → List Event → GuestIn G → Type 0) (asked : Asked) (before after : Parts T G) (results : List Val) (words words2 : List ℕ) (r : Result (Unit {0}) Fault)
-    → ConcludesAsk seen moves asked before results words r after words2 → after.state ≡ before.state
-concluded_state {T} {G} seen moves asked before after results words words2 (Ok x) h = ap (λ (k : Parts T G). k.state) h.lowers.same ∙ ended_state seen moves asked before h.left words (Ok h.at) h.ends
-concluded_state {T} {G} seen moves asked before after results words words2 (Err e) (inl (ends, words_same)) = ended_state seen moves asked before after words (Err e) ends
-concluded_state {T} {G} seen moves asked before after results words words2 (Err e) (inr h) = ap (λ (k : Parts T G). k.state) h.lowers.same ∙ ended_state seen moves asked before h.left words (Ok h.at) h.ends
+-- ---- steps that do the same
 
 -- what is served by some steps is served by steps that do the same, or more that is so
 module _ {T G A P R S : Type 0} (how : Steps T G A P R S) (Declines : Parts T G → HostError → Type 0) (Lifts : Parts T G → List ℕ → Result A Fault → Parts T G → Type 0) (Gives : Parts T G → P → Parts T G → R → Type 0)

@@ -1,11 +1,11 @@
 -- The steps of an ask that a function over Rust types serves.
-use Rattle.std.proofs.Common.{List, Ok, Result, length, subst, subst₂, sym, ℕ, ◌++◌, ◌≡◌, ◌≤◌}
+use Rattle.std.proofs.Common.{List, Ok, Result, length, subst₂, sym, ℕ, ◌++◌, ◌≡◌, ◌≤◌}
 use Rattle.canon_args.proofs.Tuples.{results_first}
 use Rattle.canon_args.specs.Results.{TypedResults}
 use Rattle.canon_context.specs.Core.{Parts, component_types}
 use Rattle.canon_context.specs.declared.fault.Fault.{Fault}
 use Rattle.canon_host.specs.Serves.{ToldBy, Values}
-use Rattle.canon_host.specs.ServesTyped.{FitRustTypes, FitsFunc, LowersTyped, Untold}
+use Rattle.canon_host.specs.ServesTyped.{LowersTyped, Untold}
 use Rattle.canon_host.specs.declared.asked.Asked.{Asked}
 use Rattle.canon_host.specs.declared.error.HostError.{HostError}
 use Rattle.canon_resources.specs.Parts.{Part}
@@ -17,9 +17,8 @@ use Rattle.canon_model.specs.Shape.{Shape, of_places, product}
 use Rattle.canon_model.specs.Tree.{Tree}
 use Rattle.canon_types.specs.Instance.{Instance}
 use Rattle.canon_types.specs.Table.{result_members}
-use Rattle.canon_types.specs.declared.types.InterfaceType.{InterfaceType}
 use Rattle.canon_types.specs.declared.types.TypeFunc.{TypeFunc}
-use Rattle.std.specs.Prelude.{IfSome, None, Option, Some, slice_get}
+use Rattle.std.specs.Prelude.{IfSome, None, Option, Some}
 
 -- the words stand first among others
 module _ {T G R : Type 0} (seen : G → Seen) (moves : GuestIn G → List Event → GuestIn G → Type 0) (walks : R → Tree → Type 0) (gives : Instance → Shape → R → List (List Part)) (asked : Asked) where
@@ -35,7 +34,3 @@ module _ {T G R : Type 0} (seen : G → Seen) (moves : GuestIn G → List Event 
 pub untold : {V P R : Type 0} (tells : V → Values P R → Type 0) (Is : TypeFunc → Result (Values P R) HostError → Type 0) (v : V) (o : Option TypeFunc) → IfSome o (λ t. ToldBy tells (Is t) (Ok v)) → IfSome o (λ t. Untold (Is t) (Ok tt))
 untold tells Is v (Some t) (told, tell, so) = (told, so)
 untold tells Is v None so = tt
-
--- of the type that was found
-pub found_typed : (FitParams FitResults : Instance → InterfaceType → Type 0) (i : Instance) (ty : ℕ) (func : TypeFunc) → slice_get i.types.funcs ty ≡ Some func → FitsFunc FitParams FitResults i ty → FitRustTypes FitParams FitResults i func
-found_typed FitParams FitResults i ty func found h = subst (λ o. IfSome o (λ t. FitRustTypes FitParams FitResults i t)) found h

@@ -253,12 +253,6 @@ module _ {T G : Type 0} (C : Calling T G) (seen : G → Seen) (moves : GuestIn G
     lowers = LowersGiven seen moves asked;
   }
 
-  abbrev pub Answers : Parts T G → List Val → List ℕ → Result AskValues HostError → Parts T G → List ℕ → Type 0
-  Answers before params words result after words2 = AnswersBy value_steps asked before params words result after words2
-
-  abbrev pub ServesEntered : Parts T G → List ℕ → Result AskValues HostError → Parts T G → List ℕ → Type 0
-  ServesEntered before words result after words2 = ServesEnteredBy value_steps asked before words result after words2
-
   abbrev pub Serves : Parts T G → List ℕ → Result AskValues HostError → Parts T G → List ℕ → Type 0
   Serves before words result after words2 = ServesBy value_steps asked before words result after words2
 

@@ -1,19 +1,14 @@
 //! The end of an ask, once the function was called.
 
-ghost use Rattle.std.specs.Prelude.{◌≡◌, ◌≤◌, ◌<◌, IfErr, IfOk, OnOk, length, take};
-ghost use Rattle.canon_model.specs.Flat.{max_results};
-ghost use Rattle.canon_model.specs.Layout.{members_flat};
-ghost use Rattle.canon_model.specs.Shape.{member_count};
-ghost use Rattle.canon_types.specs.Table.{result_members, tuple_members};
-ghost use Rattle.canon_context.specs.Asks.{SameButHandles};
+ghost use Rattle.std.specs.Prelude.{◌≡◌, ◌<◌, IfErr, IfOk};
 ghost use Rattle.canon_context.specs.Core.{component_types};
-ghost use Rattle.canon_host.specs.Asked.{HasWordsEnough, IsAsked, RestStays};
-ghost use Rattle.canon_host.specs.Serves.{ConcludesAsk, EndsAsk, IsNoPlace, IsResultPlace, LowersGiven, TellsPlace};
+ghost use Rattle.canon_host.specs.Asked.{HasWordsEnough, IsAsked};
+ghost use Rattle.canon_host.specs.Serves.{EndsAsk, IsNoPlace, IsResultPlace, TellsPlace};
 
 use crate::Asked;
-use crate::asked::{first_words, params_words, results_words};
+use crate::asked::{params_words, results_words};
 use canon_memory::{Guest, ValRaw};
-use canon_value::{Core, Fault, LowerContext, Val, lower_results, results_area};
+use canon_value::{Core, Fault, results_area};
 
 /// Tests the pointer for the results, ends the scope of the ask and leaves it, and tells the guest of the place for results. Answers the
 /// address at which results are to be stored that don't go in a row.

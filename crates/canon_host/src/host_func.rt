@@ -1,6 +1,6 @@
 //! Functions of the host.
 
-ghost use Rattle.std.specs.Prelude.{◌≡◌, IfSome, List, Result, false, slice_get, ℕ};
+ghost use Rattle.std.specs.Prelude.{◌≡◌, IfSome, List, Result, slice_get, ℕ};
 ghost use Rattle.canon_types.specs.Instance.{Instance};
 ghost use Rattle.canon_types.specs.Table.{HasFunc, TypeTable, result_members};
 ghost use Rattle.canon_context.specs.Asks.{SameButHandles};

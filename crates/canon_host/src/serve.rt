@@ -1,10 +1,9 @@
 //! How a function of the host serves one ask, whatever its form.
 
 ghost use Rattle.std.specs.Prelude.{◌≡◌, OnOk};
-ghost use Rattle.canon_types.specs.Table.{result_members};
 ghost use Rattle.canon_context.specs.Asks.{SameButHandles};
 ghost use Rattle.canon_context.specs.Core.{component_types};
-ghost use Rattle.canon_host.specs.Asked.{HasWordsEnough, IsAsked, RestStays};
+ghost use Rattle.canon_host.specs.Asked.{HasWordsEnough, IsAsked};
 ghost use Rattle.canon_host.specs.Serves.{AnswersBy, ConcludesBy, ServesEnteredBy, ServesAsTold, ToldBy, Values};
 
 use crate::conclude::end_ask;

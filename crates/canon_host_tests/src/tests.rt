@@ -76,7 +76,7 @@ fn ask<G: Guest, H: HostFn<u32, G>>(
     core: &mut Core<u32, G>,
     ty: TypeFuncIndex,
     words: &[ValRaw],
-) -> Option<(Result<H::Log, HostError>, Left)>
+) -> Option<(Result<H::Returned, HostError>, Left)>
     requires ready { H.ready func.now }
     requires fits { H.fits func.now core.old.component.types ty }
     requires func { HasFunc (component_types core.old) ty }

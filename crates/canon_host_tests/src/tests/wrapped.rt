@@ -47,6 +47,10 @@ fn ask_typed<
         return None;
     }
     let (answer, left) = ask(alloc, func, core, ty, words)?;
+    let answer = match answer {
+        Ok(_results) => Ok(()),
+        Err(error) => Err(error),
+    };
     Some((answer, left.word, left.memory))
 }
 
