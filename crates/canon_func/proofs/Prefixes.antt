@@ -1,5 +1,5 @@
 -- Runs, prefixes of runs, and the events of answers.
-use Rattle.std.proofs.Common.{IsTrue, List, None, Option, Some, [], ap, append_assoc, arith, refl, subst, sym, ℕ, ◌++◌, ◌∙◌, ◌∷◌, ◌≡◌, ◌≤◌}
+use Rattle.std.proofs.Common.{IsTrue, List, None, Option, Some, [], ap, append_assoc, arith, refl, subst, sym, ℕ, ◌++◌, ◌∙◌, ◌∷◌, ◌≡◌, ◌<◌, ◌≤◌}
 use Rattle.std.specs.Prelude.{⊤}
 use Rattle.std.proofs.lemmas.List.{append-nil}
 use Rattle.canon_model.specs.Requests.{Call}
@@ -10,6 +10,10 @@ use Rattle.canon_lowering.proofs.Lowerings.{lawful_second}
 use Rattle.canon_lowering.specs.Lowering.{AllLawful, Answer, LastIs, Trap, events_of}
 use Rattle.canon_func.specs.Steps.{TrapsLate}
 use Rattle.canon_func.specs.Runs.{Each, EndsIn, Grows, IsReallocAnswer, IsNoPost, IsOneRun, IsPrefixOfRun, IsRealloc, IsTrap, OnReturn, asks_in, events_in, last_len, posts}
+
+-- what costs more than the fuel doesn't cost so little
+pub past_cost : (fuel reach cost : ℕ) → fuel < reach → reach ≡ cost → cost ≤ fuel → ⊥
+past_cost fuel reach cost h e few = omega (arith, h, e, few)
 
 -- ---- properties of events in a row
 

@@ -2,10 +2,11 @@
 
 ghost use Rattle.std.specs.Prelude.{◌≡◌, length, slice_get, ⊤};
 ghost use Rattle.canon_args.specs.Params.{TypedParams};
-ghost use Rattle.canon_args.specs.Returned.{passed_reading};
+ghost use Rattle.canon_args.specs.Returned.{passed_reading, result_count};
 ghost use Rattle.canon_context.specs.Component.{IsInside};
 ghost use Rattle.canon_context.specs.Core.{SameButLedger, component_types};
 ghost use Rattle.canon_reading.specs.Reading.{setting_in};
+ghost use Rattle.canon_reading.specs.Spots.{flat_in};
 ghost use Rattle.canon_model.specs.Flat.{max_params, max_results};
 ghost use Rattle.canon_model.specs.Shape.{of_places, product};
 ghost use Rattle.canon_types.specs.Table.{HasTuple, tuple_members};
