@@ -102,14 +102,14 @@ module _ (wide : Bool) (texts : Texts) (name : Name) (s : Shape) (ms : Members) 
     handles = λ t ts. handle_numbers_append (leaves s t) _;
   }
 
-  pub members_cons : {K : Type 0} {hs ks : List ℕ} (a b c : Stage K) (e : Ending) → StoresValue wide a b texts s (at + begins wide o s) Has hs done → StoresMembers wide b c texts ms (ends wide o s) at Have ks e
+  unfoldable pub members_cons : {K : Type 0} {hs ks : List ℕ} (a b c : Stage K) (e : Ending) → StoresValue wide a b texts s (at + begins wide o s) Has hs done → StoresMembers wide b c texts ms (ends wide o s) at Have ks e
       → StoresMembers wide a c texts (member name s ms) o at (FirstAnd Has Have) (hs ++ ks) e
   members_cons a b c e h r = attempt_then wide a b c first others big _ _ _ _ members_join (value_framed wide texts s _ Has) (members_framed wide texts ms _ at Have) first_in others_in apart h e r
 
-  pub members_stop : {K : Type 0} {hs ks : List ℕ} (a b : Stage K) (e : Ending) → NotDone e → StoresValue wide a b texts s (at + begins wide o s) Has hs e → StoresMembers wide a b texts (member name s ms) o at (FirstAnd Has Have) ks e
+  unfoldable pub members_stop : {K : Type 0} {hs ks : List ℕ} (a b : Stage K) (e : Ending) → NotDone e → StoresValue wide a b texts s (at + begins wide o s) Has hs e → StoresMembers wide a b texts (member name s ms) o at (FirstAnd Has Have) ks e
   members_stop a b e not h = attempt_stop wide a b b first others big _ _ _ _ members_join (value_framed wide texts s _ Has) (members_framed wide texts ms _ at Have) first_in others_in apart e not h
 
-pub product_stored : {K : Type 0} {hs : List ℕ} (wide : Bool) (a c : Stage K) (texts : Texts) (k : ProductKind) (ms : Members) (at : ℕ) (Have : Trees → Type 0) (Has : Tree → Type 0) (e : Ending)
+unfoldable pub product_stored : {K : Type 0} {hs : List ℕ} (wide : Bool) (a c : Stage K) (texts : Texts) (k : ProductKind) (ms : Members) (at : ℕ) (Have : Trees → Type 0) (Has : Tree → Type 0) (e : Ending)
     → at + size wide (product k ms) ≤ length c.bytes
     → ((ts : Trees) → Have ts → Has (parts ts)) → ((t : Tree) → Has t → Have (trees_of t)) → StoresMembers wide a c texts ms 0 at Have hs e → StoresValue wide a c texts (product k ms) at Has hs e
 unfolding requests leaves
@@ -156,30 +156,30 @@ module _ {K : Type 0} (wide : Bool) (a c : Stage K) (texts : Texts) (n : ℕ) (s
     handles = λ ts is. ap handle_numbers (copies_leaves n s ts (to ts is).1);
   }
 
-  pub fixed_stored : {hs : List ℕ} (e : Ending) → StoresMembers wide a c texts (copies n s) 0 at Have hs e → StoresValue wide a c texts (fixed n s) at Has hs e
+  unfoldable pub fixed_stored : {hs : List ℕ} (e : Ending) → StoresMembers wide a c texts (copies n s) 0 at Have hs e → StoresValue wide a c texts (fixed n s) at Has hs e
   fixed_stored e h = attempt_as wide a c _ _ (members_at wide texts (copies n s) 0 at Have) (value_at wide texts (fixed n s) at Has) e fixed_within fixed_turns h
 
 -- ---- values that ask for nothing: bytes written at their place
 
 module _ {K : Type 0} (wide : Bool) (g : Stage K) (xs ys : List ℕ) (texts : Texts) (at : ℕ) (Has : Tree → Type 0) (small : length xs ≤ 2 ^ 32) where
-  pub scalar_stored : (k : Scalar) (t : Tree) → at + scalar_size k ≤ length xs → Writes (block at (scalar_size k)) xs ys → ScalarIs k (num (memory_of ys wide) at (scalar_size k)) t
+  unfoldable pub scalar_stored : (k : Scalar) (t : Tree) → at + scalar_size k ≤ length xs → Writes (block at (scalar_size k)) xs ys → ScalarIs k (num (memory_of ys wide) at (scalar_size k)) t
       → IsLeast k (num (memory_of ys wide) at (scalar_size k)) → Has t → StoresValue wide (holding g xs) (holding g ys) texts (scalar k) at Has [] done
   unfolding size requests leaves
   scalar_stored k t room w is least has = attempt_write wide g xs ys (value_place wide (scalar k) at) (value_at wide texts (scalar k) at Has) t small w has (λ u h. refl)
       ((omega (arith, room, w.same_length), λ i l u. inl (l, u)), is, λ s. least) (λ rest. refl) (λ rest. refl)
 
-  pub flags_stored : (names : List Name) → at + flags_size (length names) ≤ length xs → Writes (block at (flags_size (length names))) xs ys → num (memory_of ys wide) at (flags_size (length names)) < 2 ^ length names
+  unfoldable pub flags_stored : (names : List Name) → at + flags_size (length names) ≤ length xs → Writes (block at (flags_size (length names))) xs ys → num (memory_of ys wide) at (flags_size (length names)) < 2 ^ length names
       → Has (bits (bits_of (length names) (num (memory_of ys wide) at (flags_size (length names))))) → StoresValue wide (holding g xs) (holding g ys) texts (flags names) at Has [] done
   unfolding size requests leaves
   flags_stored names room w least has = attempt_write wide g xs ys (value_place wide (flags names) at) (value_at wide texts (flags names) at Has) _ small w has (λ u h. refl)
       ((omega (arith, room, w.same_length), λ i l u. inl (l, u)), refl, λ s. least) (λ rest. refl) (λ rest. refl)
 
-  pub own_stored : (r : ℕ) → at + 4 ≤ length xs → Writes (block at 4) xs ys → Has (handle (num (memory_of ys wide) at 4)) → StoresValue wide (holding g xs) (holding g ys) texts (own r) at Has (num (memory_of ys wide) at 4 ∷ []) done
+  unfoldable pub own_stored : (r : ℕ) → at + 4 ≤ length xs → Writes (block at 4) xs ys → Has (handle (num (memory_of ys wide) at 4)) → StoresValue wide (holding g xs) (holding g ys) texts (own r) at Has (num (memory_of ys wide) at 4 ∷ []) done
   unfolding size requests leaves
   own_stored r room w has = attempt_write wide g xs ys (value_place wide (own r) at) (value_at wide texts (own r) at Has) _ small w has (λ u h. refl)
       ((omega (arith, room, w.same_length), λ i l u. inl (l, u)), refl) (λ rest. refl) (λ rest. refl)
 
-  pub borrow_stored : (r : ℕ) → at + 4 ≤ length xs → Writes (block at 4) xs ys → Has (handle (num (memory_of ys wide) at 4)) → StoresValue wide (holding g xs) (holding g ys) texts (borrow r) at Has (num (memory_of ys wide) at 4 ∷ []) done
+  unfoldable pub borrow_stored : (r : ℕ) → at + 4 ≤ length xs → Writes (block at 4) xs ys → Has (handle (num (memory_of ys wide) at 4)) → StoresValue wide (holding g xs) (holding g ys) texts (borrow r) at Has (num (memory_of ys wide) at 4 ∷ []) done
   unfolding size requests leaves
   borrow_stored r room w has = attempt_write wide g xs ys (value_place wide (borrow r) at) (value_at wide texts (borrow r) at Has) _ small w has (λ u h. refl)
       ((omega (arith, room, w.same_length), λ i l u. inl (l, u)), refl) (λ rest. refl) (λ rest. refl)

@@ -103,7 +103,7 @@ module _ (wide : Bool) (texts : Texts) where
     home = λ blocks more xs ys k u ps qs r e. e;
   }
 
-  pub tag_written : {K : Type 0} (g : Stage K) (m m2 : List ℕ) (cs : Cases) (at d : ℕ) → length m ≤ 2 ^ 32 → at + tag_size (case_count cs) ≤ length m → Writes (tag_span cs at) m m2 → tag_at (memory_of m2 wide) at cs ≡ d
+  unfoldable pub tag_written : {K : Type 0} (g : Stage K) (m m2 : List ℕ) (cs : Cases) (at d : ℕ) → length m ≤ 2 ^ 32 → at + tag_size (case_count cs) ≤ length m → Writes (tag_span cs at) m m2 → tag_at (memory_of m2 wide) at cs ≡ d
       → Attempt wide (holding g m) (holding g m2) (tag_span cs at ∷ []) (tag_aim cs at d) [] done
   tag_written g m m2 cs at d small room w e = attempt_write wide g m m2 (tag_span cs at) (tag_aim cs at d) tt small w tt (λ u h. refl) ((omega (arith, room, w.same_length), λ i l u. inl (l, u)), e) (λ rest. refl) (λ rest. refl)
 
@@ -132,7 +132,7 @@ module _ (wide : Bool) (texts : Texts) where
     abbrev pub inner : ℕ
     inner = at + payload_offset wide cs
 
-    case_join : Joins (tag_aim cs at d) (members_at wide texts (case_members cs d) 0 inner Have) (case_aim cs at d Have) (λ u ts. ts)
+    pub case_join : Joins (tag_aim cs at d) (members_at wide texts (case_members cs d) 0 inner Have) (case_aim cs at d Have) (λ u ts. ts)
     case_join = record {
       is = λ u ts x have. have;
       split = λ ts have. (tt, ts, refl, tt, have);
@@ -142,7 +142,7 @@ module _ (wide : Bool) (texts : Texts) where
       handles = λ u ts. refl;
     }
 
-    pub variant_stored : {hs : List ℕ} (Has : Tree → Type 0) (e : Ending) → at + size wide (variant k cs) ≤ length c.bytes → ((ts : Trees) → Have ts → Has (case_tree d ts) × CaseIs (case_members cs d) d (case_tree d ts))
+    unfoldable pub variant_stored : {hs : List ℕ} (Has : Tree → Type 0) (e : Ending) → at + size wide (variant k cs) ≤ length c.bytes → ((ts : Trees) → Have ts → Has (case_tree d ts) × CaseIs (case_members cs d) d (case_tree d ts))
         → ((t : Tree) → Has t → (case_number t ≡ d) × Have (payload_trees t) × CaseIs (case_members cs d) d t) → StoresMembers wide b c texts (case_members cs d) 0 inner Have hs e
         → StoresValue wide a c texts (variant k cs) at Has hs e
     unfolding requests
@@ -191,7 +191,7 @@ module _ (wide : Bool) (texts : Texts) (pointer : ℕ → ℕ → Type 0) (ws : 
   case_flat_home (payload name s cs) (suc i) d j e ts xs ys lt zeros is h = case_flat_home cs i d j e ts xs ys (omega arith) zeros is h
 
 -- a tag in its word, the words of the payload, and zeros behind them
-pub variant_words : {K : Type 0} {hs : List ℕ} (wide : Bool) (a c : Stage K) (texts : Texts) (k : VariantKind) (cs : Cases) (ws : List ℕ) (i d : ℕ) (Have : Trees → Type 0) (Has : Tree → Type 0) (e : Ending) → d < case_count cs
+unfoldable pub variant_words : {K : Type 0} {hs : List ℕ} (wide : Bool) (a c : Stage K) (texts : Texts) (k : VariantKind) (cs : Cases) (ws : List ℕ) (i d : ℕ) (Have : Trees → Type 0) (Has : Tree → Type 0) (e : Ending) → d < case_count cs
     → slice_index ws i ≡ d → d < 2 ^ 32 → AreZero ws (i + 1 + members_flat (case_members cs d)) (i + 1 + cases_flat cs) → ((ts : Trees) → Have ts → Has (case_tree d ts) × CaseIs wide texts (case_members cs d) d (case_tree d ts))
     → ((t : Tree) → Has t → (case_number t ≡ d) × Have (payload_trees t) × CaseIs wide texts (case_members cs d) d t) → LowersMembers wide a c texts (case_members cs d) ws (i + 1) Have hs e
     → LowersValue wide a c texts (variant k cs) ws i Has hs e

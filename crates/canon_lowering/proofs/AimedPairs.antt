@@ -63,7 +63,7 @@ pairs_row wide texts s u n = record {
   stored = λ readable bytes at ts r h. pairs_stored readable true texts.encoding (memory_of bytes wide) s u n 0 0 at at ts (at_start wide s u) (omega arith) r h;
 }
 
-pub rows_words : {K : Type 0} {hs : List ℕ} (wide : Bool) (a b c : Stage K) (texts : Texts) (k : ListKind) (s : Shape) (n p all : ℕ) (ms : Members) (group : Trees → Trees) (back : Tree → Trees) (row : MakesRow wide texts s n ms all group)
+unfoldable pub rows_words : {K : Type 0} {hs : List ℕ} (wide : Bool) (a b c : Stage K) (texts : Texts) (k : ListKind) (s : Shape) (n p all : ℕ) (ms : Members) (group : Trees → Trees) (back : Tree → Trees) (row : MakesRow wide texts s n ms all group)
     (Have : Trees → Type 0) (Has : Tree → Type 0) (e : Ending) → length b.bytes ≤ 2 ^ 32 → (g : Granted a b (items_call wide s n) p) → (IsFalse wide → n < 2 ^ 32)
     → ((ts : Trees) → Have ts → Has (items (group ts)) × (tree_count ts ≡ all)) → ((t : Tree) → Has t → Have (back t) × (trees_of t ≡ group (back t))) → StoresMembers wide b c texts ms 0 p Have hs e
     → LowersValue wide a c texts (list k s) (p ∷ n ∷ []) 0 Has hs e
@@ -102,7 +102,7 @@ rows_words wide a b c texts k s n p all ms group back row Have Has e small g few
       handles = λ ts is. ap handle_numbers (row.leaves_same ts (to ts is).1);
     }) r
 
-pub list_words : {K : Type 0} {hs : List ℕ} (wide : Bool) (a b c : Stage K) (texts : Texts) (k : ListKind) (s : Shape) (n p : ℕ) (Have : Trees → Type 0) (Has : Tree → Type 0) (e : Ending) → length b.bytes ≤ 2 ^ 32
+unfoldable pub list_words : {K : Type 0} {hs : List ℕ} (wide : Bool) (a b c : Stage K) (texts : Texts) (k : ListKind) (s : Shape) (n p : ℕ) (Have : Trees → Type 0) (Has : Tree → Type 0) (e : Ending) → length b.bytes ≤ 2 ^ 32
     → (g : Granted a b (items_call wide s n) p) → (IsFalse wide → n < 2 ^ 32) → ((ts : Trees) → Have ts → Has (items ts) × (tree_count ts ≡ n)) → ((t : Tree) → Has t → Have (trees_of t))
     → StoresMembers wide b c texts (copies n s) 0 p Have hs e
     → LowersValue wide a c texts (list k s) (p ∷ n ∷ []) 0 Has hs e
@@ -110,7 +110,7 @@ list_words wide a b c texts k s n p Have Has e small g few to from r =
     rows_words wide a b c texts k s n p n (copies n s) (λ ts. ts) (λ t. trees_of t) (copies_row wide texts s n) Have Has e small g few to (λ t is. (from t is, refl)) r
 
 -- the block isn't given
-pub list_ungiven : {K : Type 0} {hs : List ℕ} (wide : Bool) (a b : Stage K) (texts : Texts) (k : ListKind) (s : Shape) (n p : ℕ) (ws : List ℕ) (i : ℕ) (Has : Tree → Type 0) (e : Ending) → NotDone e → length b.bytes ≤ 2 ^ 32
+unfoldable pub list_ungiven : {K : Type 0} {hs : List ℕ} (wide : Bool) (a b : Stage K) (texts : Texts) (k : ListKind) (s : Shape) (n p : ℕ) (ws : List ℕ) (i : ℕ) (Has : Tree → Type 0) (e : Ending) → NotDone e → length b.bytes ≤ 2 ^ 32
     → ((t : Tree) → Has t → tree_count (trees_of t) ≡ n) → Reallocated a b (items_call wide s n) e p → LowersValue wide a b texts (list k s) ws i Has hs e
 unfolding requests
 list_ungiven wide a b texts k s n p ws i Has e not small count h = attempt_ungiven wide a b (items_call wide s n) p [] (value_words wide texts (list k s) ws i Has) e not small
@@ -139,7 +139,7 @@ pair_framed wide at p n = record {
   home = λ blocks more xs ys k u ps qs (r, ep, en) (q, e). (points_same wide (host_texts utf8) blocks more xs ys k at _ r at (omega arith) (omega arith) ∙ q, e);
 }
 
-pub pair_written : {K : Type 0} (wide : Bool) (g : Stage K) (m m2 : List ℕ) (at p n : ℕ) → length m ≤ 2 ^ 32 → at + 2 * pointer_size wide ≤ length m → Writes (pair_place wide at) m m2
+unfoldable pub pair_written : {K : Type 0} (wide : Bool) (g : Stage K) (m m2 : List ℕ) (at p n : ℕ) → length m ≤ 2 ^ 32 → at + 2 * pointer_size wide ≤ length m → Writes (pair_place wide at) m m2
     → pointer_at (memory_of m2 wide) at ≡ p → length_at (memory_of m2 wide) at ≡ n
     → Attempt wide (holding g m) (holding g m2) (pair_place wide at ∷ []) (pair_aim wide at p n) [] done
 pair_written wide g m m2 at p n small room w ep en = attempt_write wide g m m2 (pair_place wide at) (pair_aim wide at p n) tt small w tt (λ u h. refl)
@@ -174,13 +174,13 @@ module _ (wide : Bool) (texts : Texts) (at p n : ℕ) (Has : Tree → Type 0) (l
   }
 
   module _ {K : Type 0} (a : Stage K) (g : Stage K) (m m2 : List ℕ) (w : Attempt wide (holding g m) (holding g m2) (pair_place wide at ∷ []) (pair_aim wide at p n) [] done) where
-    pub list_stored : {hs : List ℕ} (k : ListKind) (s : Shape) → LowersValue wide a (holding g m) texts (list k s) (p ∷ n ∷ []) 0 Has hs done → StoresValue wide a (holding g m2) texts (list k s) at Has hs done
+    unfoldable pub list_stored : {hs : List ℕ} (k : ListKind) (s : Shape) → LowersValue wide a (holding g m) texts (list k s) (p ∷ n ∷ []) 0 Has hs done → StoresValue wide a (holding g m2) texts (list k s) at Has hs done
     unfolding size
     list_stored {hs = hs} k s h = subst (λ xs. StoresValue wide a (holding g m2) texts (list k s) at Has xs done) (append-nil hs)
         (attempt_then wide a (holding g m) (holding g m2) [] (pair_place wide at ∷ []) (pair_place wide at ∷ []) _ _ (value_at wide texts (list k s) at Has) _ (list_join k s)
         (words_framed wide texts (list k s) (p ∷ n ∷ []) 0 Has) (pair_framed wide at p n) (λ i q. absurd q) (λ i q. q) (λ i q r. absurd q) h done w)
 
-    pub string_stored : {hs : List ℕ} → LowersValue wide a (holding g m) texts string (p ∷ n ∷ []) 0 Has hs done → StoresValue wide a (holding g m2) texts string at Has hs done
+    unfoldable pub string_stored : {hs : List ℕ} → LowersValue wide a (holding g m) texts string (p ∷ n ∷ []) 0 Has hs done → StoresValue wide a (holding g m2) texts string at Has hs done
     unfolding size
     string_stored {hs = hs} h = subst (λ xs. StoresValue wide a (holding g m2) texts string at Has xs done) (append-nil hs)
         (attempt_then wide a (holding g m) (holding g m2) [] (pair_place wide at ∷ []) (pair_place wide at ∷ []) _ _ (value_at wide texts string at Has) _ string_join

@@ -46,7 +46,7 @@ members_words_framed wide texts ms ws i Have = record {
 }
 
 -- the same words elsewhere
-pub words_moved : {K : Type 0} {hs : List ℕ} (wide : Bool) (a b : Stage K) (texts : Texts) (s : Shape) (ws vs : List ℕ) (i j : ℕ) (Has : Tree → Type 0) (e : Ending) → ((t : Tree) → Has t → Fits s t) → SameWords ws i vs j (flat s)
+unfoldable pub words_moved : {K : Type 0} {hs : List ℕ} (wide : Bool) (a b : Stage K) (texts : Texts) (s : Shape) (ws vs : List ℕ) (i j : ℕ) (Has : Tree → Type 0) (e : Ending) → ((t : Tree) → Has t → Fits s t) → SameWords ws i vs j (flat s)
     → LowersValue wide a b texts s ws i Has hs e → LowersValue wide a b texts s vs j Has hs e
 words_moved wide a b texts s ws vs i j Has e fits same h = attempt_as wide a b [] [] _ (value_words wide texts s vs j Has) e (λ k q. q) (record {
   turn = λ t. t;
@@ -62,19 +62,19 @@ words_moved wide a b texts s ws vs i j Has e fits same h = attempt_as wide a b [
 -- ---- values that ask for nothing
 
 module _ {K : Type 0} (wide : Bool) (a : Stage K) (texts : Texts) (ws : List ℕ) (i : ℕ) (Has : Tree → Type 0) (small : length a.bytes ≤ 2 ^ 32) where
-  pub scalar_words : (k : Scalar) (t : Tree) → ScalarIs k (slice_index ws i % 2 ^ flat_bits k) t → IsLeastWord k (slice_index ws i) → Has t → LowersValue wide a a texts (scalar k) ws i Has [] done
+  unfoldable pub scalar_words : (k : Scalar) (t : Tree) → ScalarIs k (slice_index ws i % 2 ^ flat_bits k) t → IsLeastWord k (slice_index ws i) → Has t → LowersValue wide a a texts (scalar k) ws i Has [] done
   unfolding requests leaves
   scalar_words k t is least has = attempt_none wide a [] (value_words wide texts (scalar k) ws i Has) t small has (λ u h. refl) (is, λ s. least) (λ pointer rest. ((is, least), refl))
 
-  pub own_words : (r : ℕ) → slice_index ws i < 2 ^ 32 → Has (handle (low (slice_index ws i))) → LowersValue wide a a texts (own r) ws i Has (low (slice_index ws i) ∷ []) done
+  unfoldable pub own_words : (r : ℕ) → slice_index ws i < 2 ^ 32 → Has (handle (low (slice_index ws i))) → LowersValue wide a a texts (own r) ws i Has (low (slice_index ws i) ∷ []) done
   unfolding requests leaves
   own_words r lt has = attempt_none wide a [] (value_words wide texts (own r) ws i Has) _ small has (λ u h. refl) (refl, λ s. lt) (λ pointer rest. ((refl, lt), refl))
 
-  pub borrow_words : (r : ℕ) → slice_index ws i < 2 ^ 32 → Has (handle (low (slice_index ws i))) → LowersValue wide a a texts (borrow r) ws i Has (low (slice_index ws i) ∷ []) done
+  unfoldable pub borrow_words : (r : ℕ) → slice_index ws i < 2 ^ 32 → Has (handle (low (slice_index ws i))) → LowersValue wide a a texts (borrow r) ws i Has (low (slice_index ws i) ∷ []) done
   unfolding requests leaves
   borrow_words r lt has = attempt_none wide a [] (value_words wide texts (borrow r) ws i Has) _ small has (λ u h. refl) (refl, λ s. lt) (λ pointer rest. ((refl, lt), refl))
 
-  pub flags_words : (names : List Name) → AreBelow (2 ^ 32) ws i (i + flag_words (length names)) → low_number ws i (flag_words (length names)) < 2 ^ length names
+  unfoldable pub flags_words : (names : List Name) → AreBelow (2 ^ 32) ws i (i + flag_words (length names)) → low_number ws i (flag_words (length names)) < 2 ^ length names
       → Has (bits (bits_of (length names) (low_number ws i (flag_words (length names))))) → LowersValue wide a a texts (flags names) ws i Has [] done
   unfolding requests leaves
   flags_words names below least has = attempt_none wide a [] (value_words wide texts (flags names) ws i Has) _ small has (λ u h. refl) (refl, λ s. (below, least)) (λ pointer rest. ((refl, below, least), refl))
@@ -93,16 +93,16 @@ module _ (wide : Bool) (texts : Texts) (name : Name) (s : Shape) (ms : Members) 
     handles = λ t ts. handle_numbers_append (leaves s t) _;
   }
 
-  pub members_words_cons : {K : Type 0} {hs ks : List ℕ} (a b c : Stage K) (ws : List ℕ) (e : Ending) → ((t : Tree) → Has t → Fits s t) → SameWords ws i vs i (flat s) → LowersValue wide a b texts s ws i Has hs done
+  unfoldable pub members_words_cons : {K : Type 0} {hs ks : List ℕ} (a b c : Stage K) (ws : List ℕ) (e : Ending) → ((t : Tree) → Has t → Fits s t) → SameWords ws i vs i (flat s) → LowersValue wide a b texts s ws i Has hs done
       → LowersMembers wide b c texts ms vs (i + flat s) Have ks e → LowersMembers wide a c texts (member name s ms) vs i (FirstAnd Has Have) (hs ++ ks) e
   members_words_cons a b c ws e fits same h r = attempt_then wide a b c [] [] [] _ _ _ _ words_join (words_framed wide texts s vs i Has) (members_words_framed wide texts ms vs _ Have) (λ k q. q) (λ k q. q) (λ k q r. q)
       (words_moved wide a b texts s ws vs i i Has done fits same h) e r
 
-  pub members_words_stop : {K : Type 0} {hs ks : List ℕ} (a b : Stage K) (ws : List ℕ) (e : Ending) → NotDone e → LowersValue wide a b texts s ws i Has hs e → LowersMembers wide a b texts (member name s ms) vs i (FirstAnd Has Have) ks e
+  unfoldable pub members_words_stop : {K : Type 0} {hs ks : List ℕ} (a b : Stage K) (ws : List ℕ) (e : Ending) → NotDone e → LowersValue wide a b texts s ws i Has hs e → LowersMembers wide a b texts (member name s ms) vs i (FirstAnd Has Have) ks e
   members_words_stop {hs = hs} a b ws e not h = attempt_stop wide a b b [] [] [] _ _ _ _ words_join (words_framed wide texts s vs i Has) (members_words_framed wide texts ms vs _ Have) (λ k q. q) (λ k q. q) (λ k q r. q) e not
       (attempt_other {ks = hs} wide a b [] _ (value_words wide texts s vs i Has) e not (λ t has. (has, refl)) h)
 
-pub product_words : {K : Type 0} {hs : List ℕ} (wide : Bool) (a c : Stage K) (texts : Texts) (k : ProductKind) (ms : Members) (ws : List ℕ) (i : ℕ) (Have : Trees → Type 0) (Has : Tree → Type 0) (e : Ending)
+unfoldable pub product_words : {K : Type 0} {hs : List ℕ} (wide : Bool) (a c : Stage K) (texts : Texts) (k : ProductKind) (ms : Members) (ws : List ℕ) (i : ℕ) (Have : Trees → Type 0) (Has : Tree → Type 0) (e : Ending)
     → ((ts : Trees) → Have ts → Has (parts ts)) → ((t : Tree) → Has t → Have (trees_of t)) → LowersMembers wide a c texts ms ws i Have hs e → LowersValue wide a c texts (product k ms) ws i Has hs e
 unfolding requests leaves
 product_words wide a c texts k ms ws i Have Has e to from h = attempt_as wide a c [] [] _ (value_words wide texts (product k ms) ws i Has) e (λ k q. q) (record {
@@ -116,7 +116,7 @@ product_words wide a c texts k ms ws i Have Has e to from h = attempt_as wide a 
   handles = λ ts is. refl;
 }) h
 
-pub fixed_words : {K : Type 0} {hs : List ℕ} (wide : Bool) (a c : Stage K) (texts : Texts) (n : ℕ) (s : Shape) (ws : List ℕ) (i : ℕ) (Have : Trees → Type 0) (Has : Tree → Type 0) (e : Ending)
+unfoldable pub fixed_words : {K : Type 0} {hs : List ℕ} (wide : Bool) (a c : Stage K) (texts : Texts) (n : ℕ) (s : Shape) (ws : List ℕ) (i : ℕ) (Have : Trees → Type 0) (Has : Tree → Type 0) (e : Ending)
     → ((ts : Trees) → Have ts → Has (parts ts) × (tree_count ts ≡ n)) → ((t : Tree) → Has t → Have (trees_of t)) → LowersMembers wide a c texts (copies n s) ws i Have hs e
     → LowersValue wide a c texts (fixed n s) ws i Has hs e
 unfolding requests leaves

@@ -45,7 +45,7 @@ FirstAnd Has Have ts = (t : Tree) × (rest : Trees) × (ts ≡ tree t rest) × H
 
 -- ---- held places
 
-held_within : {K : Type 0} (a : Stage K) (xs : List Answer) (big part : List Block) → Within part big → AreHeld a xs big → AreHeld a xs part
+pub held_within : {K : Type 0} (a : Stage K) (xs : List Answer) (big part : List Block) → Within part big → AreHeld a xs big → AreHeld a xs part
 held_within a xs big part w (inl h) = inl (λ i g. h i (w i g))
 held_within a xs big part w (inr h) = inr (h.0, λ i g k. h.1 i g (w i k))
 
@@ -112,7 +112,7 @@ module _ {K : Type 0} {X Y Z : Type 0} (wide : Bool) (a b c : Stage K) (p q big 
               (r.shown.memory_homes (lawful_second h.answers r.answers all) (held2 all held) rest);
         }
 
-    rest_shown : {ks : List ℕ} (e : Ending) (r : Attempt wide b c q second ks e) → WhenDone e (Shown wide a c big whole (h.answers ++ r.answers) (r.fresh ++ h.fresh) (hs ++ ks))
+    pub rest_shown : {ks : List ℕ} (e : Ending) (r : Attempt wide b c q second ks e) → WhenDone e (Shown wide a c big whole (h.answers ++ r.answers) (r.fresh ++ h.fresh) (hs ++ ks))
     rest_shown done r = both_shown r
     rest_shown refused r = tt
     rest_shown (misaligned n) r = tt
@@ -120,7 +120,7 @@ module _ {K : Type 0} {X Y Z : Type 0} (wide : Bool) (a b c : Stage K) (p q big 
     rest_shown trapped r = tt
     rest_shown short r = tt
 
-    pub attempt_then : {ks : List ℕ} (e : Ending) → Attempt wide b c q second ks e → Attempt wide a c big whole (hs ++ ks) e
+    unfoldable pub attempt_then : {ks : List ℕ} (e : Ending) → Attempt wide b c q second ks e → Attempt wide a c big whole (hs ++ ks) e
     attempt_then e r = record {
       answers = h.answers ++ r.answers;
       trap = r.trap;
@@ -133,7 +133,7 @@ module _ {K : Type 0} {X Y Z : Type 0} (wide : Bool) (a b c : Stage K) (p q big 
     }
 
   -- the first ends it
-  pub attempt_stop : {hs ks : List ℕ} (e : Ending) → NotDone e → Attempt wide a b p first hs e → Attempt wide a b big whole ks e
+  unfoldable pub attempt_stop : {hs ks : List ℕ} (e : Ending) → NotDone e → Attempt wide a b p first hs e → Attempt wide a b big whole ks e
   attempt_stop e not h = record {
     answers = h.answers;
     trap = h.trap;
@@ -147,7 +147,7 @@ module _ {K : Type 0} {X Y Z : Type 0} (wide : Bool) (a b c : Stage K) (p q big 
 -- ---- one
 
 -- nothing asked for or written, and perhaps a fault of the value itself
-pub attempt_none : {K : Type 0} {X : Type 0} (wide : Bool) (a : Stage K) (places : List Block) (aim : Aim X) (x : X) → length a.bytes ≤ 2 ^ 32 → aim.Is x → ((y : X) → aim.Is y → aim.asks y ≡ []) → aim.Rep (places ++ []) a.bytes x
+unfoldable pub attempt_none : {K : Type 0} {X : Type 0} (wide : Bool) (a : Stage K) (places : List Block) (aim : Aim X) (x : X) → length a.bytes ≤ 2 ^ 32 → aim.Is x → ((y : X) → aim.Is y → aim.asks y ≡ []) → aim.Rep (places ++ []) a.bytes x
     → ((pointer : ℕ → ℕ → Type 0) (rest : List ℕ) → aim.Home pointer x rest rest) → Attempt wide a a places aim (aim.handles x) done
 attempt_none wide a places aim x small is none rep home = record {
   answers = [];
@@ -165,7 +165,7 @@ attempt_none wide a places aim x small is none rep home = record {
   };
 }
 
-pub attempt_refused : {K : Type 0} {X : Type 0} {hs : List ℕ} (wide : Bool) (a : Stage K) (places : List Block) (aim : Aim X) → length a.bytes ≤ 2 ^ 32 → Attempt wide a a places aim hs refused
+unfoldable pub attempt_refused : {K : Type 0} {X : Type 0} {hs : List ℕ} (wide : Bool) (a : Stage K) (places : List Block) (aim : Aim X) → length a.bytes ≤ 2 ^ 32 → Attempt wide a a places aim hs refused
 attempt_refused wide a places aim small = record { answers = []; trap = None; fresh = []; lowering = lowering_refused a places small; requested = λ x is. requested_later _ refused tt; shown = tt }
 
 -- the same said of another x, at wider places
@@ -179,7 +179,7 @@ pub record Turns {K : Type 0} {X Y : Type 0} (wide : Bool) (part whole : List Bl
   pub home : (pointer : ℕ → ℕ → Type 0) (x : X) (xs ys : List ℕ) → aim.Is x → aim.Home pointer x xs ys → other.Home pointer (turn x) xs ys
   pub handles : (x : X) → aim.Is x → other.handles (turn x) ≡ aim.handles x
 
-pub attempt_as : {K : Type 0} {X Y : Type 0} {hs : List ℕ} (wide : Bool) (a b : Stage K) (part whole : List Block) (aim : Aim X) (other : Aim Y) (e : Ending) → Within part whole → Turns wide part whole aim other b
+unfoldable pub attempt_as : {K : Type 0} {X Y : Type 0} {hs : List ℕ} (wide : Bool) (a b : Stage K) (part whole : List Block) (aim : Aim X) (other : Aim Y) (e : Ending) → Within part whole → Turns wide part whole aim other b
     → Attempt wide a b part aim hs e → Attempt wide a b whole other hs e
 attempt_as {hs = hs} wide a b part whole aim other e w t h = record {
   answers = h.answers;
@@ -198,7 +198,7 @@ attempt_as {hs = hs} wide a b part whole aim other e w t h = record {
 }
 
 -- where it wasn't done, it says as little of another aim
-pub attempt_other : {K : Type 0} {X : Type 0} {hs ks : List ℕ} (wide : Bool) (a b : Stage K) (places : List Block) (aim other : Aim X) (e : Ending) → NotDone e → ((x : X) → other.Is x → aim.Is x × (other.asks x ≡ aim.asks x))
+unfoldable pub attempt_other : {K : Type 0} {X : Type 0} {hs ks : List ℕ} (wide : Bool) (a b : Stage K) (places : List Block) (aim other : Aim X) (e : Ending) → NotDone e → ((x : X) → other.Is x → aim.Is x × (other.asks x ≡ aim.asks x))
     → Attempt wide a b places aim hs e → Attempt wide a b places other ks e
 attempt_other wide a b places aim other e not same h = record {
   answers = h.answers;
@@ -237,10 +237,10 @@ module _ {K : Type 0} {X Y : Type 0} (wide : Bool) (a b d : Stage K) (c : Call) 
   abbrev x : Answer
   x = answer c p g.mark
 
-  asked : Lowering a b [] done (x ∷ []) None (area ∷ [])
+  pub asked : Lowering a b [] done (x ∷ []) None (area ∷ [])
   asked = lowering_anew a b c p anew small g
 
-  pub attempt_block : {hs : List ℕ} → Attempt wide b d places inner hs e → Attempt wide a d [] whole hs e
+  unfoldable pub attempt_block : {hs : List ℕ} → Attempt wide b d places inner hs e → Attempt wide a d [] whole hs e
   attempt_block {hs = hs} r =
       let fresh : List Block = r.fresh ++ area ∷ [] in
       let held : AllLawful (x ∷ r.answers) → AreHeld b r.answers places = λ all. inl (λ i h. (asked.lawful tt (all.0, tt)).fresh_live i (inside i h)) in
@@ -274,7 +274,7 @@ module _ {K : Type 0} {X Y : Type 0} (wide : Bool) (a b d : Stage K) (c : Call) 
   block_only r none calm = (none, calm)
 
 -- the block isn't given
-pub attempt_ungiven : {K : Type 0} {Y : Type 0} {hs : List ℕ} (wide : Bool) (a b : Stage K) (c : Call) (p : ℕ) (places : List Block) (whole : Aim Y) (e : Ending) → NotDone e → length b.bytes ≤ 2 ^ 32
+unfoldable pub attempt_ungiven : {K : Type 0} {Y : Type 0} {hs : List ℕ} (wide : Bool) (a b : Stage K) (c : Call) (p : ℕ) (places : List Block) (whole : Aim Y) (e : Ending) → NotDone e → length b.bytes ≤ 2 ^ 32
     → ((y : Y) → whole.Is y → (r : Request) × (rs : List Request) × (whole.asks y ≡ r ∷ rs) × ((last : ℕ) → c ≡ call_of last r)) → Reallocated a b c e p → Attempt wide a b places whole hs e
 attempt_ungiven wide a b c p places whole e not small asks h =
     let r = lowering_stopped a b c e p not small h in
@@ -297,7 +297,7 @@ ungiven_asked wide a b c p places whole hs e not small asks h = stopped_asked a 
 -- ---- bytes of a place
 
 -- nothing is asked for, and the bytes of a place are written
-pub attempt_write : {K : Type 0} {X : Type 0} (wide : Bool) (g : Stage K) (xs ys : List ℕ) (b : Block) (aim : Aim X) (x : X) → length xs ≤ 2 ^ 32 → Writes b xs ys → aim.Is x → ((y : X) → aim.Is y → aim.asks y ≡ []) → aim.Rep (b ∷ []) ys x
+unfoldable pub attempt_write : {K : Type 0} {X : Type 0} (wide : Bool) (g : Stage K) (xs ys : List ℕ) (b : Block) (aim : Aim X) (x : X) → length xs ≤ 2 ^ 32 → Writes b xs ys → aim.Is x → ((y : X) → aim.Is y → aim.asks y ≡ []) → aim.Rep (b ∷ []) ys x
     → ((rest : List ℕ) → aim.Home AnyPointer x rest rest) → ((rest : List ℕ) → aim.Home (PointsTo (memory_of ys wide)) x rest rest) → Attempt wide (holding g xs) (holding g ys) (b ∷ []) aim (aim.handles x) done
 attempt_write wide g xs ys b aim x small w is none rep home memory_home = record {
   answers = [];

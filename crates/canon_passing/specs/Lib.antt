@@ -1,3 +1,4 @@
 pub mod Args
+pub mod Deeds
 pub mod Passed
 pub mod Words
