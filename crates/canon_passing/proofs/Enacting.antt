@@ -19,8 +19,8 @@ same_some e = cc
 -- ---- what stopped
 
 ceased : (f : Fault) (l l2 : LedgerState) (xs : List Answer) (t : Option Trap) (hs : List ℕ) → Ceases (Some f) l None xs t hs l2 → ⊥
-ceased f l l2 xs t hs (inl e, h) = none_some e
-ceased f l l2 xs t hs (inr e, h) = none_some e
+ceased f l l2 xs t hs (inl e, none, untrapped, unused, same) = none_some e
+ceased f l l2 xs t hs (inr e, none, untrapped, unused, same) = none_some e
 
 ask_on : (c : Call) (xs : List Answer) (t : Option Trap) → AskEnds c None xs t → ⊥
 ask_on c xs t h = h
@@ -54,7 +54,7 @@ enacts_then (fails f ∷ ds) es last l m n stop xs ys t u hs ks h g = absurd (ce
 -- what stopped doesn't go on
 pub enacts_stop : (ds es : List Deed) (last : ℕ) (l n : LedgerState) (e : Fault) (xs : List Answer) (t : Option Trap) (hs : List ℕ)
     → Enacts last l ds (Some e) xs t hs n → Enacts last l (ds ++ es) (Some e) xs t hs n
-enacts_stop [] es last l n e xs t hs (inl s, h) = absurd (none_some (sym s))
+enacts_stop [] es last l n e xs t hs (inl s, none, untrapped, unused, same) = absurd (none_some (sym s))
 enacts_stop [] es last l n e xs t hs (inr s, none, untrapped, unused, same) =
     subst₂ (λ (o : Option Fault) (zs : List Answer). Enacts last l es o zs t hs n) (sym s) (sym none)
     (subst₂ (λ (o : Option Trap) (zs : List ℕ). Enacts last l es (Some fault.OutOfMemory) [] o zs n) (sym untrapped) (sym unused)
@@ -135,11 +135,11 @@ enacts_clean (fails f ∷ ds) last l n xs t hs h = absurd (ceased f l n xs t hs 
 -- it stopped at a request, at a handle, for the first fault of a value, or since memory ran out
 pub enacts_cause : (ds : List Deed) (last : ℕ) (l n : LedgerState) (stop : Option Fault) (xs : List Answer) (t : Option Trap) (hs : List ℕ) → Enacts last l ds stop xs t hs n
     → (stop ≡ None) ⊎ ((c : Call) × (ys : List Answer) × AskEnds c stop ys t) ⊎ ((m : LedgerState) × (ps : List Part) × HandEnds m ps stop n) ⊎ ((first_fault ds ≡ stop) × (t ≡ None)) ⊎ ((stop ≡ Some fault.OutOfMemory) × (t ≡ None))
-enacts_cause [] last l n stop xs t hs (inl s, h) = inl s
-enacts_cause [] last l n stop xs t hs (inr s, h) = inr (inr (inr (inr (s, h.1))))
+enacts_cause [] last l n stop xs t hs (inl s, none, untrapped, unused, same) = inl s
+enacts_cause [] last l n stop xs t hs (inr s, none, untrapped, unused, same) = inr (inr (inr (inr (s, untrapped))))
 enacts_cause (asks r ∷ ds) last l n stop xs t hs (inl (x, more, is, call, rest)) = enacts_cause ds x.at l n stop more t hs rest
 enacts_cause (asks r ∷ ds) last l n stop xs t hs (inr q) = inr (inl (call_of last r, xs, q.0))
 enacts_cause (hands ps ∷ ds) last l n stop xs t hs (inl (h, more, mid, is, takes, rest)) = enacts_cause ds last mid n stop xs t more rest
 enacts_cause (hands ps ∷ ds) last l n stop xs t hs (inr q) = inr (inr (inl (l, ps, q.0)))
-enacts_cause (fails f ∷ ds) last l n stop xs t hs (inl s, h) = inr (inr (inr (inl (sym s, h.1))))
-enacts_cause (fails f ∷ ds) last l n stop xs t hs (inr s, h) = inr (inr (inr (inr (s, h.1))))
+enacts_cause (fails f ∷ ds) last l n stop xs t hs (inl s, none, untrapped, unused, same) = inr (inr (inr (inl (sym s, untrapped))))
+enacts_cause (fails f ∷ ds) last l n stop xs t hs (inr s, none, untrapped, unused, same) = inr (inr (inr (inr (s, untrapped))))

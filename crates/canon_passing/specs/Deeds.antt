@@ -7,9 +7,9 @@ use Rattle.canon_ledger.specs.Ledger.{LedgerState}
 use Rattle.canon_ledger.specs.declared.fault.ResourceFault.TheVariants as resource
 use Rattle.canon_lowering.specs.Lowering.{Answer, Trap}
 use Rattle.canon_model.specs.Flat.{max_params}
-use Rattle.canon_model.specs.Layout.{align, members_flat, size}
-use Rattle.canon_model.specs.Requests.{Call, Request, anew, call_of, text_requests, tuple_request}
-use Rattle.canon_model.specs.Shape.{Members, Shape}
+use Rattle.canon_model.specs.Layout.{align, members_align, members_flat, size}
+use Rattle.canon_model.specs.Requests.{Call, Request, anew, call_of, text_requests}
+use Rattle.canon_model.specs.Shape.{Members, Shape, of_places, product}
 use Rattle.canon_model.specs.Text.{Encoding, most_bytes}
 use Rattle.canon_resources.specs.Parts.{LeafMoves, LeafTakes, Part}
 
@@ -43,7 +43,7 @@ block_deeds s n = tested (nat_lt n (2 ^ 32) && nat_lt (n * size false s) (2 ^ 32
 
 -- a function's parameters, with which this is done: of more than MAX_FLAT_PARAMS words the block of their tuple is asked for first
 abbrev pub params_deeds : Members → List Deed → List Deed
-params_deeds ms ds = if nat_le (members_flat ms) max_params then ds else asks (tuple_request false ms) ∷ ds
+params_deeds ms ds = if nat_le (members_flat ms) max_params then ds else asks (anew (members_align false ms) (size false (product of_places ms))) ∷ ds
 
 -- ---- what came of it
 

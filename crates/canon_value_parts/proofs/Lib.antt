@@ -45,6 +45,9 @@ pub mod Listing
 pub mod ListLoading
 pub mod NoResources
 pub mod PassesOf
+pub mod Seen
+pub mod SeenBack
+pub mod CasesBack
 pub mod LeavesAt
 pub mod Lifted
 pub mod ResourcesOf
