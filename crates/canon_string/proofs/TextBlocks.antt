@@ -117,7 +117,14 @@ module _ {T G : Type 0} (L : GuestLaws G) (options : ℕ) where
     under : (P : Encoding → Type 0) → P enc → P (encoding_by a options)
     under P h = subst P (sym form) h
 
-    pub text_stands : (b : Parts T G) (al : ℕ) (rs : List Request) (p k n : ℕ) (bytes : List ℕ) → most_bytes enc (length source) cs < 2 ^ 31 → Begun a b al rs p k bytes → n < 2 ^ 32
+    -- it isn't too long
+    abbrev IsShort : Type 0
+    IsShort = most_bytes enc (length source) cs < 2 ^ 31
+
+    never : IsShort → (e : Ending) (j : ℕ) → IsTooLong (encoding_by a options) source j → e ≡ refused
+    never short e j long = absurd (under (λ (x : Encoding). (i : ℕ) → ¬ IsTooLong x source i) (not_too_long enc source cs spells short) j long)
+
+    pub text_stands : (b : Parts T G) (al : ℕ) (rs : List Request) (p k n : ℕ) (bytes : List ℕ) → IsShort → Begun a b al rs p k bytes → n < 2 ^ 32
         → text_align enc ≡ al → length bytes ≡ text_bytes enc n → Spells (text_form enc n) bytes cs
         → IsLeastTag enc n cs → text_requests enc cs ≡ rs → PutsText L.seen L.moves options a b source (Ok (record { pointer = p; length = n }))
     text_stands b al rs p k n bytes short h few to len spelled least asks = record {
@@ -127,36 +134,39 @@ module _ {T G : Type 0} (L : GuestLaws G) (options : ℕ) where
       narrow = (h.narrow, few);
       fits = under (λ (x : Encoding). (j : ℕ) → ¬ IsTooLong x source j) (not_too_long enc source cs spells short);
       blames = tt;
+      limited = never short done;
       same = h.same;
     }
 
-    pub text_unasked : (b : Parts T G) (al k : ℕ) (more : List Request) (e : Fault) → text_requests enc cs ≡ anew al k ∷ more → AsksFor L.seen L.moves a b (call 0 0 al k) (Err e) → PutsText L.seen L.moves options a b source (Err e)
-    text_unasked b al k more e asks h = record {
+    pub text_unasked : (b : Parts T G) (al k : ℕ) (more : List Request) (e : Fault) → IsShort → text_requests enc cs ≡ anew al k ∷ more → AsksFor L.seen L.moves a b (call 0 0 al k) (Err e) → PutsText L.seen L.moves options a b source (Err e)
+    text_unasked b al k more e short asks h = record {
       lowered = under (λ (x : Encoding). LowersValue false (stage_of L.seen L.moves a) (stage_of L.seen L.moves b) (host_texts x) string [] 0 (IsTextOf source) [] (fault_ending e))
           (text_begin_stop false (stage_of L.seen L.moves a) (stage_of L.seen L.moves b) (host_texts enc) al k (IsTextOf source) [] 0 (fault_ending e) 0 (not_done e) h.small (λ t has. (more, asks_of (anew al k ∷ more) asks t has)) h.does);
       narrow = tt;
       fits = tt;
       blames = λ is. absurd (never_refused (stage_of L.seen L.moves a) (stage_of L.seen L.moves b) (call 0 0 al k) (fault_ending e) 0 is h.does);
+      limited = never short (fault_ending e);
       same = h.same;
     }
 
-    pub text_ungrown : (b c : Parts T G) (al : ℕ) (rs : List Request) (p k n : ℕ) (bytes : List ℕ) (more : List Request) (e : Fault) → Begun a b al rs p k bytes → text_requests enc cs ≡ rs ++ resized_at al k n ∷ more
+    pub text_ungrown : (b c : Parts T G) (al : ℕ) (rs : List Request) (p k n : ℕ) (bytes : List ℕ) (more : List Request) (e : Fault) → IsShort → Begun a b al rs p k bytes → text_requests enc cs ≡ rs ++ resized_at al k n ∷ more
         → AsksFor L.seen L.moves b c (call p k al n) (Err e) → PutsText L.seen L.moves options a c source (Err e)
-    text_ungrown b c al rs p k n bytes more e h asks g = record {
+    text_ungrown b c al rs p k n bytes more e short h asks g = record {
       lowered = under (λ (x : Encoding). LowersValue false (stage_of L.seen L.moves a) (stage_of L.seen L.moves c) (host_texts x) string [] 0 (IsTextOf source) [] (fault_ending e))
           (text_resize_stop false (stage_of L.seen L.moves a) (stage_of L.seen L.moves b) (stage_of L.seen L.moves c) (host_texts enc) al rs p k n bytes (IsTextOf source) [] 0 (fault_ending e) 0 (not_done e) g.small
           (λ t has. (more, asks_of (rs ++ resized_at al k n ∷ more) asks t has)) h.text g.does);
       narrow = tt;
       fits = tt;
       blames = λ is. absurd (never_refused (stage_of L.seen L.moves b) (stage_of L.seen L.moves c) (call p k al n) (fault_ending e) 0 is g.does);
+      limited = never short (fault_ending e);
       same = same_then a b c h.same g.same;
     }
 
-    pub text_unfitted : (b c : Parts T G) (al : ℕ) (rs : List Request) (p k n : ℕ) (bytes : List ℕ) (e : Fault) → Begun a b al rs p k bytes → text_requests enc cs ≡ rs ++ shrunk_at al k n → FitsTo L.seen L.moves b c al p k n (Err e)
+    pub text_unfitted : (b c : Parts T G) (al : ℕ) (rs : List Request) (p k n : ℕ) (bytes : List ℕ) (e : Fault) → IsShort → Begun a b al rs p k bytes → text_requests enc cs ≡ rs ++ shrunk_at al k n → FitsTo L.seen L.moves b c al p k n (Err e)
         → PutsText L.seen L.moves options a c source (Err e)
-    text_unfitted b c al rs p k n bytes e h asks (inl (less, g)) =
-        text_ungrown b c al rs p k n bytes [] e h (asks ∙ ap (λ (qs : List Request). rs ++ qs) (shrunk_some al k n less)) g
-    text_unfitted b c al rs p k n bytes e h asks (inr (all, same, at)) = absurd (not_ok p e at)
+    text_unfitted b c al rs p k n bytes e short h asks (inl (less, g)) =
+        text_ungrown b c al rs p k n bytes [] e short h (asks ∙ ap (λ (qs : List Request). rs ++ qs) (shrunk_some al k n less)) g
+    text_unfitted b c al rs p k n bytes e short h asks (inr (all, same, at)) = absurd (not_ok p e at)
 
     pub text_too_long : (n : ℕ) → length a.memory ≤ 2 ^ 32 → n ≡ length source → 2 ^ 31 ≤ most_bytes enc n cs → PutsText L.seen L.moves options a a source (Err (fault.StringTooLong n))
     text_too_long n small is many = record {
@@ -164,5 +174,6 @@ module _ {T G : Type 0} (L : GuestLaws G) (options : ℕ) where
       narrow = tt;
       fits = tt;
       blames = λ end. (refl, n, refl, record { scalars = cs; spelled = spells; count = is; many = under (λ (x : Encoding). 2 ^ 31 ≤ most_bytes x n cs) many });
+      limited = λ j long. refl;
       same = refl;
     }

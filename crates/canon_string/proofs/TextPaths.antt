@@ -54,7 +54,7 @@ module _ {T G : Type 0} (L : GuestLaws G) (options : ℕ) (a : Parts T G) (sourc
   utf8_asks few = short_text_asks utf8 n cs (ap length spells.is) few
 
   pub utf8_unasked : (b : Parts T G) (e : Fault) → encoding_by a options ≡ utf8 → n < 2 ^ 31 → AsksFor L.seen L.moves a b (call 0 0 1 n) (Err e) → PutsText L.seen L.moves options a b source (Err e)
-  utf8_unasked b e form few h = text_unasked L options a source cs spells utf8 form b 1 n [] e (utf8_asks few) h
+  utf8_unasked b e form few h = text_unasked L options a source cs spells utf8 form b 1 n [] e few (utf8_asks few) h
 
   pub utf8_stands : (b : Parts T G) (ys m : List ℕ) (p : ℕ) → encoding_by a options ≡ utf8 → ys ≡ b.memory → AsksFor L.seen L.moves a b (call 0 0 1 n) (Ok p) → n < 2 ^ 31 → Writes (block p n) ys m
       → bytes_at (narrow m) p n ≡ source → PutsText L.seen L.moves options a (after b m) source (Ok (record { pointer = p; length = n }))
@@ -69,7 +69,7 @@ module _ {T G : Type 0} (L : GuestLaws G) (options : ℕ) (a : Parts T G) (sourc
   utf16_asks few = short_text_asks utf16 n cs (ap length spells.is) few
 
   pub utf16_unasked : (b : Parts T G) (e : Fault) → encoding_by a options ≡ utf16 → 2 * n < 2 ^ 31 → AsksFor L.seen L.moves a b (call 0 0 2 (2 * n)) (Err e) → PutsText L.seen L.moves options a b source (Err e)
-  utf16_unasked b e form few h = text_unasked L options a source cs spells utf16 form b 2 (2 * n) (shrunk (2 * n) (length wide)) e (utf16_asks few) h
+  utf16_unasked b e form few h = text_unasked L options a source cs spells utf16 form b 2 (2 * n) (shrunk (2 * n) (length wide)) e few (utf16_asks few) h
 
   module _ (b : Parts T G) (ys m : List ℕ) (p k : ℕ) (form : encoding_by a options ≡ utf16) (same : ys ≡ b.memory) (h : AsksFor L.seen L.moves a b (call 0 0 2 (2 * n)) (Ok p)) (w : Writes (block p (2 * n)) ys m)
       (done : Widens in_utf8 source (bytes_at (narrow ys) p (2 * n)) (bytes_at (narrow m) p (2 * n)) 0 k) where
@@ -90,7 +90,7 @@ module _ {T G : Type 0} (L : GuestLaws G) (options : ℕ) (a : Parts T G) (sourc
         (record { can = spells.can; is = refl }) tt (utf16_asks_so few)
 
     pub utf16_unfitted : (d : Parts T G) (e : Fault) → 2 * n < 2 ^ 31 → FitsTo L.seen L.moves (after b m) d 2 p (2 * n) (2 * k) (Err e) → PutsText L.seen L.moves options a d source (Err e)
-    utf16_unfitted d e few fits = text_unfitted L options a source cs spells utf16 form (after b m) d 2 (anew 2 (2 * n) ∷ []) p (2 * n) (2 * k) wide e utf16_begun (utf16_asks_so few) fits
+    utf16_unfitted d e few fits = text_unfitted L options a source cs spells utf16 form (after b m) d 2 (anew 2 (2 * n) ∷ []) p (2 * n) (2 * k) wide e few utf16_begun (utf16_asks_so few) fits
 
   -- ---- Latin-1 or UTF-16
 
@@ -101,7 +101,7 @@ module _ {T G : Type 0} (L : GuestLaws G) (options : ℕ) (a : Parts T G) (sourc
   compact_asks short = short_text_asks compact n cs (ap length spells.is) short
 
   pub compact_unasked : (b : Parts T G) (e : Fault) → encoding_by a options ≡ compact → most_bytes compact n cs < 2 ^ 31 → AsksFor L.seen L.moves a b (call 0 0 2 n) (Err e) → PutsText L.seen L.moves options a b source (Err e)
-  compact_unasked b e form short h = text_unasked L options a source cs spells compact form b 2 n later e (compact_asks short) h
+  compact_unasked b e form short h = text_unasked L options a source cs spells compact form b 2 n later e short (compact_asks short) h
 
   module _ (b : Parts T G) (ys m : List ℕ) (p read written : ℕ) (form : encoding_by a options ≡ compact) (same : ys ≡ b.memory) (h : AsksFor L.seen L.moves a b (call 0 0 2 n) (Ok p)) (w : Writes (block p n) ys m)
       (done : Narrows in_utf8 source (bytes_at (narrow ys) p n) (bytes_at (narrow m) p n) read written) where
@@ -147,7 +147,7 @@ module _ {T G : Type 0} (L : GuestLaws G) (options : ℕ) (a : Parts T G) (sourc
           (begun_fitted L options a (after b m) d 2 (anew 2 n ∷ []) p n written q cs narrow_begun narrow_long fits) (omega (arith, few, parts.2.count, front_fits)) refl len spelled least (narrow_asks short)
 
       pub narrow_unfitted : (d : Parts T G) (e : Fault) → most_bytes compact n cs < 2 ^ 31 → FitsTo L.seen L.moves (after b m) d 2 p n written (Err e) → PutsText L.seen L.moves options a d source (Err e)
-      narrow_unfitted d e short fits = text_unfitted L options a source cs spells compact form (after b m) d 2 (anew 2 n ∷ []) p n written cs e narrow_begun (narrow_asks short) fits
+      narrow_unfitted d e short fits = text_unfitted L options a source cs spells compact form (after b m) d 2 (anew 2 n ∷ []) p n written cs e short narrow_begun (narrow_asks short) fits
 
     -- what is left is a text
     abbrev string_left : List ℕ
@@ -168,7 +168,7 @@ module _ {T G : Type 0} (L : GuestLaws G) (options : ℕ) (a : Parts T G) (sourc
       wide_asks short = compact_asks short ∙ ap (λ (rs : List Request). anew 2 n ∷ rs) (cond-false (all_latin1 cs) _ _ wide_text)
 
       pub wide_ungrown : (c : Parts T G) (e : Fault) → most_bytes compact n cs < 2 ^ 31 → AsksFor L.seen L.moves (after b m) c (call p n 2 (2 * n)) (Err e) → PutsText L.seen L.moves options a c source (Err e)
-      wide_ungrown c e short g = text_ungrown L options a source cs spells compact form (after b m) c 2 (anew 2 n ∷ []) p n (2 * n) string_front (shrunk (2 * n) (length wide)) e compact_begun (wide_asks short) g
+      wide_ungrown c e short g = text_ungrown L options a source cs spells compact form (after b m) c 2 (anew 2 n ∷ []) p n (2 * n) string_front (shrunk (2 * n) (length wide)) e short compact_begun (wide_asks short) g
 
       module _ (c : Parts T G) (zs m2 : List ℕ) (q k : ℕ) (same2 : zs ≡ c.memory) (g : AsksFor L.seen L.moves (after b m) c (call p n 2 (2 * n)) (Ok q)) (w2 : Writes (block q (2 * n)) zs m2)
           (widened : Widens in_utf8 string_left (bytes_at (narrow zs) q (2 * n)) (bytes_at (narrow m2) q (2 * n)) written k) where
@@ -208,4 +208,4 @@ module _ {T G : Type 0} (L : GuestLaws G) (options : ℕ) (a : Parts T G) (sourc
             (begun_fitted L options a (after c m2) d 2 string_asked q (2 * n) (2 * k) r wide wide_begun (sym wide_long) fits) (omega (arith, few, wide_units, units_few source cs spells)) refl len spelled least (wide_asks_so short)
 
         pub wide_unfitted : (d : Parts T G) (e : Fault) → most_bytes compact n cs < 2 ^ 31 → FitsTo L.seen L.moves (after c m2) d 2 q (2 * n) (2 * k) (Err e) → PutsText L.seen L.moves options a d source (Err e)
-        wide_unfitted d e short fits = text_unfitted L options a source cs spells compact form (after c m2) d 2 string_asked q (2 * n) (2 * k) wide e wide_begun (wide_asks_so short) fits
+        wide_unfitted d e short fits = text_unfitted L options a source cs spells compact form (after c m2) d 2 string_asked q (2 * n) (2 * k) wide e short wide_begun (wide_asks_so short) fits

@@ -38,4 +38,6 @@ module _ {T G : Type 0} (seen : G → Seen) (moves : GuestIn G → List Event �
     pub narrow : IfOk result (λ b. (b.pointer < 2 ^ 32) × (b.length < 2 ^ 32))
     pub fits : IfOk result (λ b. (n : ℕ) → ¬ IsTooLong (encoding_by before options) bytes n)
     pub blames : IfErr result (λ e. fault_ending e ≡ refused → (after ≡ before) × (n : ℕ) × (e ≡ fault.StringTooLong n) × IsTooLong (encoding_by before options) bytes n)
+    -- one that is too long is refused, whatever the guest does
+    pub limited : (n : ℕ) → IsTooLong (encoding_by before options) bytes n → ending_of result ≡ refused
     pub same : SameBut before after

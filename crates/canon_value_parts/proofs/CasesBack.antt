@@ -48,7 +48,7 @@ names_count no_cases = refl
 names_count (bare name cs) = ap suc (names_count cs)
 names_count (payload name s cs) = ap suc (names_count cs)
 
-case_below : (k : VariantKind) (cs : Cases) (d : ℕ) (vs : List Val) (v : Val) → IsCase k cs d vs v → d < case_count cs
+pub case_below : (k : VariantKind) (cs : Cases) (d : ℕ) (vs : List Val) (v : Val) → IsCase k cs d vs v → d < case_count cs
 case_below of_cases cs d vs v (name, p, ev, es, first) = omega (arith, slice_get_within (case_names cs) d (string_bytes name) first.0, names_count cs)
 case_below of_names cs d vs v (name, ev, es, first) = omega (arith, slice_get_within (case_names cs) d (string_bytes name) first.0, names_count cs)
 case_below of_option cs d vs v (p, ev, es, ed, lt) = lt

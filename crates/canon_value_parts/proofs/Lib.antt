@@ -48,6 +48,8 @@ pub mod PassesOf
 pub mod Seen
 pub mod SeenBack
 pub mod CasesBack
+pub mod Heads
+pub mod DeedSteps
 pub mod LeavesAt
 pub mod Lifted
 pub mod ResourcesOf
