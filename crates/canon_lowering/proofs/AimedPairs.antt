@@ -1,5 +1,5 @@
 -- A pointer and a length in memory, and a list in its block.
-use Rattle.std.proofs.Common.{Bool, List, [], ap, append-nil, arith, inl, length, refl, subst, subst₂, sym, true, ℕ, ◌*◌, ◌+◌, ◌<◌, ◌^◌, ◌∙◌, ◌∷◌, ◌≡◌, ◌≤◌}
+use Rattle.std.proofs.Common.{Bool, List, [], ap, append-nil, arith, inl, length, refl, subst, subst₂, sym, true, ℕ, ◌*◌, ◌++◌, ◌+◌, ◌<◌, ◌^◌, ◌∙◌, ◌∷◌, ◌≡◌, ◌≤◌}
 use Rattle.std.specs.Int.{◌∣◌}
 use Rattle.std.specs.Prelude.{IsFalse, ⊤}
 use Rattle.std.proofs.lemmas.Nat.Gcd.{dvd_of_mod-eq-zero}
@@ -16,12 +16,12 @@ use Rattle.canon_model.specs.Tree.{EachAt, Tree, Trees, items, list_of_each, tre
 use Rattle.canon_lowering.specs.Stages.{Stage, holding}
 use Rattle.canon_memory.specs.Realloc.{block}
 use Rattle.canon_lowering.specs.Steps.{Writes}
-use Rattle.canon_lowering.specs.Lowering.{Ending, Granted, Reallocated, done}
+use Rattle.canon_lowering.specs.Lowering.{AtMostOne, BeginsWith, Ending, Granted, Reallocated, done}
 use Rattle.canon_lowering.specs.Attempt.{items_call, Aim, Attempt, LowersValue, StoresMembers, StoresValue, handle_numbers, members_at, members_span, value_at, value_words}
 use Rattle.canon_lowering.specs.Copies.{copies, paired, pairs_of}
 use Rattle.canon_lowering.proofs.AimedAt.{members_framed, points_same, reads_more, reads_same}
 use Rattle.canon_lowering.proofs.AimedWords.{words_framed}
-use Rattle.canon_lowering.proofs.Attempts.{IsFramed, Joins, attempt_block, attempt_then, attempt_ungiven, attempt_write, within_block}
+use Rattle.canon_lowering.proofs.Attempts.{IsFramed, Joins, attempt_block, attempt_then, attempt_ungiven, attempt_write, within_block, ungiven_asked}
 use Rattle.canon_lowering.proofs.Lowerings.{NotDone}
 use Rattle.canon_lowering.proofs.Copying.{copies_ask, copies_end, copies_home, copies_leaves, copies_stored}
 use Rattle.canon_lowering.proofs.Pairing.{at_start, pair_shape, paired_count, pairs_ask, pairs_end, pairs_home, pairs_leaves, pairs_stored}
@@ -116,6 +116,14 @@ unfolding requests
 list_ungiven wide a b texts k s n p ws i Has e not small count h = attempt_ungiven wide a b (items_call wide s n) p [] (value_words wide texts (list k s) ws i Has) e not small
     (λ t has. (anew (align wide s) (tree_count (trees_of t) * size wide s), _, refl, λ last. ap (λ j. items_call wide s j) (sym (count t has)))) h
 
+-- it alone is asked for
+pub list_ungiven_asked : {K : Type 0} (hs : List ℕ) (wide : Bool) (a b : Stage K) (texts : Texts) (k : ListKind) (s : Shape) (n p : ℕ) (ws : List ℕ) (i : ℕ) (Has : Tree → Type 0) (e : Ending) (not : NotDone e) (small : length b.bytes ≤ 2 ^ 32)
+    (count : (t : Tree) → Has t → tree_count (trees_of t) ≡ n) (h : Reallocated a b (items_call wide s n) e p)
+    → let r = list_ungiven {hs = hs} wide a b texts k s n p ws i Has e not small count h in BeginsWith (items_call wide s n) e r.answers r.trap × AtMostOne r.answers r.trap
+unfolding requests list_ungiven
+list_ungiven_asked hs wide a b texts k s n p ws i Has e not small count h = ungiven_asked wide a b (items_call wide s n) p [] (value_words wide texts (list k s) ws i Has) hs e not small
+    (λ t has. (anew (align wide s) (tree_count (trees_of t) * size wide s), _, refl, λ last. ap (λ j. items_call wide s j) (sym (count t has)))) h
+
 -- ---- a pointer and a length after it
 
 abbrev pub pair_aim : Bool → ℕ → ℕ → ℕ → Aim ⊤
@@ -174,14 +182,42 @@ module _ (wide : Bool) (texts : Texts) (at p n : ℕ) (Has : Tree → Type 0) (l
   }
 
   module _ {K : Type 0} (a : Stage K) (g : Stage K) (m m2 : List ℕ) (w : Attempt wide (holding g m) (holding g m2) (pair_place wide at ∷ []) (pair_aim wide at p n) [] done) where
-    unfoldable pub list_stored : {hs : List ℕ} (k : ListKind) (s : Shape) → LowersValue wide a (holding g m) texts (list k s) (p ∷ n ∷ []) 0 Has hs done → StoresValue wide a (holding g m2) texts (list k s) at Has hs done
-    unfolding size
-    list_stored {hs = hs} k s h = subst (λ xs. StoresValue wide a (holding g m2) texts (list k s) at Has xs done) (append-nil hs)
-        (attempt_then wide a (holding g m) (holding g m2) [] (pair_place wide at ∷ []) (pair_place wide at ∷ []) _ _ (value_at wide texts (list k s) at Has) _ (list_join k s)
-        (words_framed wide texts (list k s) (p ∷ n ∷ []) 0 Has) (pair_framed wide at p n) (λ i q. absurd q) (λ i q. q) (λ i q r. absurd q) h done w)
+    abbrev list_so : {hs : List ℕ} → (k : ListKind) (s : Shape) → LowersValue wide a (holding g m) texts (list k s) (p ∷ n ∷ []) 0 Has hs done → List ℕ → Type 0
+    list_so k s h xs = (r : StoresValue wide a (holding g m2) texts (list k s) at Has xs done) × (r.answers ≡ h.answers ++ w.answers) × (r.trap ≡ w.trap)
 
-    unfoldable pub string_stored : {hs : List ℕ} → LowersValue wide a (holding g m) texts string (p ∷ n ∷ []) 0 Has hs done → StoresValue wide a (holding g m2) texts string at Has hs done
-    unfolding size
-    string_stored {hs = hs} h = subst (λ xs. StoresValue wide a (holding g m2) texts string at Has xs done) (append-nil hs)
-        (attempt_then wide a (holding g m) (holding g m2) [] (pair_place wide at ∷ []) (pair_place wide at ∷ []) _ _ (value_at wide texts string at Has) _ string_join
-        (words_framed wide texts string (p ∷ n ∷ []) 0 Has) (pair_framed wide at p n) (λ i q. absurd q) (λ i q. q) (λ i q r. absurd q) h done w)
+    list_whole : {hs : List ℕ} (k : ListKind) (s : Shape) (h : LowersValue wide a (holding g m) texts (list k s) (p ∷ n ∷ []) 0 Has hs done) → list_so k s h hs
+    unfolding size attempt_then
+    list_whole {hs = hs} k s h = subst (λ xs. list_so k s h xs) (append-nil hs) (
+      attempt_then wide a (holding g m) (holding g m2) [] (pair_place wide at ∷ []) (pair_place wide at ∷ []) _ _ (value_at wide texts (list k s) at Has) _ (list_join k s)
+          (words_framed wide texts (list k s) (p ∷ n ∷ []) 0 Has) (pair_framed wide at p n) (λ i q. absurd q) (λ i q. q) (λ i q r. absurd q) h done w,
+      refl,
+      refl,
+    )
+
+    pub list_stored : {hs : List ℕ} (k : ListKind) (s : Shape) → LowersValue wide a (holding g m) texts (list k s) (p ∷ n ∷ []) 0 Has hs done → StoresValue wide a (holding g m2) texts (list k s) at Has hs done
+    list_stored k s h = (list_whole k s h).0
+
+    -- with the answers of both
+    pub list_answers : {hs : List ℕ} (k : ListKind) (s : Shape) (h : LowersValue wide a (holding g m) texts (list k s) (p ∷ n ∷ []) 0 Has hs done) → let r = list_stored k s h in (r.answers ≡ h.answers ++ w.answers) × (r.trap ≡ w.trap)
+    unfolding list_stored
+    list_answers k s h = ((list_whole k s h).1, (list_whole k s h).2)
+
+    abbrev string_so : {hs : List ℕ} → LowersValue wide a (holding g m) texts string (p ∷ n ∷ []) 0 Has hs done → List ℕ → Type 0
+    string_so h xs = (r : StoresValue wide a (holding g m2) texts string at Has xs done) × (r.answers ≡ h.answers ++ w.answers) × (r.trap ≡ w.trap)
+
+    string_whole : {hs : List ℕ} (h : LowersValue wide a (holding g m) texts string (p ∷ n ∷ []) 0 Has hs done) → string_so h hs
+    unfolding size attempt_then
+    string_whole {hs = hs} h = subst (λ xs. string_so h xs) (append-nil hs) (
+      attempt_then wide a (holding g m) (holding g m2) [] (pair_place wide at ∷ []) (pair_place wide at ∷ []) _ _ (value_at wide texts string at Has) _ string_join
+          (words_framed wide texts string (p ∷ n ∷ []) 0 Has) (pair_framed wide at p n) (λ i q. absurd q) (λ i q. q) (λ i q r. absurd q) h done w,
+      refl,
+      refl,
+    )
+
+    pub string_stored : {hs : List ℕ} → LowersValue wide a (holding g m) texts string (p ∷ n ∷ []) 0 Has hs done → StoresValue wide a (holding g m2) texts string at Has hs done
+    string_stored h = (string_whole h).0
+
+    -- with the answers of both
+    pub string_answers : {hs : List ℕ} (h : LowersValue wide a (holding g m) texts string (p ∷ n ∷ []) 0 Has hs done) → let r = string_stored h in (r.answers ≡ h.answers ++ w.answers) × (r.trap ≡ w.trap)
+    unfolding string_stored
+    string_answers h = ((string_whole h).1, (string_whole h).2)

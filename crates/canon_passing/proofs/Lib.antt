@@ -1,3 +1,4 @@
+pub mod Asking
 pub mod Enacting
 pub mod Far
 pub mod Passing

@@ -1,8 +1,9 @@
 -- The steps of a walk, as far as its records say what was done.
-use Rattle.std.proofs.Common.{Bool, Err, List, None, Ok, Option, Result, Some, [], ap, arith, inl, inr, length, refl, subst, suc, sym, true, false, zero, ℕ, ◌*◌, ◌++◌, ◌+◌, ◌<◌, ◌^◌, ◌∙◌, ◌≡◌, ◌≤◌, ◌∷◌, ◌⊎◌}
-use Rattle.std.specs.Prelude.{nat_lt, ◌&&◌, ◌==◌}
-use Rattle.std.proofs.lemmas.Bool.{eq-eqb}
-use Rattle.std.proofs.lemmas.List.{append-nil}
+use Rattle.std.proofs.Common.{Bool, Err, List, None, Ok, Option, Result, Some, [], ap, arith, inl, inr, le-ltb, length, lt-ltb, map, chars, string_bytes, refl, subst, suc, sym, true, false, zero, ℕ, ◌*◌, ◌++◌, ◌+◌, ◌<◌, ◌^◌, ◌∙◌, ◌≡◌, ◌≤◌, ◌∷◌, ◌⊎◌}
+use Rattle.std.specs.Prelude.{All, Any, String, Vec, nat_lt, ◌&&◌, ◌==◌, ◌||◌}
+use Rattle.std.specs.declared.alloc.Global.{Global}
+use Rattle.std.proofs.lemmas.Bool.{eq-eqb, false≢true}
+use Rattle.std.proofs.lemmas.List.{append_assoc, append-nil}
 use Rattle.canon_context.specs.declared.fault.Fault.{Fault}
 use Rattle.canon_context.specs.declared.fault.Fault.TheVariants as fault
 use Rattle.canon_context.specs.Faults.{stop_of}
@@ -11,24 +12,50 @@ use Rattle.canon_ledger.specs.declared.fault.ResourceFault.{ResourceFault}
 use Rattle.canon_ledger.specs.declared.fault.ResourceFault.TheVariants as resource
 use Rattle.canon_lowering.specs.Copies.{case_members, copies, pairs_of}
 use Rattle.canon_lowering.specs.Lowering.{Answer, Trap}
+use Rattle.canon_lowering.proofs.Pairing.{pair_shape}
+use Rattle.canon_model.specs.Layout.{align, size}
 use Rattle.canon_model.specs.Memory.{cap}
-use Rattle.canon_model.specs.Shape.{Cases, Members, Name, ProductKind, Scalar, Shape, VariantKind, bare, case_count, fixed, flags, list, member, member_count, no_cases, no_members, of_items, payload, product, scalar, variant}
-use Rattle.canon_model.specs.Text.{Encoding}
+use Rattle.canon_model.specs.Requests.{anew, text_requests}
+use Rattle.canon_model.specs.Shape.{Cases, Members, Name, ProductKind, Scalar, Shape, VariantKind, bare, case_count, fixed, flags, list, member, member_count, no_cases, map_of, no_members, of_items, payload, product, scalar, string, variant}
+use Rattle.canon_model.specs.Text.{Encoding, most_bytes}
 use Rattle.canon_model.specs.Tree.{Tree}
-use Rattle.canon_passing.specs.Deeds.{Deed, Enacted, Enacts, HandEnds, fails, hands, of_kind, tested}
+use Rattle.canon_passing.specs.Deeds.{Deed, Enacted, Enacts, HandEnds, asks, block_deeds, fails, hands, of_kind, tested, text_deeds}
 use Rattle.canon_passing.proofs.Enacting.{enacts_stop, enacts_then}
 use Rattle.canon_passing.proofs.Passing.{Ended, Took}
 use Rattle.canon_plan.specs.Plan.{shaped_handle}
 use Rattle.canon_resources.specs.Held.{Any}
 use Rattle.canon_resources.specs.Parts.{LeafMoves, LeafTakes, Part, PassedResource, Stops, TakesParts, do_part, lower_parts, passed, refusal_of}
 use Rattle.canon_types.specs.Instance.{Instance}
-use Rattle.canon_val.specs.Value.{HasScalar, IsCase, IsFixedListValue, IsItems, IsProduct, no_names, places}
+use Rattle.canon_val.specs.Value.{HasScalar, IsCase, IsFixedListValue, IsProduct, Occurs, member_names, no_names, pair_places, places}
 use Rattle.canon_val.specs.declared.val.Val.{Val}
 use Rattle.canon_val.specs.declared.val.Val.TheVariants as val
-use Rattle.canon_value_parts.specs.ValueDeeds.{case_deeds, deeds, each_deeds, members_deeds, same_name}
+use Rattle.canon_value_parts.specs.ValueDeeds.{all_occur, case_deeds, deeds, each_deeds, members_deeds, occurs, pair_deeds, same_name}
+use Rattle.canon_value_parts.specs.Elements.{by_turns}
 use Rattle.canon_value_parts.specs.Viewed.{BlamesItself}
 use Rattle.canon_value_parts.proofs.Heads.{Starts, blamed_first}
-use Rattle.canon_value_parts.proofs.Seen.{case_seen, fixed_list_seen, members_seen, resource_seen, same_true, scalar_seen, true_same}
+use Rattle.canon_value_parts.proofs.Seen.{all_seen, case_seen, fixed_list_seen, flags_seen, items_seen, members_seen, pairs_seen, resource_seen, same_true, scalar_seen, text_seen, true_same}
+
+and_false : (b : Bool) → (b && false) ≡ false
+and_false true = refl
+and_false false = refl
+
+-- one of them is none of the names
+occurs_so : (name : Name) (names : List Name) → occurs name names ≡ true → Occurs name names
+occurs_so name [] e = absurd (false≢true e)
+occurs_so name (n ∷ names) e = by (same_name name n) refl e
+  where
+    by : (b : Bool) → same_name name n ≡ b → (b || occurs name names) ≡ true → Occurs name (n ∷ names)
+    by true is h = (0, n, omega arith, refl, sym (true_same name n is))
+    by false is h = let (k, m, lt, here, same) = occurs_so name names h in (suc k, m, omega (arith, lt), here, same)
+
+not_all : (set names : List Name) → Any (λ n. ¬ Occurs n names) set → all_occur set names ≡ false
+not_all [] names (k, m, lt, here, other) = absurd (omega (arith, lt))
+not_all (n ∷ set) names (zero, m, lt, here, other) = by (occurs n names) refl
+  where
+    by : (b : Bool) → occurs n names ≡ b → (occurs n names && all_occur set names) ≡ false
+    by true is = absurd (subst (λ (x : Name). ¬ Occurs x names) (sym here) other (occurs_so n names is))
+    by false is = ap (λ b. b && all_occur set names) is
+not_all (n ∷ set) names (suc k, m, lt, here, other) = ap (λ b. occurs n names && b) (not_all set names (k, m, omega (arith, lt), here, other)) ∙ and_false (occurs n names)
 
 kind_is : {A : Type 0} → (o : Option A) (x : A) (e : Fault) (f : A → List Deed) → o ≡ Some x → of_kind o e f ≡ f x
 kind_is o x e f is = ap (λ y. of_kind y e f) is
@@ -125,23 +152,23 @@ module _ (enc : Encoding) (types : Instance) where
 
   -- ---- a value from its members
 
-  pub product_is : (k : ProductKind) (ms : Members) (names : List Name) (vs : List Val) (v : Val) (p : ℕ) → IsProduct k names vs v → length vs ≡ member_count ms → deeds enc types (product k ms) v p ≡ members_deeds enc types ms p names vs (cap (p + 1))
-  product_is k ms names vs v p is count =
+  pub deeds_product : (k : ProductKind) (ms : Members) (names : List Name) (vs : List Val) (v : Val) (p : ℕ) → IsProduct k names vs v → length vs ≡ member_count ms → deeds enc types (product k ms) v p ≡ members_deeds enc types ms p names vs (cap (p + 1))
+  deeds_product k ms names vs v p is count =
       kind_is _ (names, vs) (fault.TypeMismatch p) (λ f. tested (length f.1 == member_count ms) (fault.LengthMismatch p) (members_deeds enc types ms p f.0 f.1 (cap (p + 1)))) (members_seen k names vs v is)
       ∙ ap (λ b. tested b (fault.LengthMismatch p) (members_deeds enc types ms p names vs (cap (p + 1)))) (eq-eqb (length vs) (member_count ms) count)
 
-  row_is : (s : Shape) (whole : ℕ) (vs : List Val) (p : ℕ) → members_deeds enc types (copies (length vs) s) whole (no_names vs) vs p ≡ each_deeds places (λ w q. deeds enc types s w q) vs p
-  row_is s whole [] p = refl
-  row_is s whole (v ∷ vs) p =
+  deeds_row : (s : Shape) (whole : ℕ) (vs : List Val) (p : ℕ) → members_deeds enc types (copies (length vs) s) whole (no_names vs) vs p ≡ each_deeds places (λ w q. deeds enc types s w q) vs p
+  deeds_row s whole [] p = refl
+  deeds_row s whole (v ∷ vs) p =
       let rest : List Deed = members_deeds enc types (copies (length vs) s) whole (no_names vs) vs (cap (p + places v)) in
-      ap (λ b. tested b (fault.FieldName whole) (deeds enc types s v p ++ rest)) (same_true [] [] refl) ∙ ap (λ ds. deeds enc types s v p ++ ds) (row_is s whole vs (cap (p + places v)))
+      ap (λ b. tested b (fault.FieldName whole) (deeds enc types s v p ++ rest)) (same_true [] [] refl) ∙ ap (λ ds. deeds enc types s v p ++ ds) (deeds_row s whole vs (cap (p + places v)))
 
-  pub fixed_is : (n : ℕ) (s : Shape) (names : List Name) (vs : List Val) (v : Val) (p : ℕ) → IsFixedListValue vs v → names ≡ no_names vs → length vs ≡ n → deeds enc types (fixed n s) v p ≡ members_deeds enc types (copies n s) p names vs (cap (p + 1))
-  fixed_is n s names vs v p is en count =
+  pub deeds_fixed : (n : ℕ) (s : Shape) (names : List Name) (vs : List Val) (v : Val) (p : ℕ) → IsFixedListValue vs v → names ≡ no_names vs → length vs ≡ n → deeds enc types (fixed n s) v p ≡ members_deeds enc types (copies n s) p names vs (cap (p + 1))
+  deeds_fixed n s names vs v p is en count =
       let row : List Deed = each_deeds places (λ w q. deeds enc types s w q) vs (cap (p + 1)) in
       kind_is _ vs (fault.TypeMismatch p) (λ ws. tested (length ws == n) (fault.LengthMismatch p) (each_deeds places (λ w q. deeds enc types s w q) ws (cap (p + 1)))) (fixed_list_seen vs v is)
       ∙ (ap (λ b. tested b (fault.LengthMismatch p) row) (eq-eqb (length vs) n count)
-      ∙ (sym (row_is s p vs (cap (p + 1))) ∙ (ap (λ k. members_deeds enc types (copies k s) p (no_names vs) vs (cap (p + 1))) count ∙ ap (λ ns. members_deeds enc types (copies n s) p ns vs (cap (p + 1))) (sym en))))
+      ∙ (sym (deeds_row s p vs (cap (p + 1))) ∙ (ap (λ k. members_deeds enc types (copies k s) p (no_names vs) vs (cap (p + 1))) count ∙ ap (λ ns. members_deeds enc types (copies n s) p ns vs (cap (p + 1))) (sym en))))
 
   -- ---- a case: its payload as no member or one
 
@@ -157,8 +184,94 @@ module _ (enc : Encoding) (types : Instance) where
   payload_is (payload name s cs) zero (v ∷ (w ∷ vs)) whole e lt = absurd (omega (arith, e))
   payload_is (payload name s cs) (suc d) vs whole e lt = payload_is cs d vs whole e (omega (arith, lt))
 
-  pub case_is : (k : VariantKind) (cs : Cases) (d : ℕ) (names : List Name) (vs : List Val) (v : Val) (p : ℕ) → IsCase k cs d vs v → names ≡ no_names vs → length vs ≡ member_count (case_members cs d) → d < case_count cs
+  payload_names : (cs : Cases) (d : ℕ) (vs : List Val) → length vs ≡ member_count (case_members cs d) → member_names (case_members cs d) ≡ no_names vs
+  payload_names no_cases d [] e = refl
+  payload_names no_cases d (v ∷ vs) e = absurd (omega (arith, e))
+  payload_names (bare name cs) zero [] e = refl
+  payload_names (bare name cs) zero (v ∷ vs) e = absurd (omega (arith, e))
+  payload_names (bare name cs) (suc d) vs e = payload_names cs d vs e
+  payload_names (payload name s cs) zero [] e = absurd (omega (arith, e))
+  payload_names (payload name s cs) zero (v ∷ []) e = refl
+  payload_names (payload name s cs) zero (v ∷ (w ∷ vs)) e = absurd (omega (arith, e))
+  payload_names (payload name s cs) (suc d) vs e = payload_names cs d vs e
+
+  pub deeds_case : (k : VariantKind) (cs : Cases) (d : ℕ) (names : List Name) (vs : List Val) (v : Val) (p : ℕ) → IsCase k cs d vs v → names ≡ member_names (case_members cs d) → length vs ≡ member_count (case_members cs d) → d < case_count cs
       → deeds enc types (variant k cs) v p ≡ members_deeds enc types (case_members cs d) p names vs (cap (p + 1))
-  case_is k cs d names vs v p is en count lt =
+  deeds_case k cs d names vs v p is en count lt =
       kind_is _ (d, vs) (fault.TypeMismatch p) (λ c. case_deeds enc types cs c.0 c.1 p) (case_seen k cs d vs v is)
-      ∙ (payload_is cs d vs p count lt ∙ ap (λ ns. members_deeds enc types (case_members cs d) p ns vs (cap (p + 1))) (sym en))
+      ∙ (payload_is cs d vs p count lt ∙ ap (λ ns. members_deeds enc types (case_members cs d) p ns vs (cap (p + 1))) (sym (en ∙ payload_names cs d vs count)))
+
+  -- ---- flags
+
+  pub enacted_flags : (names : List Name) (set : Vec (String Global) Global) (p : ℕ) (l : LedgerState) → All (λ n. Occurs n names) (map (λ s. string_bytes s) set.items) → Enacted l (deeds enc types (flags names) (val.Flags set) p) None [] None [] l
+  enacted_flags names set p l known = enacted_as [] (deeds enc types (flags names) (val.Flags set) p) None l l [] None []
+      (kind_is _ (map (λ s. string_bytes s) set.items) (fault.TypeMismatch p) (λ ns. tested (all_occur ns names) (fault.UnknownFlag p) []) (flags_seen (map (λ s. string_bytes s) set.items) (val.Flags set) (set, refl, refl))
+      ∙ ap (λ b. tested b (fault.UnknownFlag p) []) (all_seen (map (λ s. string_bytes s) set.items) names known)) (enacted_none l)
+
+  pub enacted_unknown : (names : List Name) (set : Vec (String Global) Global) (p : ℕ) (l : LedgerState) → Any (λ n. ¬ Occurs n names) (map (λ s. string_bytes s) set.items)
+      → Enacted l (deeds enc types (flags names) (val.Flags set) p) (Some (fault.UnknownFlag p)) [] None [] l
+  enacted_unknown names set p l unknown = enacted_fails (deeds enc types (flags names) (val.Flags set) p) (fault.UnknownFlag p) l ([],
+      kind_is _ (map (λ s. string_bytes s) set.items) (fault.TypeMismatch p) (λ ns. tested (all_occur ns names) (fault.UnknownFlag p) []) (flags_seen (map (λ s. string_bytes s) set.items) (val.Flags set) (set, refl, refl))
+      ∙ ap (λ b. tested b (fault.UnknownFlag p) []) (not_all (map (λ s. string_bytes s) set.items) names unknown))
+
+  -- ---- a text
+
+  text_is : (s : String Global) (p : ℕ) → deeds enc types string (val.String s) p ≡ text_deeds enc (length (string_bytes s)) (chars (string_bytes s))
+  text_is s p = kind_is _ (string_bytes s) (fault.TypeMismatch p) (λ bytes. text_deeds enc (length bytes) (chars bytes)) (text_seen s (val.String s) refl)
+
+  pub short_text_is : (s : String Global) (p : ℕ) → most_bytes enc (length (string_bytes s)) (chars (string_bytes s)) < 2 ^ 31 → deeds enc types string (val.String s) p ≡ map asks (text_requests enc (chars (string_bytes s)))
+  short_text_is s p short = text_is s p ∙ ap (λ b. tested b (fault.StringTooLong (length (string_bytes s))) (map asks (text_requests enc (chars (string_bytes s))))) (lt-ltb _ _ short)
+
+  pub long_text_starts : (s : String Global) (p : ℕ) → 2 ^ 31 ≤ most_bytes enc (length (string_bytes s)) (chars (string_bytes s)) → Starts (fault.StringTooLong (length (string_bytes s))) (deeds enc types string (val.String s) p)
+  long_text_starts s p long = (map asks (text_requests enc (chars (string_bytes s))),
+      text_is s p ∙ ap (λ b. tested b (fault.StringTooLong (length (string_bytes s))) (map asks (text_requests enc (chars (string_bytes s))))) (le-ltb _ _ long))
+
+  -- ---- a list or a map: its block, and then its elements as members
+
+  -- what is done behind the block
+  abbrev pub block_then : Shape → ℕ → List Deed → List Deed
+  block_then s n ds = block_deeds s n ++ ds
+
+  pub items_are : (s : Shape) (xs : Vec Val Global) (p : ℕ) → deeds enc types (list of_items s) (val.List xs) p
+      ≡ block_then s (length xs.items) (members_deeds enc types (copies (length xs.items) s) p (no_names xs.items) xs.items (cap (p + 1)))
+  items_are s xs p =
+      kind_is _ xs.items (fault.TypeMismatch p) (λ ws. block_deeds s (length ws) ++ each_deeds places (λ w q. deeds enc types s w q) ws (cap (p + 1))) (items_seen xs.items (val.List xs) (xs, refl, refl))
+      ∙ ap (λ ds. block_deeds s (length xs.items) ++ ds) (sym (deeds_row s p xs.items (cap (p + 1))))
+
+  pair_is : (s u : Shape) (q : Val × Val) (p : ℕ) → pair_deeds enc types (pair_shape s u) q p ≡ deeds enc types s q.0 p ++ deeds enc types u q.1 (cap (p + places q.0))
+  pair_is s u q p =
+      let b : List Deed = deeds enc types u q.1 (cap (p + places q.0)) in
+      ap (λ c. tested c (fault.FieldName p) (deeds enc types s q.0 p ++ tested (same_name [] []) (fault.FieldName p) (b ++ []))) (same_true [] [] refl)
+      ∙ (ap (λ c. deeds enc types s q.0 p ++ tested c (fault.FieldName p) (b ++ [])) (same_true [] [] refl) ∙ ap (λ ds. deeds enc types s q.0 p ++ ds) (append-nil b))
+
+  pairs_are : (s u : Shape) (whole : ℕ) (ps : List (Val × Val)) (p : ℕ) → members_deeds enc types (pairs_of (length ps) s u) whole (no_names (by_turns ps)) (by_turns ps) p ≡ each_deeds pair_places (λ w q. pair_deeds enc types (pair_shape s u) w q) ps p
+  pairs_are s u whole [] p = refl
+  pairs_are s u whole (q ∷ ps) p =
+      let a : List Deed = deeds enc types s q.0 p in
+      let b : List Deed = deeds enc types u q.1 (cap (p + places q.0)) in
+      let more : List Deed = members_deeds enc types (pairs_of (length ps) s u) whole (no_names (by_turns ps)) (by_turns ps) (cap (cap (p + places q.0) + places q.1)) in
+      let rest : List Deed = each_deeds pair_places (λ w k. pair_deeds enc types (pair_shape s u) w k) ps (cap (p + (places q.0 + places q.1))) in
+      let next : cap (cap (p + places q.0) + places q.1) ≡ cap (p + (places q.0 + places q.1)) = omega arith in
+      let same : more ≡ rest = pairs_are s u whole ps (cap (cap (p + places q.0) + places q.1)) ∙ ap (λ k. each_deeds pair_places (λ w j. pair_deeds enc types (pair_shape s u) w j) ps k) next in
+      ap (λ c. tested c (fault.FieldName whole) (a ++ tested (same_name [] []) (fault.FieldName whole) (b ++ more))) (same_true [] [] refl)
+      ∙ (ap (λ c. a ++ tested c (fault.FieldName whole) (b ++ more)) (same_true [] [] refl)
+      ∙ (ap (λ ds. a ++ (b ++ ds)) same ∙ (sym (append_assoc a b rest) ∙ ap (λ ds. ds ++ rest) (sym (pair_is s u q p)))))
+
+  pub map_are : (s u : Shape) (xs : Vec (Val × Val) Global) (p : ℕ) → deeds enc types (map_of s u) (val.Map xs) p
+      ≡ block_then (pair_shape s u) (length xs.items) (members_deeds enc types (pairs_of (length xs.items) s u) p (no_names (by_turns xs.items)) (by_turns xs.items) (cap (p + 1)))
+  map_are s u xs p =
+      kind_is _ xs.items (fault.TypeMismatch p) (λ ws. block_deeds (pair_shape s u) (length ws) ++ each_deeds pair_places (λ w q. pair_deeds enc types (pair_shape s u) w q) ws (cap (p + 1))) (pairs_seen (pair_shape s u) xs.items (val.Map xs) refl (xs, refl, refl))
+      ∙ ap (λ ds. block_deeds (pair_shape s u) (length xs.items) ++ ds) (sym (pairs_are s u p xs.items (cap (p + 1))))
+
+  fit_both : (n m : ℕ) → n < 2 ^ 32 → m < 2 ^ 32 → (nat_lt n (2 ^ 32) && nat_lt m (2 ^ 32)) ≡ true
+  fit_both n m h k = rw (lt-ltb n (2 ^ 32) h) (lt-ltb m (2 ^ 32) k)
+
+  not_both : (n m : ℕ) → (2 ^ 32 ≤ n) ⊎ (2 ^ 32 ≤ m) → (nat_lt n (2 ^ 32) && nat_lt m (2 ^ 32)) ≡ false
+  not_both n m (inl h) = rw (le-ltb n (2 ^ 32) h) refl
+  not_both n m (inr h) = rw (le-ltb m (2 ^ 32) h) (and_false (nat_lt n (2 ^ 32)))
+
+  pub fitting_block : (s : Shape) (n : ℕ) (ds : List Deed) → n < 2 ^ 32 → n * size false s < 2 ^ 32 → block_then s n ds ≡ asks (anew (align false s) (n * size false s)) ∷ ds
+  fitting_block s n ds few fit = ap (λ b. tested b (fault.SizeOverflow n) (asks (anew (align false s) (n * size false s)) ∷ []) ++ ds) (fit_both n (n * size false s) few fit)
+
+  pub large_block : (s : Shape) (n : ℕ) (ds : List Deed) → (2 ^ 32 ≤ n) ⊎ (2 ^ 32 ≤ n * size false s) → Starts (fault.SizeOverflow n) (block_then s n ds)
+  large_block s n ds many = (asks (anew (align false s) (n * size false s)) ∷ ds, ap (λ b. tested b (fault.SizeOverflow n) (asks (anew (align false s) (n * size false s)) ∷ []) ++ ds) (not_both n (n * size false s) many))

@@ -8,7 +8,7 @@ use Rattle.canon_memory.specs.Memory.{written_over}
 use Rattle.canon_memory.specs.Realloc.{block}
 use Rattle.canon_lowering.proofs.AimedAt.{flags_stored}
 use Rattle.canon_lowering.proofs.AimedWords.{flags_words}
-use Rattle.canon_lowering.proofs.Attempts.{attempt_refused}
+use Rattle.canon_lowering.proofs.Attempts.{attempt_none, attempt_refused, attempt_write}
 use Rattle.canon_lowering.proofs.Lowerings.{lowering_write, requested_later}
 use Rattle.canon_lowering.specs.Lowering.{Lowering, done, refused}
 use Rattle.canon_lowering.specs.Steps.{Writes}
@@ -32,6 +32,7 @@ use Rattle.canon_value_parts.specs.Words.{LowersTo}
 use Rattle.canon_context.specs.declared.fault.Fault.TheVariants as fault
 use Rattle.canon_value_parts.specs.declared.spot.Spot.{Spot}
 use Rattle.canon_val.specs.declared.val.Val.TheVariants as val
+use Rattle.canon_value_parts.proofs.DeedSteps.{enacted_flags, enacted_unknown}
 use Rattle.canon_value_parts.proofs.FlagNames.{Differ, flags_are, marked_all, names_are}
 use Rattle.canon_value_parts.proofs.FlagWriting.{AreStored, stored_begin, stored_more}
 use Rattle.canon_value_parts.proofs.MapsAndFlags.{places_flags, any_order}
@@ -76,6 +77,7 @@ module _ {T G : Type 0} (L : GuestLaws G) (options : ℕ) (a : Parts T G) (names
 
   module _ (m : List ℕ) (s : Shape) (is : s ≡ flags names) (at bytes : ℕ) (many : bytes ≡ flags_size (length names)) (room : at + bytes ≤ length a.memory) where
     pub flags_store : (next : ℕ) → AreStored a.memory m at bytes names (names_of set.items) → next ≡ cap (place + 1) → StoresTo L.seen L.moves options a (record a { memory = m }) s at (val.Flags set) place (Ok next)
+    unfolding flags_stored attempt_write
     flags_store next h counted =
         let there : AreStored a.memory m at (flags_size (length names)) names (names_of set.items) = subst (λ (n : ℕ). AreStored a.memory m at n names (names_of set.items)) many h in
         let (least, marked, known) = marked_all names (names_of set.items) (num (narrow m) at (flags_size (length names))) there.marked there.known in
@@ -84,6 +86,7 @@ module _ {T G : Type 0} (L : GuestLaws G) (options : ℕ) (a : Parts T G) (names
           storing = flags_stored false (stage_of L.seen L.moves a) a.memory m (host_texts (encoding_by a options)) at (HasTree (flags names) (val.Flags set)) small names (omega (arith, room, many)) there.writes least
               (names_of set.items, _, (set, refl, refl), known, refl, marked, λ h. any_order h);
           handed = passes_none a.component.types a.ledger a.ledger (passes (val.Flags set) (flags names)) refl (flags_none names set);
+          enacted = enacted_flags (encoding_by a options) a.component.types names set place a.ledger known;
           counted = (omega (arith, counted, places_flags (names_of set.items) (val.Flags set) (set, refl, refl)), flags_small (encoding_by a options) names (val.Flags set));
           same = refl;
           quiet = λ none. (refl, tt);
@@ -105,6 +108,7 @@ module _ {T G : Type 0} (L : GuestLaws G) (options : ℕ) (a : Parts T G) (names
             shown = tt;
           };
           handed = passes_stopped a.component.types a.ledger a.ledger (passes (val.Flags set) (flags names)) (fault.UnknownFlag place) refl refl;
+          enacted = enacted_unknown (encoding_by a options) a.component.types names set place a.ledger unknown;
           counted = (0, omega (arith, few), (refl, (names_of set.items, (set, refl, refl), unknown)));
           same = refl;
           quiet = λ none. (refl, refl);
@@ -115,12 +119,13 @@ module _ {T G : Type 0} (L : GuestLaws G) (options : ℕ) (a : Parts T G) (names
   module _ (dst dst2 : List ℕ) (from : Spot) (is_place : from.place ≡ place) (stays : WordsStay from.word dst dst2) (s : Shape) (is : s ≡ flags names) where
     pub flags_lower : (to : Spot) → AreSetInWords names (names_of set.items) dst2 from.word → to.word ≡ from.word + flag_words (length names) → to.place ≡ cap (place + 1)
         → LowersTo L.seen L.moves options a a dst dst2 from (Ok to) s (val.Flags set)
-    unfolding flat
+    unfolding flat flags_words attempt_none
     flags_lower to (below, (least, marked, known)) ew ep = subst (λ (x : Shape). LowersTo L.seen L.moves options a a dst dst2 from (Ok to) x (val.Flags set)) (sym is) (record {
       handles = [];
       lowered = flags_words false (stage_of L.seen L.moves a) (host_texts (encoding_by a options)) dst2 from.word (HasTree (flags names) (val.Flags set)) small names below least
           (names_of set.items, _, (set, refl, refl), known, refl, marked, λ h. any_order h);
       handed = passes_none a.component.types a.ledger a.ledger (passes (val.Flags set) (flags names)) refl (flags_none names set);
+      enacted = enacted_flags (encoding_by a options) a.component.types names set from.place a.ledger known;
       stays = stays;
       passed = ew;
       counted = (omega (arith, ep, is_place, places_flags (names_of set.items) (val.Flags set) (set, refl, refl)), flags_small (encoding_by a options) names (val.Flags set));
@@ -129,10 +134,12 @@ module _ {T G : Type 0} (L : GuestLaws G) (options : ℕ) (a : Parts T G) (names
     })
 
     pub flags_not_lowered : SomeUnknown names (names_of set.items) → place < 2 ^ 64 → LowersTo L.seen L.moves options a a dst dst2 from (Err (fault.UnknownFlag from.place)) s (val.Flags set)
+    unfolding attempt_refused
     flags_not_lowered unknown few = subst (λ (x : Shape). LowersTo L.seen L.moves options a a dst dst2 from (Err (fault.UnknownFlag from.place)) x (val.Flags set)) (sym is) (record {
       handles = [];
       lowered = attempt_refused false (stage_of L.seen L.moves a) [] _ small;
       handed = passes_stopped a.component.types a.ledger a.ledger (passes (val.Flags set) (flags names)) (fault.UnknownFlag from.place) refl refl;
+      enacted = enacted_unknown (encoding_by a options) a.component.types names set from.place a.ledger unknown;
       stays = stays;
       passed = tt;
       counted = (0, omega (arith, few, is_place), (refl, (names_of set.items, (set, refl, refl), unknown)));

@@ -1,5 +1,5 @@
 -- A list and a map, as values whose elements stand in a row.
-use Rattle.std.proofs.Common.{◌≡◌, ◌≤◌, ◌<◌, ◌+◌, ◌*◌, ◌^◌, ◌∙◌, ◌⊎◌, List, Vec, ap, ap₂, arith, false, inl, inr, length, refl, subst, sym, true, ℕ}
+use Rattle.std.proofs.Common.{◌≡◌, ◌≤◌, ◌<◌, ◌+◌, ◌*◌, ◌^◌, ◌++◌, ◌∙◌, ◌⊎◌, List, Vec, ap, ap₂, arith, false, inl, inr, length, refl, subst, sym, true, ℕ}
 use Rattle.std.specs.declared.alloc.Global.{Global}
 use Rattle.canon_abi.specs.Abi.{HasLayout}
 use Rattle.canon_abi.specs.declared.abi.CanonicalAbiInfo.{CanonicalAbiInfo}
@@ -26,7 +26,12 @@ use Rattle.canon_value_parts.specs.declared.elements.Elements.{Elements}
 use Rattle.canon_value_parts.specs.declared.elements.Elements.TheVariants as elements
 use Rattle.canon_val.specs.declared.val.Val.{Val}
 use Rattle.canon_val.specs.declared.val.Val.TheVariants as val
+use Rattle.canon_model.specs.Memory.{cap}
+use Rattle.canon_passing.specs.Deeds.{block_deeds}
+use Rattle.canon_types.specs.Instance.{Instance}
+use Rattle.canon_value_parts.specs.ValueDeeds.{deeds, members_deeds}
 use Rattle.canon_value_parts.proofs.Contents.{places_list}
+use Rattle.canon_value_parts.proofs.DeedSteps.{items_are, map_are}
 use Rattle.canon_value_parts.proofs.MapsAndFlags.{one_pairs}
 use Rattle.canon_value_parts.proofs.PairRows.{have_pairs, pairs_no_handle, pairs_deepest, pairs_fail, pairs_have, pairs_named, places_map}
 use Rattle.canon_value_parts.proofs.Sizes.{items_fit, items_inner, pairs_fit, pairs_inner}
@@ -51,6 +56,7 @@ pub record IsListOf (whole : Shape) (v : Val) (n : ℕ) (ms : Members) (vs : Lis
   pub fits : (m : ℕ) → n < 2 ^ 32 → n * size false part < 2 ^ 32 → ¬ Fails (overflow m) (list kind part) v
   pub counted : places v ≡ 1 + all_places vs
   pub named : no_names vs ≡ member_names ms
+  pub does : (enc : Encoding) (types : Instance) (p : ℕ) → deeds enc types (list kind part) v p ≡ block_deeds part n ++ members_deeds enc types ms p (no_names vs) vs (cap (p + 1))
 
 pub items_listed : (s : Shape) (xs : Vec Val Global) → IsListOf (list of_items s) (val.List xs) (length xs.items) (copies (length xs.items) s) xs.items
 items_listed s xs = record {
@@ -69,6 +75,7 @@ items_listed s xs = record {
   fits = items_fit s xs;
   counted = places_list xs;
   named = copies_names (length xs.items) s xs.items refl;
+  does = λ enc types p. items_are enc types s xs p;
 }
 
 pub pairs_listed : (s u : Shape) (xs : Vec (Val × Val) Global) → IsListOf (map_of s u) (val.Map xs) (length xs.items) (pairs_of (length xs.items) s u) (by_turns xs.items)
@@ -91,6 +98,7 @@ pairs_listed s u xs = record {
   fits = pairs_fit (pair_shape s u) xs;
   counted = places_map xs;
   named = pairs_named s u xs.items;
+  does = λ enc types p. map_are enc types s u xs p;
 }
 
 pub listed : (t : TypeTable) (els : Elements) → IsKnown t (element_in els) → IsListOf (list_shape t (element_in els)) (list_value els) (list_length els) (row_of (list_shape t (element_in els)) (list_length els)) (values_listed els)

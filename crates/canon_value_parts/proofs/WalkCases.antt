@@ -35,6 +35,10 @@ use Rattle.canon_value_parts.proofs.Cases.{case_back, case_fails, case_has, case
 use Rattle.canon_context.proofs.Moves.{GuestLaws}
 use Rattle.canon_value_parts.proofs.Steps.{blames_later}
 use Rattle.canon_context.proofs.Cores.{written_whole}
+use Rattle.canon_passing.specs.Deeds.{stop_in}
+use Rattle.canon_value_parts.specs.ValueDeeds.{deeds, members_deeds}
+use Rattle.canon_lowering.proofs.Attempts.{attempt_as, attempt_then, attempt_write}
+use Rattle.canon_value_parts.proofs.DeedSteps.{deeds_case, enacted_as}
 use Rattle.canon_value_parts.proofs.StoreSteps.{MemberNamed, value_count_members}
 use Rattle.canon_lowering.specs.Stages.{holding}
 
@@ -95,16 +99,19 @@ written_length xs ys ws b e w = let same : length ws ≡ length xs = w.same_leng
 module _ {T G : Type 0} (L : GuestLaws G) (options : ℕ) where
   case_stores : (a c : Parts T G) (m : List ℕ) (k : VariantKind) (cs : Cases) (at d : ℕ) (names : List Name) (vs : List Val) (v : Val) (place : ℕ) (r : Result ℕ Fault)
       → length a.memory ≤ 2 ^ 32 → at + size false (variant k cs) ≤ length a.memory → passes v (variant k cs) ≡ all_passes (case_members cs d) vs
-      → d < case_count cs → d < 2 ^ 32 → IsCase k cs d vs v → names ≡ member_names (case_members cs d) → Writes (block at (tag_size (case_count cs))) a.memory m
+      → d < case_count cs → d < 2 ^ 32 → IsCase k cs d vs v → names ≡ member_names (case_members cs d) → length vs ≡ member_count (case_members cs d) → Writes (block at (tag_size (case_count cs))) a.memory m
       → num (narrow m) at (tag_size (case_count cs)) ≡ d % 256 ^ tag_size (case_count cs)
       → PartsStoreTo L.seen L.moves options (record a { memory = m }) c place (case_members cs d) 0 (at + payload_offset false cs) names vs (cap (place + 1)) r → StoresTo L.seen L.moves options a c (variant k cs) at v place r
-  case_stores a c m k cs at d names vs v place r small room given lt few of named w tag h = record {
+  unfolding variant_stored tag_written attempt_then attempt_write attempt_as
+  case_stores a c m k cs at d names vs v place r small room given lt few of named count w tag h = record {
     handles = h.handles;
     storing = variant_stored false (host_texts (encoding_by a options)) k cs at d lt (MemberNamed (case_members cs d) names vs) (stage_of L.seen L.moves a) (holding (stage_of L.seen L.moves a) m) (stage_of L.seen L.moves c)
         (tag_written false (host_texts (encoding_by a options)) (stage_of L.seen L.moves a) a.memory m cs at d small (omega (arith, room, tag-le-size false k cs)) w (tag ∙ mod-eq_of_lt (tag_fits (case_count cs) d lt few)))
         (HasTree (variant k cs) v) (ending_of r) (omega (arith, room, w.same_length, h.storing.lowering.goes.no_shorter))
         (value_case_told false (encoding_by a options) k cs d names vs v lt of named) (case_untold false (encoding_by a options) k cs d names vs v lt of named) h.storing;
     handed = passes_as a.component.types a.ledger c.ledger (all_passes (case_members cs d) vs) (passes v (variant k cs)) h.handles r given h.handed;
+    enacted = enacted_as (members_deeds (encoding_by a options) a.component.types (case_members cs d) place names vs (cap (place + 1))) (deeds (encoding_by a options) a.component.types (variant k cs) v place) (stop_in r) a.ledger c.ledger
+        h.storing.answers h.storing.trap h.handles (deeds_case (encoding_by a options) a.component.types k cs d names vs v place of named count lt) h.enacted;
     counted = case_counted (encoding_by a options) k cs d vs v place r of (value_count_members (encoding_by a options) place (case_members cs d) names vs (cap (place + 1)) r named h.counted);
     same = h.same;
     quiet = λ none. h.quiet (case_quiet cs d none);
@@ -124,7 +131,7 @@ module _ {T G : Type 0} (L : GuestLaws G) (options : ℕ) where
       subst (λ (y : Shape). StoresTo L.seen L.moves options a c y at v place r) (sym seen.shape)
       (case_stores a c m seen.kind seen.cases at x.tag (viewed_names x.payload) (viewed_values x.payload) v place r small (omega (arith, room, ap (size false) seen.shape))
       (ap (passes v) (sym seen.shape) ∙ given ∙ ap (λ (ms : Members). all_passes ms (viewed_values x.payload)) seen.shapes) seen.inside (omega (arith, seen.inside, seen.info.few)) seen.is
-      (seen.names ∙ ap member_names seen.shapes)
+      (seen.names ∙ ap member_names seen.shapes) (seen.count ∙ ap member_count seen.shapes)
       (subst (λ (j : ℕ). Writes (block at j) a.memory m) bytes (subst (λ (bs : List ℕ). Writes (block at n) bs m) ey w)) (subst (λ (j : ℕ). num (narrow m) at j ≡ x.tag % 256 ^ j) bytes put)
       (subst (λ (bs : List ℕ). Step bs (case_members seen.cases x.tag) (at + payload_offset false seen.cases) (cap (place + 1))) whole
       (subst (λ (f : ℕ). Step (written_over a.memory m) (case_members seen.cases x.tag) (at + payload_offset false seen.cases) f) ef

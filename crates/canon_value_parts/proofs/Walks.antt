@@ -1,15 +1,15 @@
 -- Steps of a walk that stores, over plain variables.
-use Rattle.std.proofs.Common.{◌≡◌, ◌++◌, ◌≤◌, ◌<◌, ◌+◌, ◌%◌, ◌^◌, ◌∙◌, Bool, Err, List, Ok, Result, Vec, [], ◌∷◌, ap, arith, false, inl, inr, length, refl, subst, suc, sym, true, zero, ℕ}
+use Rattle.std.proofs.Common.{◌≡◌, ◌++◌, ◌≤◌, ◌<◌, ◌+◌, ◌%◌, ◌^◌, ◌∙◌, Bool, Err, List, None, Ok, Option, Result, Some, Vec, [], ◌∷◌, ap, arith, false, inl, inr, length, refl, subst, subst₂, suc, sym, true, zero, ℕ}
 use Rattle.std.specs.declared.alloc.Global.{Global}
 use Rattle.canon_memory.specs.Memory.{written_over}
 use Rattle.canon_memory.specs.Realloc.{block}
 use Rattle.canon_lowering.proofs.AimedAt.{fixed_stored, members_cons, members_stop, product_stored, scalar_stored}
-use Rattle.canon_lowering.proofs.AimedPairs.{list_stored, pair_aim, pair_place, pair_written, string_stored}
-use Rattle.canon_lowering.proofs.Attempts.{attempt_as, attempt_none, attempt_refused, FirstAnd}
+use Rattle.canon_lowering.proofs.AimedPairs.{list_answers, list_stored, pair_aim, pair_place, pair_written, string_answers, string_stored}
+use Rattle.canon_lowering.proofs.Attempts.{attempt_as, attempt_none, attempt_other, attempt_refused, attempt_stop, attempt_then, attempt_write, FirstAnd}
 use Rattle.canon_lowering.proofs.Lowerings.{NotDone, lowering_within, when_not}
 use Rattle.canon_lowering.specs.Attempt.{Attempt, LowersValue, StoresMembers, StoresValue, members_at}
 use Rattle.canon_lowering.specs.Copies.{copies}
-use Rattle.canon_lowering.specs.Lowering.{Ending, done}
+use Rattle.canon_lowering.specs.Lowering.{Answer, Ending, Trap, done}
 use Rattle.canon_lowering.specs.Steps.{Writes}
 use Rattle.canon_lowering.specs.Storing.{IsPair, narrow}
 use Rattle.canon_model.specs.Homes.{host_texts}
@@ -30,7 +30,7 @@ use Rattle.canon_context.specs.Lowers.{ending_of, fault_ending}
 use Rattle.canon_context.specs.Quiet.{has_block, have_block}
 use Rattle.canon_value_parts.specs.Stores.{PlacesCounted, FieldsCount, PartsStoreTo, PlacesTo, StoresTo}
 use Rattle.canon_val.specs.Value.{EachHas, HasTree, HaveTrees, IsFixedListValue, IsProduct, all_places, member_names, no_names, places, HasTreeAs, HaveTreesAs}
-use Rattle.canon_value_parts.specs.Viewed.{HasMembers}
+use Rattle.canon_value_parts.specs.Viewed.{BlamesItself, HasMembers}
 use Rattle.canon_plan.specs.Plan.{LiesAs}
 use Rattle.canon_value_parts.specs.Words.{IsWordOf}
 use Rattle.canon_value_parts.specs.declared.blocks.Placed.{Placed}
@@ -52,6 +52,10 @@ use Rattle.canon_types.specs.Instance.{Instance}
 use Rattle.canon_passing.proofs.Passing.{IsOwn, handles_encoding, handles_instance, handles_then, own_elsewhere, own_ends, passes_as, passes_none, passes_stop, passes_stopped, passes_then}
 use Rattle.canon_passing.specs.Passed.{LowersHandles}
 use Rattle.canon_value_parts.specs.Resources.{all_passes, passes}
+use Rattle.canon_passing.specs.Deeds.{Enacted, stop_in}
+use Rattle.canon_value_parts.specs.ValueDeeds.{deeds, members_deeds}
+use Rattle.std.proofs.lemmas.List.{append-nil}
+use Rattle.canon_value_parts.proofs.DeedSteps.{deeds_fixed, deeds_product, enacted_as, enacted_cons, enacted_misnamed, enacted_none, enacted_refused, enacted_scalar, enacted_stop}
 use Rattle.canon_value_parts.proofs.StoreSteps.{MemberNamed, value_count_members, fields_count, heads, named_join, named_split, product_counts}
 use Rattle.canon_value_parts.proofs.Values.{product_names, product_values}
 use Rattle.canon_lowering.specs.Stages.{Stage, holding}
@@ -142,12 +146,17 @@ stop_at wide a b enc s at Has ws e not h = record {
 module _ {T G : Type 0} (L : GuestLaws G) (options : ℕ) where
   -- ---- a value by itself
 
-  pub value_refused : (a : Parts T G) (s : Shape) (at : ℕ) (v : Val) (from : ℕ) (e : Fault) → length a.memory ≤ 2 ^ 32 → IsOwn e → Blames (encoding_by a options) (λ how k. FailsAt how s v k) from e
+  pub value_refused : (a : Parts T G) (s : Shape) (at : ℕ) (v : Val) (from : ℕ) (e : Fault) → length a.memory ≤ 2 ^ 32 → IsOwn e → BlamesItself s v from e → Blames (encoding_by a options) (λ how k. FailsAt how s v k) from e
       → StoresTo L.seen L.moves options a a s at v from (Err e)
-  value_refused a s at v from e small is b = record {
+  unfolding attempt_refused
+  value_refused a s at v from e small is fails b =
+      let Stood : Ending → Type 0 = λ end. (q : StoresValue false (stage_of L.seen L.moves a) (stage_of L.seen L.moves a) (host_texts (encoding_by a options)) s at (HasTree s v) [] end)
+          × Enacted a.ledger (deeds (encoding_by a options) a.component.types s v from) (Some e) q.answers q.trap [] a.ledger in
+      let stood : Stood (fault_ending e) = subst Stood (sym (own_ends e is)) (attempt_refused false (stage_of L.seen L.moves a) _ _ small, enacted_refused (encoding_by a options) a.component.types s v from e a.ledger fails) in
+      record {
     handles = [];
-    storing = subst (λ (end : Ending). StoresValue false (stage_of L.seen L.moves a) (stage_of L.seen L.moves a) (host_texts (encoding_by a options)) s at (HasTree s v) [] end) (sym (own_ends e is))
-        (attempt_refused false (stage_of L.seen L.moves a) _ _ small);
+    storing = stood.0;
+    enacted = stood.1;
     handed = passes_stopped a.component.types a.ledger a.ledger (passes v s) e refl (own_elsewhere e is);
     counted = b;
     same = refl;
@@ -157,7 +166,7 @@ module _ {T G : Type 0} (L : GuestLaws G) (options : ℕ) where
   pub scalar_stores : (a : Parts T G) (m : List ℕ) (type : InterfaceType) (at : ℕ) (v : Val) (w n place next : ℕ) → length a.memory ≤ 2 ^ 32 → at + n ≤ length a.memory → n ≡ size false (shape_of (component_types a) type)
       → IsWordOf type v w → num (narrow m) at n ≡ w % 256 ^ n → Writes (block at n) a.memory m → next ≡ cap (place + 1) → passes v (shape_of (component_types a) type) ≡ []
       → StoresTo L.seen L.moves options a (record a { memory = written_over a.memory m }) (shape_of (component_types a) type) at v place (Ok next)
-  unfolding size
+  unfolding size scalar_stored attempt_write
   scalar_stores a m type at v w n place next small room en (k, t, e, has, is, least) stored writes counted none =
       let shape : shape_of (component_types a) type ≡ scalar k = scalar_shape (component_types a) type k e in
       let bytes : n ≡ scalar_size k = en ∙ ap (size false) shape in
@@ -170,6 +179,7 @@ module _ {T G : Type 0} (L : GuestLaws G) (options : ℕ) where
             (subst (λ (j : ℕ). Writes (block at j) a.memory m) bytes writes)
             (subst (λ (j : ℕ). ScalarIs k j t) (sym there) is2) (subst (λ (j : ℕ). IsLeast k j) (sym there) least2) has;
         handed = passes_none a.component.types a.ledger a.ledger (passes v (scalar k)) refl (ap (passes v) (sym shape) ∙ none);
+        enacted = enacted_scalar (encoding_by a options) a.component.types k v t place a.ledger has;
         counted = (omega (arith, counted, scalar_places k v t has), scalar_small (encoding_by a options) k v);
         same = refl;
         quiet = λ none. (refl, tt);
@@ -178,17 +188,16 @@ module _ {T G : Type 0} (L : GuestLaws G) (options : ℕ) where
   -- ---- a text or a list by its pointer and its length
 
   pub placed_stop : (a b : Parts T G) (s : Shape) (at : ℕ) (v : Val) (place : ℕ) (e : Fault) → has_block s ≡ true → PlacesTo L.seen L.moves options a b s v place (Err e) → StoresTo L.seen L.moves options a b s at v place (Err e)
+  unfolding stop_at
   placed_stop a b s at v place e block h = record {
     handles = h.handles;
-    storing = words_stop;
+    storing = stop_at false (stage_of L.seen L.moves a) (stage_of L.seen L.moves b) (encoding_by a options) s at (HasTree s v) [] (fault_ending e) (not_done e) h.lowered;
     handed = h.handed;
+    enacted = h.enacted;
     counted = h.counted;
     same = h.same;
     quiet = λ none. absurd (blocks_none (has_block s) block none);
   }
-    where
-      words_stop : StoresValue false (stage_of L.seen L.moves a) (stage_of L.seen L.moves b) (host_texts (encoding_by a options)) s at (HasTree s v) h.handles (fault_ending e)
-      words_stop = stop_at false (stage_of L.seen L.moves a) (stage_of L.seen L.moves b) (encoding_by a options) s at (HasTree s v) [] (fault_ending e) (not_done e) h.lowered
 
   module _ (a b : Parts T G) (m : List ℕ) (at : ℕ) (v : Val) (place : ℕ) (x : Placed) (room : at + 8 ≤ length b.memory) (small : length b.memory ≤ 2 ^ 32) (lp : x.pointer < 2 ^ 32)
       (ln : x.length < 2 ^ 32) (w : IsPair b.memory m at x.pointer x.length) where
@@ -199,35 +208,42 @@ module _ {T G : Type 0} (L : GuestLaws G) (options : ℕ) where
     written = pair_written false (stage_of L.seen L.moves b) b.memory m at x.pointer x.length small room w.writes w.pointer w.count
 
     pub block_told : (s : Shape) → has_block s ≡ true → (h : PlacesTo L.seen L.moves options a b s v place (Ok x))
-        → StoresValue false (stage_of L.seen L.moves a) (holding (stage_of L.seen L.moves b) m) (host_texts (encoding_by a options)) s at (HasTree s v) h.handles done
-        → value_told (record b { memory = written_over b.memory m }) s
-    block_told s block h storing = subst (λ (bytes : List ℕ). value_told (record b { memory = bytes }) s) (sym (written_whole b.memory m w.writes.same_length)) (record {
+        → (storing : StoresValue false (stage_of L.seen L.moves a) (holding (stage_of L.seen L.moves b) m) (host_texts (encoding_by a options)) s at (HasTree s v) h.handles done)
+        → storing.answers ≡ h.lowered.answers → storing.trap ≡ None → value_told (record b { memory = written_over b.memory m }) s
+    block_told s block h storing answers trap = subst (λ (bytes : List ℕ). value_told (record b { memory = bytes }) s) (sym (written_whole b.memory m w.writes.same_length)) (record {
       handles = h.handles;
       storing = storing;
       handed = h.handed;
+      enacted = subst₂ (λ (xs : List Answer) (o : Option Trap). Enacted a.ledger (deeds (encoding_by a options) a.component.types s v place) None xs o h.handles b.ledger) (sym answers) (sym trap)
+          (subst (λ (o : Option Trap). Enacted a.ledger (deeds (encoding_by a options) a.component.types s v place) None h.lowered.answers o h.handles b.ledger) h.lowered.lowering.cause h.enacted);
       counted = h.counted;
       same = ap (λ (y : Parts T G). record y { memory = m }) h.same;
       quiet = λ none. absurd (blocks_none (has_block s) block none);
     })
 
     pub value_text_told : PlacesTo L.seen L.moves options a b string v place (Ok x) → value_told (record b { memory = written_over b.memory m }) string
-    value_text_told h = block_told string refl h (string_stored false (host_texts (encoding_by a options)) at x.pointer x.length (HasTree string v) (λ _. lp) (λ _. ln) (stage_of L.seen L.moves a) (stage_of L.seen L.moves b) b.memory m written h.lowered)
+    unfolding written pair_written attempt_write
+    value_text_told h = let (ans, trap) = string_answers false (host_texts (encoding_by a options)) at x.pointer x.length (HasTree string v) (λ _. lp) (λ _. ln) (stage_of L.seen L.moves a) (stage_of L.seen L.moves b) b.memory m written h.lowered in
+        block_told string refl h (string_stored false (host_texts (encoding_by a options)) at x.pointer x.length (HasTree string v) (λ _. lp) (λ _. ln) (stage_of L.seen L.moves a) (stage_of L.seen L.moves b) b.memory m written h.lowered) (ans ∙ append-nil h.lowered.answers) trap
 
     pub value_list_told : (s part : Shape) (k : ListKind) → s ≡ list k part → PlacesTo L.seen L.moves options a b s v place (Ok x) → value_told (record b { memory = written_over b.memory m }) s
+    unfolding written pair_written attempt_write
     value_list_told s part k is h = subst (λ (y : Shape). value_told (record b { memory = written_over b.memory m }) y) (sym is) (
         let placed = subst (λ (y : Shape). PlacesTo L.seen L.moves options a b y v place (Ok x)) is h in
+        let (ans, trap) = list_answers false (host_texts (encoding_by a options)) at x.pointer x.length (HasTree (list k part) v) (λ _. lp) (λ _. ln) (stage_of L.seen L.moves a) (stage_of L.seen L.moves b) b.memory m written k part placed.lowered in
         block_told (list k part) refl placed
-        (list_stored false (host_texts (encoding_by a options)) at x.pointer x.length (HasTree (list k part) v) (λ _. lp) (λ _. ln) (stage_of L.seen L.moves a) (stage_of L.seen L.moves b) b.memory m written k part placed.lowered))
+        (list_stored false (host_texts (encoding_by a options)) at x.pointer x.length (HasTree (list k part) v) (λ _. lp) (λ _. ln) (stage_of L.seen L.moves a) (stage_of L.seen L.moves b) b.memory m written k part placed.lowered) (ans ∙ append-nil placed.lowered.answers) trap)
 
   -- ---- members, one after another
 
   pub parts_none : (a : Parts T G) (place at o from : ℕ) → length a.memory ≤ 2 ^ 32 → from < 2 ^ 64 → PartsStoreTo L.seen L.moves options a a place no_members o at [] [] from (Ok from)
-  unfolding requests leaves
+  unfolding requests leaves attempt_none
   parts_none a place at o from small few = record {
     handles = [];
     storing = attempt_none false (stage_of L.seen L.moves a) _ (members_at false (host_texts (encoding_by a options)) no_members o at (MemberNamed no_members [] [])) no_trees small
         (refl, (refl, refl)) (λ ts h. refl) refl (λ pointer rest. refl);
     handed = passes_none a.component.types a.ledger a.ledger [] refl refl;
+    enacted = enacted_none a.ledger;
     counted = (refl, omega (arith, few), none_small (encoding_by a options));
     same = refl;
     quiet = λ none. (refl, tt);
@@ -254,17 +270,21 @@ module _ {T G : Type 0} (L : GuestLaws G) (options : ℕ) where
   pub parts_cons : (a b c : Parts T G) (place : ℕ) (name named : Name) (s : Shape) (ms : Members) (o at : ℕ) (names : List Name) (v : Val) (vs : List Val) (from mid : ℕ) (r : Result ℕ Fault) → named ≡ name
       → StoresTo L.seen L.moves options a b s (at + begins false o s) v from (Ok mid) → PartsStoreTo L.seen L.moves options b c place ms (ends false o s) at names vs mid r
       → PartsStoreTo L.seen L.moves options a c place (member name s ms) o at (named ∷ names) (v ∷ vs) from r
+  unfolding first_and members_cons attempt_then attempt_as
   parts_cons a b c place name named s ms o at names v vs from mid r en h k =
       let enc : Encoding = encoding_by a options in
-      let rest : StoresMembers false (stage_of L.seen L.moves b) (stage_of L.seen L.moves c) (host_texts enc) ms (ends false o s) at (MemberNamed ms names vs) k.handles (ending_of r) =
-      subst (λ (x : Encoding). StoresMembers false (stage_of L.seen L.moves b) (stage_of L.seen L.moves c) (host_texts x) ms (ends false o s) at (MemberNamed ms names vs) k.handles (ending_of r))
-      (handles_encoding a b options h.same) k.storing in
+      let Rest : Encoding → Instance → Type 0 = λ x j. (q : StoresMembers false (stage_of L.seen L.moves b) (stage_of L.seen L.moves c) (host_texts x) ms (ends false o s) at (MemberNamed ms names vs) k.handles (ending_of r))
+          × Enacted b.ledger (members_deeds x j ms place names vs mid) (stop_in r) q.answers q.trap k.handles c.ledger in
+      let rest : Rest enc a.component.types = subst (λ (x : Encoding). Rest x a.component.types) (handles_encoding a b options h.same)
+          (subst (λ (j : Instance). Rest (encoding_by b options) j) (handles_instance a b h.same) (k.storing, k.enacted)) in
       record {
         handles = h.handles ++ k.handles;
         storing = first_and false a c enc name named s ms o at names v vs (ending_of r) en
-            (members_cons false (host_texts enc) name s ms o at (HasTree s v) (MemberNamed ms names vs) (stage_of L.seen L.moves a) (stage_of L.seen L.moves b) (stage_of L.seen L.moves c) (ending_of r) h.storing rest);
+            (members_cons false (host_texts enc) name s ms o at (HasTree s v) (MemberNamed ms names vs) (stage_of L.seen L.moves a) (stage_of L.seen L.moves b) (stage_of L.seen L.moves c) (ending_of r) h.storing rest.0);
         handed = passes_then a.component.types a.ledger b.ledger c.ledger (passes v s) (all_passes ms vs) h.handles k.handles r h.handed
             (subst (λ (i : Instance). LowersHandles i b.ledger c.ledger (all_passes ms vs) k.handles r) (handles_instance a b h.same) k.handed);
+        enacted = enacted_cons enc a.component.types name named s ms place names v vs from a.ledger b.ledger c.ledger mid (stop_in r) h.storing.answers rest.0.answers h.storing.trap rest.0.trap
+            h.handles k.handles en h.counted.0 h.enacted rest.1;
         counted = fields_count enc place name named s ms names v vs from mid r en h.counted.0 h.counted.1
             (subst (λ (x : Encoding). FieldsCount x place ms names vs mid r) (handles_encoding a b options h.same) k.counted);
         same = handles_then a b c h.same k.same;
@@ -274,11 +294,13 @@ module _ {T G : Type 0} (L : GuestLaws G) (options : ℕ) where
   -- a first one ends it
   pub parts_stop : (a b : Parts T G) (place : ℕ) (name named : Name) (s : Shape) (ms : Members) (o at : ℕ) (names : List Name) (v : Val) (vs : List Val) (from : ℕ) (e : Fault) → named ≡ name
       → StoresTo L.seen L.moves options a b s (at + begins false o s) v from (Err e) → PartsStoreTo L.seen L.moves options a b place (member name s ms) o at (named ∷ names) (v ∷ vs) from (Err e)
+  unfolding first_and members_stop attempt_stop attempt_other attempt_as
   parts_stop a b place name named s ms o at names v vs from e en h = record {
     handles = h.handles;
     storing = first_and false a b (encoding_by a options) name named s ms o at names v vs (fault_ending e) en
         (members_stop false (host_texts (encoding_by a options)) name s ms o at (HasTree s v) (MemberNamed ms names vs) (stage_of L.seen L.moves a) (stage_of L.seen L.moves b) (fault_ending e) (not_done e) h.storing);
     handed = passes_stop a.component.types a.ledger b.ledger (passes v s) (all_passes ms vs) e h.handed;
+    enacted = enacted_stop (encoding_by a options) a.component.types name named s ms place names v vs from a.ledger b.ledger e h.storing.answers h.storing.trap h.handles en h.enacted;
     counted = inr (blames_first (encoding_by a options) (λ how k. FailsAt how s v k) (λ how k. MemberFails how (member name s ms) (v ∷ vs) k) from e (λ how j f. inl f) h.counted);
     same = h.same;
     quiet = λ none. h.quiet (no_first (has_block s) (have_block ms) none);
@@ -287,10 +309,12 @@ module _ {T G : Type 0} (L : GuestLaws G) (options : ℕ) where
   -- its name is another
   pub parts_named : (a : Parts T G) (place : ℕ) (name named : Name) (s : Shape) (ms : Members) (o at : ℕ) (names : List Name) (v : Val) (vs : List Val) (from : ℕ) → length a.memory ≤ 2 ^ 32 → ¬ (named ≡ name)
       → PartsStoreTo L.seen L.moves options a a place (member name s ms) o at (named ∷ names) (v ∷ vs) from (Err (fault.FieldName place))
+  unfolding attempt_refused
   parts_named a place name named s ms o at names v vs from small other = record {
     handles = [];
     storing = attempt_refused false (stage_of L.seen L.moves a) _ _ small;
     handed = passes_stopped a.component.types a.ledger a.ledger (all_passes (member name s ms) (v ∷ vs)) (fault.FieldName place) refl refl;
+    enacted = enacted_misnamed (encoding_by a options) a.component.types name named s ms place names v vs from a.ledger other;
     counted = inl (refl, λ same. other (heads named name names (member_names ms) same));
     same = refl;
     quiet = λ none. (refl, refl);
@@ -301,26 +325,38 @@ module _ {T G : Type 0} (L : GuestLaws G) (options : ℕ) where
   pub members_store : (a c : Parts T G) (place : ℕ) (s : Shape) (ms : Members) (at : ℕ) (names : List Name) (vs : List Val) (v : Val) (r : Result ℕ Fault) → at + size false s ≤ length a.memory → place < 2 ^ 64
       → LiesAs s ms → HasMembers s names vs v → length vs ≡ member_count ms → passes v s ≡ all_passes ms vs → PartsStoreTo L.seen L.moves options a c place ms 0 at names vs (cap (place + 1)) r
       → StoresTo L.seen L.moves options a c s at v place r
-  members_store a c place (product k ns) ms at names vs v r room few e p count given h = record {
+  unfolding product_stored fixed_stored attempt_as
+  members_store a c place (product k ns) ms at names vs v r room few e p count given h =
+      let Inner : Members → Type 0 = λ xs. (q : StoresMembers false (stage_of L.seen L.moves a) (stage_of L.seen L.moves c) (host_texts (encoding_by a options)) xs 0 at (MemberNamed xs names vs) h.handles (ending_of r))
+          × Enacted a.ledger (members_deeds (encoding_by a options) a.component.types xs place names vs (cap (place + 1))) (stop_in r) q.answers q.trap h.handles c.ledger in
+      let inner : Inner ns = subst Inner e (h.storing, h.enacted) in
+      record {
     handles = h.handles;
     storing = product_stored false (stage_of L.seen L.moves a) (stage_of L.seen L.moves c) (host_texts (encoding_by a options)) k ns at (MemberNamed ns names vs) (HasTree (product k ns) v)
         (ending_of r) (omega (arith, room, h.storing.lowering.goes.no_shorter))
         (product_is k ns names vs v p) (product_back k ns names vs v p)
-        (subst (λ (xs : Members). StoresMembers false (stage_of L.seen L.moves a) (stage_of L.seen L.moves c) (host_texts (encoding_by a options)) xs 0 at (MemberNamed xs names vs) h.handles (ending_of r)) e h.storing);
+        inner.0;
+    enacted = enacted_as (members_deeds (encoding_by a options) a.component.types ns place names vs (cap (place + 1))) (deeds (encoding_by a options) a.component.types (product k ns) v place) (stop_in r) a.ledger c.ledger
+        inner.0.answers inner.0.trap h.handles (deeds_product (encoding_by a options) a.component.types k ns names vs v place p (count ∙ ap member_count e)) inner.1;
     handed = passes_as a.component.types a.ledger c.ledger (all_passes ms vs) (passes v (product k ns)) h.handles r given h.handed;
     counted = product_counts (encoding_by a options) place k ns names vs v r few p (count ∙ ap member_count e) (subst (λ (xs : Members). FieldsCount (encoding_by a options) place xs names vs (cap (place + 1)) r) e h.counted);
     same = h.same;
     quiet = λ none. h.quiet (ap have_block e ∙ none);
-  }
+      }
   members_store a c place (fixed n s) ms at names vs v r room few e (en, (xs, ev, same)) count given h =
       let enough : length vs ≡ n = count ∙ (ap member_count e ∙ copies_count n s) in
       let named : names ≡ member_names (copies n s) = en ∙ copies_names n s vs enough in
+      let Inner : Members → Type 0 = λ ys. (q : StoresMembers false (stage_of L.seen L.moves a) (stage_of L.seen L.moves c) (host_texts (encoding_by a options)) ys 0 at (MemberNamed ys names vs) h.handles (ending_of r))
+          × Enacted a.ledger (members_deeds (encoding_by a options) a.component.types ys place names vs (cap (place + 1))) (stop_in r) q.answers q.trap h.handles c.ledger in
+      let inner : Inner (copies n s) = subst Inner e (h.storing, h.enacted) in
       record {
         handles = h.handles;
         storing = fixed_stored false (stage_of L.seen L.moves a) (stage_of L.seen L.moves c) (host_texts (encoding_by a options)) n s at (MemberNamed (copies n s) names vs) (HasTree (fixed n s) v)
             (omega (arith, room, h.storing.lowering.goes.no_shorter))
             (fixed_is n s names vs v enough (xs, ev, same)) (fixed_back n s names vs v en enough (xs, ev, same)) (ending_of r)
-            (subst (λ (ys : Members). StoresMembers false (stage_of L.seen L.moves a) (stage_of L.seen L.moves c) (host_texts (encoding_by a options)) ys 0 at (MemberNamed ys names vs) h.handles (ending_of r)) e h.storing);
+            inner.0;
+        enacted = enacted_as (members_deeds (encoding_by a options) a.component.types (copies n s) place names vs (cap (place + 1))) (deeds (encoding_by a options) a.component.types (fixed n s) v place) (stop_in r) a.ledger c.ledger
+            inner.0.answers inner.0.trap h.handles (deeds_fixed (encoding_by a options) a.component.types n s names vs v place (xs, ev, same) en enough) inner.1;
         handed = passes_as a.component.types a.ledger c.ledger (all_passes ms vs) (passes v (fixed n s)) h.handles r given h.handed;
         counted = fixed_counted (encoding_by a options) n s names vs v place r enough (xs, ev, same)
             (value_count_members (encoding_by a options) place (copies n s) names vs (cap (place + 1)) r named (subst (λ (ys : Members). FieldsCount (encoding_by a options) place ys names vs (cap (place + 1)) r) e h.counted));

@@ -1,5 +1,5 @@
 -- Lowering a case to words: its number, the words of its payload, and zeros behind them.
-use Rattle.std.proofs.Common.{◌≡◌, ◌≤◌, ◌<◌, ◌+◌, ◌^◌, ◌∙◌, ◌∷◌, [], Bool, Err, List, Ok, Result, ap, arith, false, length, refl, set, subst, sym, ℕ}
+use Rattle.std.proofs.Common.{◌≡◌, ◌≤◌, ◌<◌, ◌+◌, ◌^◌, ◌∙◌, ◌∷◌, [], Bool, Err, List, None, Ok, Result, Some, ap, arith, false, length, refl, set, subst, sym, ℕ}
 use Rattle.std.specs.Prelude.{slice_index}
 use Rattle.std.proofs.lemmas.List.{get_or_past, get_or-set_other, get_or-set_same, length-set}
 use Rattle.canon_lowering.proofs.AimedCases.{variant_words}
@@ -13,7 +13,7 @@ use Rattle.canon_lowering.specs.Copies.{case_members}
 use Rattle.canon_lowering.specs.Lowering.{Ending, done}
 use Rattle.canon_model.specs.Flat.{AreZero, SameWords}
 use Rattle.canon_model.specs.Layout.{cases_flat, flat, members_flat}
-use Rattle.canon_model.specs.Shape.{Cases, Members, Name, Shape, VariantKind, case_count, payload, variant}
+use Rattle.canon_model.specs.Shape.{Cases, Members, Name, Shape, VariantKind, case_count, member_count, payload, variant}
 use Rattle.canon_model.specs.Text.{Encoding}
 use Rattle.canon_model.specs.Tree.{Trees}
 use Rattle.canon_types.specs.Table.{TypeTable}
@@ -36,6 +36,8 @@ use Rattle.canon_val.specs.declared.val.Val.{Val}
 use Rattle.canon_passing.proofs.Shapes.{case_quiet, payload_words}
 use Rattle.canon_context.proofs.Moves.{GuestLaws}
 use Rattle.canon_context.proofs.Cores.{not_done}
+use Rattle.canon_value_parts.specs.ValueDeeds.{deeds, members_deeds}
+use Rattle.canon_value_parts.proofs.DeedSteps.{deeds_case, enacted_as}
 use Rattle.canon_value_parts.proofs.StoreSteps.{MemberNamed, value_count_members}
 use Rattle.canon_value_parts.proofs.WalkCases.{case_counted, value_case_told, case_untold}
 use Rattle.canon_value_parts.proofs.WordSteps.{have_fit}
@@ -68,11 +70,12 @@ case_words_counted enc place k cs d names vs v r of named h = case_counted enc k
 module _ {T G : Type 0} (L : GuestLaws G) (options : ℕ) where
   -- `dst1` has the case's number in its first word, `dst2` the payload behind it, and `dst3` zeros up to the end
   case_lowers : (a c : Parts T G) (dst dst1 dst2 dst3 : List ℕ) (from past : Spot) (k : VariantKind) (cs : Cases) (d : ℕ) (names : List Name) (vs : List Val) (v : Val) → d < case_count cs → d < 2 ^ 32 → IsCase k cs d vs v
-      → names ≡ member_names (case_members cs d) → dst1 ≡ set dst from.word d → from.word + flat (variant k cs) ≤ length dst → Clears past.word (from.word + flat (variant k cs)) dst2 dst3
+      → names ≡ member_names (case_members cs d) → length vs ≡ member_count (case_members cs d) → dst1 ≡ set dst from.word d → from.word + flat (variant k cs) ≤ length dst → Clears past.word (from.word + flat (variant k cs)) dst2 dst3
       → passes v (variant k cs) ≡ all_passes (case_members cs d) vs
       → PartsLowerTo L.seen L.moves options a c dst1 dst2 (behind_tag from) (Ok past) from.place (case_members cs d) names vs
       → LowersTo L.seen L.moves options a c dst dst3 from (Ok (record { word = from.word + flat (variant k cs); place = past.place })) (variant k cs) v
-  case_lowers a c dst dst1 dst2 dst3 from past k cs d names vs v lt few of named e1 room clears given h =
+  unfolding variant_words members_moved attempt_as
+  case_lowers a c dst dst1 dst2 dst3 from past k cs d names vs v lt few of named count e1 room clears given h =
       let ms : Members = case_members cs d in
       let enc : Encoding = encoding_by a options in
       let end : ℕ = from.word + flat (variant k cs) in
@@ -90,6 +93,8 @@ module _ {T G : Type 0} (L : GuestLaws G) (options : ℕ) where
         lowered = variant_words false (stage_of L.seen L.moves a) (stage_of L.seen L.moves c) (host_texts enc) k cs dst3 from.word d (MemberNamed ms names vs) (HasTree (variant k cs) v) done lt tag3 few zeros
             (value_case_told false enc k cs d names vs v lt of named) (case_untold false enc k cs d names vs v lt of named) moved;
         handed = passes_as a.component.types a.ledger c.ledger (all_passes ms vs) (passes v (variant k cs)) h.handles (Ok past) given h.handed;
+        enacted = enacted_as (members_deeds enc a.component.types ms from.place names vs (cap (from.place + 1))) (deeds enc a.component.types (variant k cs) v from.place) None a.ledger c.ledger h.lowered.answers h.lowered.trap h.handles
+            (deeds_case enc a.component.types k cs d names vs v from.place of named count lt) h.enacted;
         stays = record {
           same_length = clears.written.stays.same_length ∙ (h.stays.same_length ∙ (ap length e1 ∙ length-set dst from.word d));
           before = λ p l. clears.written.stays.before p (omega (arith, l, h.passed)) ∙ (h.stays.before p (omega (arith, l)) ∙ (ap (λ (xs : List ℕ). slice_index xs p) e1 ∙ get_or-set_other dst from.word p d 0 (omega (arith, l))));
@@ -102,10 +107,11 @@ module _ {T G : Type 0} (L : GuestLaws G) (options : ℕ) where
 
   -- its payload ended it: said of words of its own, since nothing is said of these
   case_stops : (a c : Parts T G) (dst dst1 dst2 : List ℕ) (from : Spot) (k : VariantKind) (cs : Cases) (d : ℕ) (names : List Name) (vs : List Val) (v : Val) (e : Fault) → d < case_count cs → d < 2 ^ 32 → IsCase k cs d vs v
-      → names ≡ member_names (case_members cs d) → dst1 ≡ set dst from.word d → passes v (variant k cs) ≡ all_passes (case_members cs d) vs
+      → names ≡ member_names (case_members cs d) → length vs ≡ member_count (case_members cs d) → dst1 ≡ set dst from.word d → passes v (variant k cs) ≡ all_passes (case_members cs d) vs
       → PartsLowerTo L.seen L.moves options a c dst1 dst2 (behind_tag from) (Err e) from.place (case_members cs d) names vs
       → LowersTo L.seen L.moves options a c dst dst2 from (Err e) (variant k cs) v
-  case_stops a c dst dst1 dst2 from k cs d names vs v e lt few of named e1 given h =
+  unfolding variant_words attempt_other attempt_as
+  case_stops a c dst dst1 dst2 from k cs d names vs v e lt few of named count e1 given h =
       let ms : Members = case_members cs d in
       let stopped : Result Spot Fault = Err e in
       let enc : Encoding = encoding_by a options in
@@ -120,6 +126,8 @@ module _ {T G : Type 0} (L : GuestLaws G) (options : ℕ) where
         lowered = attempt_other false (stage_of L.seen L.moves a) (stage_of L.seen L.moves c) [] _ (value_words false (host_texts enc) (variant k cs) dst2 from.word (HasTree (variant k cs) v))
             (fault_ending e) (not_done e) (λ t has. (has, refl)) whole;
         handed = passes_as a.component.types a.ledger c.ledger (all_passes ms vs) (passes v (variant k cs)) h.handles stopped given h.handed;
+        enacted = enacted_as (members_deeds enc a.component.types ms from.place names vs (cap (from.place + 1))) (deeds enc a.component.types (variant k cs) v from.place) (Some e) a.ledger c.ledger h.lowered.answers h.lowered.trap h.handles
+            (deeds_case enc a.component.types k cs d names vs v from.place of named count lt) h.enacted;
         stays = record {
           same_length = h.stays.same_length ∙ (ap length e1 ∙ length-set dst from.word d);
           before = λ p l. h.stays.before p (omega (arith, l)) ∙ (ap (λ (xs : List ℕ). slice_index xs p) e1 ∙ get_or-set_other dst from.word p d 0 (omega (arith, l)));
@@ -150,14 +158,14 @@ module _ {T G : Type 0} (L : GuestLaws G) (options : ℕ) where
         subst (λ (y : Shape). LowersTo L.seen L.moves options a c dst dst3 from (Ok to) y v) (sym seen.shape)
         (subst (λ (i : Spot). LowersTo L.seen L.moves options a c dst dst3 from (Ok i) (variant seen.kind seen.cases) v) (sym (et ∙ ap (λ (n : ℕ). record { word = n; place = past.place }) whole))
         (case_lowers a c dst dst1 dst2 dst3 from past seen.kind seen.cases x.tag (viewed_names x.payload) (viewed_values x.payload) v seen.inside (omega (arith, seen.inside, seen.info.few)) seen.is
-        (seen.names ∙ ap member_names seen.shapes) e1
+        (seen.names ∙ ap member_names seen.shapes) (seen.count ∙ ap member_count seen.shapes) e1
         (omega (arith, room, ap flat seen.shape)) (subst (λ (n : ℕ). Clears past.word n dst2 dst3) whole clears) given_there (by_case (Ok past) h)))
 
     pub case_stopped : (e : Fault) → payload_lowered (Err e) → LowersTo L.seen L.moves options a c dst dst2 from (Err e) s v
     case_stopped e h =
         subst (λ (y : Shape). LowersTo L.seen L.moves options a c dst dst2 from (Err e) y v) (sym seen.shape)
         (case_stops a c dst dst1 dst2 from seen.kind seen.cases x.tag (viewed_names x.payload) (viewed_values x.payload) v e seen.inside (omega (arith, seen.inside, seen.info.few)) seen.is
-        (seen.names ∙ ap member_names seen.shapes) e1 given_there (by_case (Err e) h))
+        (seen.names ∙ ap member_names seen.shapes) (seen.count ∙ ap member_count seen.shapes) e1 given_there (by_case (Err e) h))
 
 -- the words of a case and of its payload are within the type's
 pub value_case_room : (t : TypeTable) (s : Shape) (v : Val) (c : Case) → IsCaseSeen t s v c → 1 + members_flat (viewed_shapes t c.payload) ≤ flat s

@@ -1,5 +1,5 @@
 -- Steps of lowering to words, over plain variables.
-use Rattle.std.proofs.Common.{◌∙◌, ◌++◌, List, [], ◌∷◌, subst, sym, ◌≡◌, ◌≤◌, ◌<◌, ◌+◌, ◌^◌, Err, Ok, Result, ap, arith, inl, inr, length, refl, set, suc, true, zero, ℕ, ◌%◌, false}
+use Rattle.std.proofs.Common.{◌∙◌, ◌++◌, List, [], ◌∷◌, subst, sym, ◌≡◌, ◌≤◌, ◌<◌, ◌+◌, ◌^◌, Err, Ok, Result, Some, ap, arith, inl, inr, length, refl, set, suc, true, zero, ℕ, ◌%◌, false}
 use Rattle.canon_model.specs.Homes.{host_texts}
 use Rattle.canon_model.specs.Shape.{Cases, Members, Shape, bare, borrow, fixed, flags, list, member, no_cases, no_members, own, payload, product, scalar, string, variant, Name, member_count}
 use Rattle.canon_model.specs.Tree.{Tree, Trees, no_trees, payload_of}
@@ -13,7 +13,7 @@ use Rattle.canon_passing.proofs.Shapes.{copies_quiet, no_first, no_later}
 use Rattle.canon_value_parts.proofs.Walks.{copies_names, fixed_back, fixed_counted, fixed_is, product_back, product_is}
 use Rattle.canon_plan.proofs.Lookups.{copies_count}
 use Rattle.canon_value_parts.proofs.Steps.{blocks_none, blames_first}
-use Rattle.canon_value_parts.specs.Viewed.{HasMembers}
+use Rattle.canon_value_parts.specs.Viewed.{BlamesItself, HasMembers}
 use Rattle.canon_plan.specs.Plan.{LiesAs}
 use Rattle.canon_model.specs.Requests.{requests}
 use Rattle.canon_model.specs.Rep.{ScalarIs}
@@ -21,7 +21,7 @@ use Rattle.canon_lowering.specs.Copies.{case_tree, copies}
 use Rattle.canon_lowering.proofs.AimedCases.{number_of}
 use Rattle.canon_lowering.specs.Attempt.{LowersMembers, LowersValue, members_words, value_words, LowersArgs}
 use Rattle.canon_lowering.proofs.Copying.{copies_flat}
-use Rattle.canon_lowering.proofs.Attempts.{attempt_as, attempt_none, attempt_other, attempt_refused, FirstAnd}
+use Rattle.canon_lowering.proofs.Attempts.{attempt_as, attempt_none, attempt_other, attempt_refused, attempt_stop, attempt_then, FirstAnd}
 use Rattle.canon_lowering.proofs.AimedWords.{fixed_words, members_words_cons, members_words_stop, product_words, scalar_words, words_moved}
 use Rattle.std.proofs.lemmas.List.{get_or-set_other, get_or-set_same, length-set}
 use Rattle.std.specs.Prelude.{slice_index}
@@ -52,6 +52,9 @@ use Rattle.canon_types.specs.Instance.{Instance}
 use Rattle.canon_passing.proofs.Passing.{IsOwn, handles_encoding, handles_instance, handles_then, own_elsewhere, own_ends, passes_as, passes_none, passes_stop, passes_stopped, passes_then}
 use Rattle.canon_passing.specs.Passed.{LowersHandles}
 use Rattle.canon_value_parts.specs.Resources.{all_passes, passes}
+use Rattle.canon_passing.specs.Deeds.{Enacted, stop_in}
+use Rattle.canon_value_parts.specs.ValueDeeds.{deeds, members_deeds}
+use Rattle.canon_value_parts.proofs.DeedSteps.{deeds_fixed, deeds_product, enacted_as, enacted_cons, enacted_misnamed, enacted_none, enacted_refused, enacted_scalar, enacted_stop}
 use Rattle.canon_value_parts.proofs.StoreSteps.{MemberNamed, heads, named_join, named_split, fields_count, product_counts, value_count_members}
 use Rattle.canon_passing.proofs.Words.{first_stay, stays_then}
 
@@ -100,24 +103,29 @@ passed_both from mid n m (Err x) e h = tt
 module _ {T G : Type 0} (L : GuestLaws G) (options : ℕ) where
   -- ---- a value by itself
 
-  pub value_refused : (a : Parts T G) (dst : List ℕ) (from : Spot) (s : Shape) (v : Val) (e : Fault) → length a.memory ≤ 2 ^ 32 → IsOwn e → Blames (encoding_by a options) (λ how k. FailsAt how s v k) from.place e
+  pub value_refused : (a : Parts T G) (dst : List ℕ) (from : Spot) (s : Shape) (v : Val) (e : Fault) → length a.memory ≤ 2 ^ 32 → IsOwn e → BlamesItself s v from.place e → Blames (encoding_by a options) (λ how k. FailsAt how s v k) from.place e
       → LowersTo L.seen L.moves options a a dst dst from (Err e) s v
-  value_refused a dst from s v e small is b = record {
+  unfolding attempt_refused
+  value_refused a dst from s v e small is fails b =
+      let Stood : Ending → Type 0 = λ end. (q : LowersValue false (stage_of L.seen L.moves a) (stage_of L.seen L.moves a) (host_texts (encoding_by a options)) s dst from.word (HasTree s v) [] end)
+          × Enacted a.ledger (deeds (encoding_by a options) a.component.types s v from.place) (Some e) q.answers q.trap [] a.ledger in
+      let stood : Stood (fault_ending e) = subst Stood (sym (own_ends e is)) (attempt_refused false (stage_of L.seen L.moves a) [] _ small, enacted_refused (encoding_by a options) a.component.types s v from.place e a.ledger fails) in
+      record {
     handles = [];
-    lowered = subst (λ (end : Ending). LowersValue false (stage_of L.seen L.moves a) (stage_of L.seen L.moves a) (host_texts (encoding_by a options)) s dst from.word (HasTree s v) [] end)
-        (sym (own_ends e is)) (attempt_refused false (stage_of L.seen L.moves a) [] _ small);
+    lowered = stood.0;
+    enacted = stood.1;
     handed = passes_stopped a.component.types a.ledger a.ledger (passes v s) e refl (own_elsewhere e is);
     stays = stays_none from.word dst;
     passed = tt;
     counted = b;
     same = refl;
     quiet = λ none. (refl, own_ends e is);
-  }
+      }
 
   pub scalar_lowers : (a : Parts T G) (dst : List ℕ) (from to : Spot) (type : InterfaceType) (v : Val) (w : ℕ) → length a.memory ≤ 2 ^ 32 → from.word + flat (shape_of (component_types a) type) ≤ length dst → IsWordOf type v w
       → to.word ≡ from.word + 1 → to.place ≡ cap (from.place + 1) → passes v (shape_of (component_types a) type) ≡ []
       → LowersTo L.seen L.moves options a a dst (set dst from.word w) from (Ok to) (shape_of (component_types a) type) v
-  unfolding flat
+  unfolding flat scalar_words attempt_none
   scalar_lowers a dst from to type v w small room (k, t, e, has, is, least) ew ep none =
       let shape : shape_of (component_types a) type ≡ scalar k = scalar_shape (component_types a) type k e in
       let here : slice_index (set dst from.word w) from.word ≡ w = get_or-set_same dst from.word w 0 (omega (arith, room, ap flat shape)) in
@@ -126,6 +134,7 @@ module _ {T G : Type 0} (L : GuestLaws G) (options : ℕ) where
         lowered = scalar_words false (stage_of L.seen L.moves a) (host_texts (encoding_by a options)) (set dst from.word w) from.word (HasTree (scalar k) v) small k t
             (subst (λ (x : ℕ). ScalarIs k (x % 2 ^ flat_bits k) t) (sym here) is) (subst (λ (x : ℕ). IsLeastWord k x) (sym here) least) has;
         handed = passes_none a.component.types a.ledger a.ledger (passes v (scalar k)) refl (ap (passes v) (sym shape) ∙ none);
+        enacted = enacted_scalar (encoding_by a options) a.component.types k v t from.place a.ledger has;
         stays = record { same_length = length-set dst from.word w; before = λ p l. get_or-set_other dst from.word p w 0 (omega (arith, l)) };
         passed = ew;
         counted = (omega (arith, ep, scalar_places k v t has), scalar_small (encoding_by a options) k v);
@@ -137,11 +146,13 @@ module _ {T G : Type 0} (L : GuestLaws G) (options : ℕ) where
 
   pub placed_lowers : (a c : Parts T G) (dst dst2 : List ℕ) (from : Spot) (s : Shape) (v : Val) (b : Placed) → has_block s ≡ true → flat s ≡ 2 → WordsStay from.word dst dst2 → SameWords (b.pointer ∷ b.length ∷ []) 0 dst2 from.word 2
       → PlacesTo L.seen L.moves options a c s v from.place (Ok b) → LowersTo L.seen L.moves options a c dst dst2 from (Ok (record { word = from.word + 2; place = b.next })) s v
+  unfolding words_moved attempt_as
   placed_lowers a c dst dst2 from s v b block two stays there h = record {
     handles = h.handles;
     lowered = words_moved false (stage_of L.seen L.moves a) (stage_of L.seen L.moves c) (host_texts (encoding_by a options)) s (b.pointer ∷ b.length ∷ []) dst2 0 from.word (HasTree s v) done (has_fits s v)
         (subst (λ (n : ℕ). SameWords (b.pointer ∷ b.length ∷ []) 0 dst2 from.word n) (sym two) there) h.lowered;
     handed = h.handed;
+    enacted = h.enacted;
     stays = stays;
     passed = omega (arith, two);
     counted = h.counted;
@@ -151,11 +162,13 @@ module _ {T G : Type 0} (L : GuestLaws G) (options : ℕ) where
 
   pub placed_refused : (a c : Parts T G) (dst : List ℕ) (from : Spot) (s : Shape) (v : Val) (e : Fault) → has_block s ≡ true → PlacesTo L.seen L.moves options a c s v from.place (Err e)
       → LowersTo L.seen L.moves options a c dst dst from (Err e) s v
+  unfolding attempt_other
   placed_refused a c dst from s v e block h = record {
     handles = h.handles;
     lowered = attempt_other false (stage_of L.seen L.moves a) (stage_of L.seen L.moves c) [] _ (value_words false (host_texts (encoding_by a options)) s dst from.word (HasTree s v)) (fault_ending e)
         (not_done e) (λ t has. (has, refl)) h.lowered;
     handed = h.handed;
+    enacted = h.enacted;
     stays = stays_none from.word dst;
     passed = tt;
     counted = h.counted;
@@ -166,12 +179,13 @@ module _ {T G : Type 0} (L : GuestLaws G) (options : ℕ) where
   -- ---- members, one after another
 
   pub parts_none : (a : Parts T G) (dst : List ℕ) (from : Spot) (place : ℕ) → length a.memory ≤ 2 ^ 32 → from.place < 2 ^ 64 → PartsLowerTo L.seen L.moves options a a dst dst from (Ok from) place no_members [] []
-  unfolding flat requests leaves
+  unfolding flat requests leaves attempt_none
   parts_none a dst from place small few = record {
     handles = [];
     lowered = attempt_none false (stage_of L.seen L.moves a) [] (members_words false (host_texts (encoding_by a options)) no_members dst from.word (MemberNamed no_members [] [])) no_trees small
         (refl, (refl, refl)) (λ ts h. refl) refl (λ pointer rest. refl);
     handed = passes_none a.component.types a.ledger a.ledger [] refl refl;
+    enacted = enacted_none a.ledger;
     stays = stays_none from.word dst;
     passed = omega arith;
     counted = (refl, omega (arith, few), none_small (encoding_by a options));
@@ -200,19 +214,22 @@ module _ {T G : Type 0} (L : GuestLaws G) (options : ℕ) where
   pub parts_cons : (a b c : Parts T G) (dst dst2 dst3 : List ℕ) (place : ℕ) (name named : Name) (s : Shape) (ms : Members) (names : List Name) (v : Val) (vs : List Val) (from mid : Spot) (r : Result Spot Fault) → named ≡ name
       → LowersTo L.seen L.moves options a b dst dst2 from (Ok mid) s v → PartsLowerTo L.seen L.moves options b c dst2 dst3 mid r place ms names vs
       → PartsLowerTo L.seen L.moves options a c dst dst3 from r place (member name s ms) (named ∷ names) (v ∷ vs)
-  unfolding flat
+  unfolding flat first_and members_words_cons words_moved attempt_then attempt_as
   parts_cons a b c dst dst2 dst3 place name named s ms names v vs from mid r en h k =
       let enc : Encoding = encoding_by a options in
-      let rest : LowersMembers false (stage_of L.seen L.moves b) (stage_of L.seen L.moves c) (host_texts enc) ms dst3 (from.word + flat s) (MemberNamed ms names vs) k.handles (ending_of r) =
-      subst (λ (i : ℕ). LowersMembers false (stage_of L.seen L.moves b) (stage_of L.seen L.moves c) (host_texts enc) ms dst3 i (MemberNamed ms names vs) k.handles (ending_of r)) h.passed
-      (subst (λ (x : Encoding). LowersMembers false (stage_of L.seen L.moves b) (stage_of L.seen L.moves c) (host_texts x) ms dst3 mid.word (MemberNamed ms names vs) k.handles (ending_of r)) (handles_encoding a b options h.same) k.lowered) in
+      let Rest : ℕ → Encoding → Instance → Type 0 = λ i x j. (q : LowersMembers false (stage_of L.seen L.moves b) (stage_of L.seen L.moves c) (host_texts x) ms dst3 i (MemberNamed ms names vs) k.handles (ending_of r))
+          × Enacted b.ledger (members_deeds x j ms place names vs mid.place) (stop_in r) q.answers q.trap k.handles c.ledger in
+      let rest : Rest (from.word + flat s) enc a.component.types = subst (λ (i : ℕ). Rest i enc a.component.types) h.passed (subst (λ (x : Encoding). Rest mid.word x a.component.types) (handles_encoding a b options h.same)
+          (subst (λ (j : Instance). Rest mid.word (encoding_by b options) j) (handles_instance a b h.same) (k.lowered, k.enacted))) in
       record {
         handles = h.handles ++ k.handles;
         lowered = first_and a c enc name named s ms dst3 from.word names v vs (ending_of r) en
             (members_words_cons false (host_texts enc) name s ms from.word (HasTree s v) (MemberNamed ms names vs) dst3 (stage_of L.seen L.moves a) (stage_of L.seen L.moves b) (stage_of L.seen L.moves c) dst2 (ending_of r) (has_fits s v)
-            (first_stay from.word mid.word (flat s) dst2 dst3 h.passed k.stays) h.lowered rest);
+            (first_stay from.word mid.word (flat s) dst2 dst3 h.passed k.stays) h.lowered rest.0);
         handed = passes_then a.component.types a.ledger b.ledger c.ledger (passes v s) (all_passes ms vs) h.handles k.handles r h.handed
             (subst (λ (i : Instance). LowersHandles i b.ledger c.ledger (all_passes ms vs) k.handles r) (handles_instance a b h.same) k.handed);
+        enacted = enacted_cons enc a.component.types name named s ms place names v vs from.place a.ledger b.ledger c.ledger mid.place (stop_in r) h.lowered.answers rest.0.answers h.lowered.trap rest.0.trap
+            h.handles k.handles en h.counted.0 h.enacted rest.1;
         stays = stays_then from.word mid.word dst dst2 dst3 (omega (arith, h.passed)) h.stays k.stays;
         passed = passed_both from mid (flat s) (members_flat ms) r h.passed k.passed;
         counted = fields_count enc place name named s ms names v vs from.place mid.place (place_after r) en h.counted.0 h.counted.1
@@ -225,11 +242,13 @@ module _ {T G : Type 0} (L : GuestLaws G) (options : ℕ) where
   -- a first one ends it
   pub parts_stop : (a b : Parts T G) (dst dst2 : List ℕ) (place : ℕ) (name named : Name) (s : Shape) (ms : Members) (names : List Name) (v : Val) (vs : List Val) (from : Spot) (e : Fault) → named ≡ name
       → LowersTo L.seen L.moves options a b dst dst2 from (Err e) s v → PartsLowerTo L.seen L.moves options a b dst dst2 from (Err e) place (member name s ms) (named ∷ names) (v ∷ vs)
+  unfolding first_and members_words_stop attempt_stop attempt_other attempt_as
   parts_stop a b dst dst2 place name named s ms names v vs from e en h = record {
     handles = h.handles;
     lowered = first_and a b (encoding_by a options) name named s ms dst2 from.word names v vs (fault_ending e) en
         (members_words_stop false (host_texts (encoding_by a options)) name s ms from.word (HasTree s v) (MemberNamed ms names vs) dst2 (stage_of L.seen L.moves a) (stage_of L.seen L.moves b) dst2 (fault_ending e) (not_done e) h.lowered);
     handed = passes_stop a.component.types a.ledger b.ledger (passes v s) (all_passes ms vs) e h.handed;
+    enacted = enacted_stop (encoding_by a options) a.component.types name named s ms place names v vs from.place a.ledger b.ledger e h.lowered.answers h.lowered.trap h.handles en h.enacted;
     stays = h.stays;
     passed = tt;
     counted = inr (blames_first (encoding_by a options) (λ how k. FailsAt how s v k) (λ how k. MemberFails how (member name s ms) (v ∷ vs) k) from.place e (λ how j f. inl f) h.counted);
@@ -240,10 +259,12 @@ module _ {T G : Type 0} (L : GuestLaws G) (options : ℕ) where
   -- its name is another
   pub parts_named : (a : Parts T G) (dst : List ℕ) (place : ℕ) (name named : Name) (s : Shape) (ms : Members) (names : List Name) (v : Val) (vs : List Val) (from : Spot) → length a.memory ≤ 2 ^ 32 → ¬ (named ≡ name)
       → PartsLowerTo L.seen L.moves options a a dst dst from (Err (fault.FieldName place)) place (member name s ms) (named ∷ names) (v ∷ vs)
+  unfolding attempt_refused
   parts_named a dst place name named s ms names v vs from small other = record {
     handles = [];
     lowered = attempt_refused false (stage_of L.seen L.moves a) [] _ small;
     handed = passes_stopped a.component.types a.ledger a.ledger (all_passes (member name s ms) (v ∷ vs)) (fault.FieldName place) refl refl;
+    enacted = enacted_misnamed (encoding_by a options) a.component.types name named s ms place names v vs from.place a.ledger other;
     stays = stays_none from.word dst;
     passed = tt;
     counted = inl (refl, λ same. other (heads named name names (member_names ms) same));
@@ -256,13 +277,19 @@ module _ {T G : Type 0} (L : GuestLaws G) (options : ℕ) where
   pub members_lower : (a c : Parts T G) (dst dst2 : List ℕ) (from : Spot) (s : Shape) (ms : Members) (names : List Name) (vs : List Val) (v : Val) (r : Result Spot Fault) → from.place < 2 ^ 64
       → LiesAs s ms → HasMembers s names vs v → length vs ≡ member_count ms → passes v s ≡ all_passes ms vs → PartsLowerTo L.seen L.moves options a c dst dst2 (inside from) r from.place ms names vs
       → LowersTo L.seen L.moves options a c dst dst2 from r s v
-  unfolding flat
-  members_lower a c dst dst2 from (product k ns) ms names vs v r few e p count given h = record {
+  unfolding flat product_words fixed_words attempt_as
+  members_lower a c dst dst2 from (product k ns) ms names vs v r few e p count given h =
+      let Inner : Members → Type 0 = λ xs. (q : LowersMembers false (stage_of L.seen L.moves a) (stage_of L.seen L.moves c) (host_texts (encoding_by a options)) xs dst2 from.word (MemberNamed xs names vs) h.handles (ending_of r))
+          × Enacted a.ledger (members_deeds (encoding_by a options) a.component.types xs from.place names vs (cap (from.place + 1))) (stop_in r) q.answers q.trap h.handles c.ledger in
+      let inner : Inner ns = subst Inner e (h.lowered, h.enacted) in
+      record {
     handles = h.handles;
     lowered =
         product_words false (stage_of L.seen L.moves a) (stage_of L.seen L.moves c) (host_texts (encoding_by a options)) k ns dst2 from.word (MemberNamed ns names vs) (HasTree (product k ns) v)
         (ending_of r) (product_is k ns names vs v p) (product_back k ns names vs v p)
-        (subst (λ (xs : Members). LowersMembers false (stage_of L.seen L.moves a) (stage_of L.seen L.moves c) (host_texts (encoding_by a options)) xs dst2 from.word (MemberNamed xs names vs) h.handles (ending_of r)) e h.lowered);
+        inner.0;
+    enacted = enacted_as (members_deeds (encoding_by a options) a.component.types ns from.place names vs (cap (from.place + 1))) (deeds (encoding_by a options) a.component.types (product k ns) v from.place) (stop_in r) a.ledger c.ledger
+        inner.0.answers inner.0.trap h.handles (deeds_product (encoding_by a options) a.component.types k ns names vs v from.place p (count ∙ ap member_count e)) inner.1;
     handed = passes_as a.component.types a.ledger c.ledger (all_passes ms vs) (passes v (product k ns)) h.handles r given h.handed;
     stays = h.stays;
     passed = subst (λ (n : ℕ). WordsPassed from n r) (ap members_flat e) h.passed;
@@ -270,15 +297,20 @@ module _ {T G : Type 0} (L : GuestLaws G) (options : ℕ) where
         (subst (λ (xs : Members). FieldsCount (encoding_by a options) from.place xs names vs (cap (from.place + 1)) (place_after r)) e h.counted);
     same = h.same;
     quiet = λ none. h.quiet (ap have_block e ∙ none);
-  }
+      }
   members_lower a c dst dst2 from (fixed n s) ms names vs v r few e (en, p) count given h =
       let enough : length vs ≡ n = count ∙ (ap member_count e ∙ copies_count n s) in
       let named : names ≡ member_names (copies n s) = en ∙ copies_names n s vs enough in
+      let Inner : Members → Type 0 = λ ys. (q : LowersMembers false (stage_of L.seen L.moves a) (stage_of L.seen L.moves c) (host_texts (encoding_by a options)) ys dst2 from.word (MemberNamed ys names vs) h.handles (ending_of r))
+          × Enacted a.ledger (members_deeds (encoding_by a options) a.component.types ys from.place names vs (cap (from.place + 1))) (stop_in r) q.answers q.trap h.handles c.ledger in
+      let inner : Inner (copies n s) = subst Inner e (h.lowered, h.enacted) in
       record {
         handles = h.handles;
         lowered = fixed_words false (stage_of L.seen L.moves a) (stage_of L.seen L.moves c) (host_texts (encoding_by a options)) n s dst2 from.word (MemberNamed (copies n s) names vs) (HasTree (fixed n s) v) (ending_of r)
             (fixed_is n s names vs v enough p) (fixed_back n s names vs v en enough p)
-            (subst (λ (ys : Members). LowersMembers false (stage_of L.seen L.moves a) (stage_of L.seen L.moves c) (host_texts (encoding_by a options)) ys dst2 from.word (MemberNamed ys names vs) h.handles (ending_of r)) e h.lowered);
+            inner.0;
+        enacted = enacted_as (members_deeds (encoding_by a options) a.component.types (copies n s) from.place names vs (cap (from.place + 1))) (deeds (encoding_by a options) a.component.types (fixed n s) v from.place) (stop_in r) a.ledger c.ledger
+            inner.0.answers inner.0.trap h.handles (deeds_fixed (encoding_by a options) a.component.types n s names vs v from.place p en enough) inner.1;
         handed = passes_as a.component.types a.ledger c.ledger (all_passes ms vs) (passes v (fixed n s)) h.handles r given h.handed;
         stays = h.stays;
         passed = subst (λ (k : ℕ). WordsPassed from k r) (ap members_flat e ∙ copies_flat n s) h.passed;

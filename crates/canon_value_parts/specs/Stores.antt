@@ -10,8 +10,10 @@ use Rattle.canon_context.specs.Core.{Parts, encoding_by, stage_of}
 use Rattle.canon_value_parts.specs.Fails.{AreSmall, Blames, Failure, FailsAt, MemberFails, NoneTooLarge}
 use Rattle.canon_context.specs.Lowers.{ending_of}
 use Rattle.canon_context.specs.Quiet.{Quiet, has_block, have_block}
+use Rattle.canon_passing.specs.Deeds.{Enacted, stop_in}
 use Rattle.canon_passing.specs.Passed.{LowersHandles}
 use Rattle.canon_value_parts.specs.Resources.{all_passes, passes}
+use Rattle.canon_value_parts.specs.ValueDeeds.{deeds, members_deeds}
 use Rattle.canon_val.specs.Value.{HasTree, HaveTrees, all_places, member_names, places}
 use Rattle.canon_model.specs.Memory.{cap}
 use Rattle.canon_value_parts.specs.declared.blocks.Placed.{Placed}
@@ -46,6 +48,7 @@ module _ {T G : Type 0} (seen : G → Seen) (moves : GuestIn G → List Event �
     pub handles : List ℕ
     pub storing : StoresValue false (stage_of seen moves before) (stage_of seen moves after) (host_texts (encoding_by before options)) s at (HasTree s v) handles (ending_of result)
     pub handed : LowersHandles before.component.types before.ledger after.ledger (passes v s) handles result
+    pub enacted : Enacted before.ledger (deeds (encoding_by before options) before.component.types s v from) (stop_in result) storing.answers storing.trap handles after.ledger
     pub counted : PlacesCounted (encoding_by before options) (λ how k. FailsAt how s v k) from (places v) result
     pub same : SameButHandles before after
     pub quiet : Quiet (has_block s) (after.guest ≡ before.guest) result
@@ -55,6 +58,7 @@ module _ {T G : Type 0} (seen : G → Seen) (moves : GuestIn G → List Event �
     pub handles : List ℕ
     pub storing : StoresMembers false (stage_of seen moves before) (stage_of seen moves after) (host_texts (encoding_by before options)) ms o at (λ ts. (names ≡ member_names ms) × HaveTrees ms vs ts) handles (ending_of result)
     pub handed : LowersHandles before.component.types before.ledger after.ledger (all_passes ms vs) handles result
+    pub enacted : Enacted before.ledger (members_deeds (encoding_by before options) before.component.types ms place names vs from) (stop_in result) storing.answers storing.trap handles after.ledger
     pub counted : FieldsCount (encoding_by before options) place ms names vs from result
     pub same : SameButHandles before after
     pub quiet : Quiet (have_block ms) (after.guest ≡ before.guest) result
@@ -64,6 +68,7 @@ module _ {T G : Type 0} (seen : G → Seen) (moves : GuestIn G → List Event �
     pub handles : List ℕ
     pub lowered : LowersValue false (stage_of seen moves before) (stage_of seen moves after) (host_texts (encoding_by before options)) s (placed_words result) 0 (HasTree s v) handles (ending_of result)
     pub handed : LowersHandles before.component.types before.ledger after.ledger (passes v s) handles result
+    pub enacted : Enacted before.ledger (deeds (encoding_by before options) before.component.types s v from) (stop_in result) lowered.answers lowered.trap handles after.ledger
     pub narrow : IfOk result (λ b. (b.pointer < 2 ^ 32) × (b.length < 2 ^ 32))
     pub counted : PlacesCounted (encoding_by before options) (λ how k. FailsAt how s v k) from (places v) (placed_next result)
     pub same : SameButHandles before after

@@ -17,9 +17,11 @@ use Rattle.canon_value_parts.specs.Fails.{FailsAt, IsOtherScalar}
 use Rattle.canon_context.specs.Lowers.{ending_of}
 use Rattle.canon_context.specs.Quiet.{Quiet, has_block, have_block}
 use Rattle.canon_context.specs.Asks.{SameButHandles}
+use Rattle.canon_passing.specs.Deeds.{Enacted, stop_in}
 use Rattle.canon_passing.specs.Passed.{LowersHandles}
 use Rattle.canon_value_parts.specs.Resources.{all_passes, passes}
 use Rattle.canon_value_parts.specs.Stores.{PlacesCounted, FieldsCount}
+use Rattle.canon_value_parts.specs.ValueDeeds.{deeds, members_deeds}
 use Rattle.canon_val.specs.Value.{HasScalar, HasTree, HaveTrees, member_names, places}
 use Rattle.canon_model.specs.Memory.{cap}
 use Rattle.canon_context.specs.declared.fault.Fault.{Fault}
@@ -57,6 +59,7 @@ module _ {T G : Type 0} (seen : G → Seen) (moves : GuestIn G → List Event �
     pub handles : List ℕ
     pub lowered : LowersValue false (stage_of seen moves before) (stage_of seen moves after) (host_texts (encoding_by before options)) s dst2 from.word (HasTree s v) handles (ending_of result)
     pub handed : LowersHandles before.component.types before.ledger after.ledger (passes v s) handles result
+    pub enacted : Enacted before.ledger (deeds (encoding_by before options) before.component.types s v from.place) (stop_in result) lowered.answers lowered.trap handles after.ledger
     pub stays : WordsStay from.word dst dst2
     pub passed : WordsPassed from (flat s) result
     pub counted : PlacesCounted (encoding_by before options) (λ how k. FailsAt how s v k) from.place (places v) (place_after result)
@@ -68,6 +71,7 @@ module _ {T G : Type 0} (seen : G → Seen) (moves : GuestIn G → List Event �
     pub handles : List ℕ
     pub lowered : LowersMembers false (stage_of seen moves before) (stage_of seen moves after) (host_texts (encoding_by before options)) ms dst2 from.word (λ ts. (names ≡ member_names ms) × HaveTrees ms vs ts) handles (ending_of result)
     pub handed : LowersHandles before.component.types before.ledger after.ledger (all_passes ms vs) handles result
+    pub enacted : Enacted before.ledger (members_deeds (encoding_by before options) before.component.types ms place names vs from.place) (stop_in result) lowered.answers lowered.trap handles after.ledger
     pub stays : WordsStay from.word dst dst2
     pub passed : WordsPassed from (members_flat ms) result
     pub counted : FieldsCount (encoding_by before options) place ms names vs from.place (place_after result)
