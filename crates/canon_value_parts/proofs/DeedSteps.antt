@@ -23,7 +23,7 @@ use Rattle.canon_passing.specs.Deeds.{Deed, Enacted, Enacts, HandEnds, asks, blo
 use Rattle.canon_passing.proofs.Enacting.{enacts_stop, enacts_then}
 use Rattle.canon_passing.proofs.Passing.{Ended, Took}
 use Rattle.canon_plan.specs.Plan.{shaped_handle}
-use Rattle.canon_resources.specs.Held.{Any}
+use Rattle.canon_resources.specs.Held.{Any as AnyResource}
 use Rattle.canon_resources.specs.Parts.{LeafMoves, LeafTakes, Part, PassedResource, Stops, TakesParts, do_part, lower_parts, passed, refusal_of}
 use Rattle.canon_types.specs.Instance.{Instance}
 use Rattle.canon_val.specs.Value.{HasScalar, IsCase, IsFixedListValue, IsProduct, Occurs, member_names, no_names, pair_places, places}
@@ -42,11 +42,11 @@ and_false false = refl
 -- one of them is none of the names
 occurs_so : (name : Name) (names : List Name) → occurs name names ≡ true → Occurs name names
 occurs_so name [] e = absurd (false≢true e)
-occurs_so name (n ∷ names) e = by (same_name name n) refl e
+occurs_so name (n ∷ names) e = by (same_name name n) refl e (λ h. occurs_so name names h)
   where
-    by : (b : Bool) → same_name name n ≡ b → (b || occurs name names) ≡ true → Occurs name (n ∷ names)
-    by true is h = (0, n, omega arith, refl, sym (true_same name n is))
-    by false is h = let (k, m, lt, here, same) = occurs_so name names h in (suc k, m, omega (arith, lt), here, same)
+    by : (b : Bool) → same_name name n ≡ b → (b || occurs name names) ≡ true → (occurs name names ≡ true → Occurs name names) → Occurs name (n ∷ names)
+    by true is h rest = (0, n, omega arith, refl, sym (true_same name n is))
+    by false is h rest = let (k, m, lt, here, same) = rest h in (suc k, m, omega (arith, lt), here, same)
 
 not_all : (set names : List Name) → Any (λ n. ¬ Occurs n names) set → all_occur set names ≡ false
 not_all [] names (k, m, lt, here, other) = absurd (omega (arith, lt))
@@ -92,17 +92,17 @@ one_ended types l n p r (inl h, at) = h
 one_ended types l n p r (inr (h, mid, takes, stops), at) = all_taken (refusal_of r) l mid n (lower_parts types p) h takes stops
 
 module _ (enc : Encoding) (types : Instance) where
-  handle_is : (owned : Bool) (r p : ℕ) (x : Any) → deeds enc types (shaped_handle owned r) (val.Resource x) p ≡ hands (lower_parts types (passed owned r x)) ∷ []
+  handle_is : (owned : Bool) (r p : ℕ) (x : AnyResource) → deeds enc types (shaped_handle owned r) (val.Resource x) p ≡ hands (lower_parts types (passed owned r x)) ∷ []
   handle_is true r p x = kind_is _ x (fault.TypeMismatch p) (λ y. hands (lower_parts types (passed true r y)) ∷ []) (resource_seen x (val.Resource x) refl)
   handle_is false r p x = kind_is _ x (fault.TypeMismatch p) (λ y. hands (lower_parts types (passed false r y)) ∷ []) (resource_seen x (val.Resource x) refl)
 
   -- a handle was given, or not
-  pub enacted_handle : (owned : Bool) (r p : ℕ) (x : Any) (l n : LedgerState) (h k : ℕ) → k ≡ h → Took types l n (passed owned r x ∷ []) (h ∷ []) → Enacted l (deeds enc types (shaped_handle owned r) (val.Resource x) p) None [] None (k ∷ []) n
+  pub enacted_handle : (owned : Bool) (r p : ℕ) (x : AnyResource) (l n : LedgerState) (h k : ℕ) → k ≡ h → Took types l n (passed owned r x ∷ []) (h ∷ []) → Enacted l (deeds enc types (shaped_handle owned r) (val.Resource x) p) None [] None (k ∷ []) n
   enacted_handle owned r p x l n h k e took =
       enacted_as (hands (lower_parts types (passed owned r x)) ∷ []) (deeds enc types (shaped_handle owned r) (val.Resource x) p) None l n [] None (k ∷ []) (handle_is owned r p x)
       (λ last. inl (k, [], n, refl, subst (λ j. LeafTakes l (lower_parts types (passed owned r x)) j n) (sym e) (one_taken types l n (passed owned r x) h took), (inl refl, refl, refl, refl, refl)))
 
-  pub enacted_unhanded : (owned : Bool) (r p : ℕ) (x : Any) (l n : LedgerState) (e : ResourceFault) → Ended types l n (passed owned r x ∷ []) (fault.Resource e)
+  pub enacted_unhanded : (owned : Bool) (r p : ℕ) (x : AnyResource) (l n : LedgerState) (e : ResourceFault) → Ended types l n (passed owned r x ∷ []) (fault.Resource e)
       → Enacted l (deeds enc types (shaped_handle owned r) (val.Resource x) p) (Some (fault.Resource e)) [] None [] n
   enacted_unhanded owned r p x l n e ended =
       enacted_as (hands (lower_parts types (passed owned r x)) ∷ []) (deeds enc types (shaped_handle owned r) (val.Resource x) p) (Some (fault.Resource e)) l n [] None [] (handle_is owned r p x)

@@ -50,6 +50,7 @@ pub mod SeenBack
 pub mod CasesBack
 pub mod Heads
 pub mod DeedSteps
+pub mod DeedRequests
 pub mod LeavesAt
 pub mod Lifted
 pub mod ResourcesOf

@@ -160,8 +160,9 @@ lower_value-returns-in-Err g t0 c =
     let a = c.args in
     let core = a.core.now in
     let L : GuestLaws _ = record { seen = g.G.Guest.seen; moves = g.G.Guest.moves; stays = g.met.G.Guest.stays; goes_on = g.met.G.Guest.goes_on } in
-    let (is, blames) = blames_itself (shape_of (component_types core) a.ty) a.value.now a.from.place (omega arith) c.in-Err.fault (rw c.types.ensures at c.in-Err.ensures) in
-    record { lowers = value_refused L a.options core a.dst.now a.from (shape_of (component_types core) a.ty) a.value.now c.in-Err.fault c.requires.small is (blames (encoding_by core a.options)) }
+    let fails = rw c.types.ensures at c.in-Err.ensures in
+    let (is, blames) = blames_itself (shape_of (component_types core) a.ty) a.value.now a.from.place (omega arith) c.in-Err.fault fails in
+    record { lowers = value_refused L a.options core a.dst.now a.from (shape_of (component_types core) a.ty) a.value.now c.in-Err.fault c.requires.small is fails (blames (encoding_by core a.options)) }
 
 -- ---- a case
 

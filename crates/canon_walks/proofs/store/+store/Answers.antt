@@ -148,9 +148,11 @@ place_list-returns-in-Err g t0 c =
     let core = a.core.now in
     let L : GuestLaws _ = record { seen = g.G.Guest.seen; moves = g.G.Guest.moves; stays = g.met.G.Guest.stays; goes_on = g.met.G.Guest.goes_on } in
     let asked = asked_for L core c.ask_items.new.core (element_in a.list.now) c.element_of-element.result c.element_count-length.result (Err c.in-Err.fault) c.element_of-element.ensures c.in-Err.ensures.asked in
+    let bytes = element_size (component_types core) c.types.result.now (element_in a.list.now) c.element_of-element.result c.element_abi.result.now c.types.ensures c.element_of-element.ensures c.element_abi.ensures in
     record {
       places = list_refused _ _ _ _ _ (listed (component_types core) a.list.now c.requires.known) (listed_passes (component_types core) a.list.now c.requires.known)
-          L a.options core c.ask_items.new.core a.place c.element_count-length.result c.in-Err.fault c.element_count-length.ensures asked;
+          L a.options core c.ask_items.new.core a.place c.element_count-length.result c.in-Err.fault c.element_count-length.ensures c.in-Some.ensures.some.1
+          (omega (arith, c.in-Some.ensures.some.0, c.in-Some.ensures.some.2, ap (λ (x : ℕ). c.element_count-length.result * x) bytes)) asked;
     }
 
 pub place_list-store_parts-requires : goal.place_list-store_parts-requires
@@ -357,5 +359,6 @@ store_value-returns-in-Err g t0 c =
     let a = c.args in
     let core = a.core.now in
     let L : GuestLaws _ = record { seen = g.G.Guest.seen; moves = g.G.Guest.moves; stays = g.met.G.Guest.stays; goes_on = g.met.G.Guest.goes_on } in
-    let (is, blames) = blames_itself (shape_of (component_types core) a.ty) a.value.now a.place (omega arith) c.in-Err.fault (rw c.types.ensures at c.in-Err.ensures) in
-    record { stores = value_refused L a.options core (shape_of (component_types core) a.ty) a.at a.value.now a.place c.in-Err.fault c.requires.small is (blames (encoding_by core a.options)) }
+    let fails = rw c.types.ensures at c.in-Err.ensures in
+    let (is, blames) = blames_itself (shape_of (component_types core) a.ty) a.value.now a.place (omega arith) c.in-Err.fault fails in
+    record { stores = value_refused L a.options core (shape_of (component_types core) a.ty) a.at a.value.now a.place c.in-Err.fault c.requires.small is fails (blames (encoding_by core a.options)) }
