@@ -33,10 +33,10 @@ only_last x y xs (z ∷ front) none e = absurd (none_last front y (sym none ∙ 
 -- the first request ended it
 pub ask_stopped : (r : Request) (ds : List Deed) (last : ℕ) (l : LedgerState) (e : Fault) (xs : List Answer) (t : Option Trap) (m n : Moment) → BeginsWith (call_of last r) (fault_ending e) xs t → AtMostOne xs t
     → CauseOf m n xs t (fault_ending e) → (fault_ending e ≡ refused → ⊥) → Enacts last l (asks r ∷ ds) (Some e) xs t [] l
-ask_stopped r ds last l (fault.ReallocMisaligned a) [] t m n begins one (none, (front, y, is, more)) own = absurd (none_last front y is)
+ask_stopped r ds last l (fault.ReallocMisaligned a) [] t m n begins one (none, (front, y, is, at, bad)) own = absurd (none_last front y is)
 ask_stopped r ds last l (fault.ReallocMisaligned a) (x ∷ xs) t m n begins one (none, (front, y, is, at, bad)) own =
     inr ((x, ap (λ zs. x ∷ zs) one.0, begins, ap (λ (z : Answer). z.at) (only_last x y xs front one.0 is) ∙ at, none), refl, refl)
-ask_stopped r ds last l (fault.ReallocOutOfBounds a) [] t m n begins one (none, (front, y, is, more)) own = absurd (none_last front y is)
+ask_stopped r ds last l (fault.ReallocOutOfBounds a) [] t m n begins one (none, (front, y, is, at, bad)) own = absurd (none_last front y is)
 ask_stopped r ds last l (fault.ReallocOutOfBounds a) (x ∷ xs) t m n begins one (none, (front, y, is, at, bad)) own =
     inr ((x, ap (λ zs. x ∷ zs) one.0, begins, ap (λ (z : Answer). z.at) (only_last x y xs front one.0 is) ∙ at, none), refl, refl)
 ask_stopped r ds last l fault.GuestTrap [] None m n begins one (rose, (u, is, le)) own = absurd (no_trap is)
