@@ -1,4 +1,5 @@
 pub mod Asking
+pub mod Determined
 pub mod Enacting
 pub mod Far
 pub mod Passing

@@ -51,6 +51,7 @@ pub mod CasesBack
 pub mod Heads
 pub mod DeedSteps
 pub mod DeedRequests
+pub mod QuietDeeds
 pub mod LeavesAt
 pub mod Lifted
 pub mod ResourcesOf

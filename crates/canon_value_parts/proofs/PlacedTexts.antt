@@ -74,7 +74,7 @@ module _ {T G : Type 0} (L : GuestLaws G) (options : ℕ) (a b : Parts T G) (s :
   short_so never = ⊎_elim (λ lt. lt) (λ le. absurd (never (length bytes) (record { scalars = scalars; spelled = spelled; count = refl; many = le }))) (cases_lt (most_bytes enc (length bytes) scalars) (2 ^ 31))
 
   same_requests : (place : ℕ) → most_bytes enc (length bytes) scalars < 2 ^ 31 → does place ≡ map asks (text_requests enc scalars)
-  same_requests place short = short_text_is enc a.component.types s place short
+  same_requests place fits = short_text_is enc a.component.types s place fits
 
   -- its requests, whichever trees it has
   asked_so : (ws : List ℕ) (e : Ending) (h : LowersValue false (stage_of L.seen L.moves a) (stage_of L.seen L.moves b) (host_texts enc) string ws 0 (IsTextOf bytes) [] e) → Requested (text_requests enc scalars) e h.answers h.trap
