@@ -4,4 +4,5 @@ pub mod Enacting
 pub mod Far
 pub mod Passing
 pub mod Shapes
+pub mod ToldDeeds
 pub mod Words
