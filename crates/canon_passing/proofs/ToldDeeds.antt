@@ -4,9 +4,14 @@ use Rattle.canon_context.specs.declared.fault.Fault.{Fault}
 use Rattle.canon_context.specs.declared.fault.Fault.TheVariants as fault
 use Rattle.canon_ledger.specs.Ledger.{LedgerState}
 use Rattle.canon_ledger.specs.declared.fault.ResourceFault.TheVariants as resource
-use Rattle.canon_lowering.specs.Lowering.{Answer, Trap}
+use Rattle.canon_lowering.specs.Lowering.{Answer, Ending, Trap}
+use Rattle.canon_lowering.specs.Stages.{Stage}
 use Rattle.canon_model.specs.Requests.{Call, call_of}
-use Rattle.canon_passing.specs.Deeds.{AskEnds, Deed, Enacts, HandEnds, asks, fails, hands}
+use Rattle.canon_model.specs.Shape.{Members}
+use Rattle.canon_model.specs.Text.{Encoding}
+use Rattle.canon_model.specs.Tree.{Trees}
+use Rattle.canon_passing.specs.Args.{EnactsParams, EnactsResults}
+use Rattle.canon_passing.specs.Deeds.{AskEnds, Deed, Enacted, Enacts, HandEnds, asks, fails, hands}
 use Rattle.canon_passing.specs.Passed.{told_fault}
 use Rattle.canon_passing.proofs.Enacting.{same_some}
 use Rattle.canon_resources.specs.Parts.{Part}
@@ -43,3 +48,18 @@ enacts_told (asks r ∷ ds) last l n e xs t hs (inr (ends, unused, same)) = inr 
 enacts_told (hands ps ∷ ds) last l n e xs t hs (inl (h, more, mid, is, takes, rest)) = inl (h, more, mid, is, takes, enacts_told ds last mid n e xs t more rest)
 enacts_told (hands ps ∷ ds) last l n e xs t hs (inr (ends, none, untrapped, unused)) = inr (hand_told l n ps e ends, none, untrapped, unused)
 enacts_told (fails f ∷ ds) last l n e xs t hs (why, none, untrapped, unused, same) = (reason_told (Some f) e why, none, untrapped, unused, same)
+
+-- the same where it is told of a lowering
+pub told_enacted : (ds : List Deed) (l n : LedgerState) (e told : Fault) (xs : List Answer) (t : Option Trap) (hs : List ℕ) → told ≡ told_fault e → Enacted l ds (Some e) xs t hs n → Enacted l ds (Some told) xs t hs n
+told_enacted ds l n e told xs t hs is h last = subst (λ (f : Fault). Enacts last l ds (Some f) xs t hs n) (sym is) (enacts_told ds last l n e xs t hs (h last))
+
+module _ {K : Type 0} (a b : Stage K) (enc : Encoding) (ms : Members) (Have : Trees → Type 0) (ds : List Deed) (l n : LedgerState) (e told : Fault) (is : told ≡ told_fault e) (ws hs : List ℕ) (ending : Ending) where
+  pub told_params : EnactsParams a b enc ms Have ds l n (Some e) ws hs ending → EnactsParams a b enc ms Have ds l n (Some told) ws hs ending
+  told_params h = record { lowered = h.lowered; enacted = told_enacted ds l n e told h.lowered.lowered.answers h.lowered.lowered.trap hs is h.enacted }
+
+  pub told_results : (at : ℕ) → EnactsResults a b enc ms Have ds l n (Some e) at ws hs ending → EnactsResults a b enc ms Have ds l n (Some told) at ws hs ending
+  told_results at h = record {
+    lowered = h.lowered;
+    near = λ few. told_enacted ds l n e told (h.lowered.near few).answers (h.lowered.near few).trap hs is (h.near few);
+    far = λ many. told_enacted ds l n e told (h.lowered.far many).answers (h.lowered.far many).trap hs is (h.far many);
+  }

@@ -7,9 +7,11 @@ ghost use Rattle.canon_model.specs.Shape.{member_count, of_places, product};
 ghost use Rattle.canon_model.specs.Homes.{host_texts};
 ghost use Rattle.canon_lowering.specs.Attempt.{StoresMembers};
 ghost use Rattle.canon_types.specs.Table.{HasTuple, tuple_members};
-ghost use Rattle.canon_passing.specs.Args.{IsArea, IsNoArea, LowersResults};
+ghost use Rattle.canon_passing.specs.Args.{EnactsResults, IsArea, IsNoArea};
+ghost use Rattle.canon_passing.specs.Deeds.{Enacted, stop_in};
 ghost use Rattle.canon_passing.specs.Passed.{Crosses, PartsLower, QuietBut};
 ghost use Rattle.canon_value_parts.specs.Resources.{all_passes};
+ghost use Rattle.canon_value_parts.specs.ValueDeeds.{row_deeds};
 ghost use Rattle.canon_context.specs.Core.{component_types, encoding_by, stage_of};
 ghost use Rattle.canon_value_parts.specs.Fails.{AreSmall, BlamesMembers};
 ghost use Rattle.canon_context.specs.Lowers.{ending_of};
@@ -50,7 +52,8 @@ pub fn results_area<T, G>(
 }
 
 /// Lowers the results of a function that a guest asked for (CanonicalABI.md, "lower_flat_values"): into words in a row, up to
-/// MAX_FLAT_RESULTS, else as a tuple at the address `at`, where there is room, and `dst` stays. At an error what is written to may have changed.
+/// MAX_FLAT_RESULTS, else as a tuple at the address `at`, where there is room, and `dst` stays. What is done on the way is `row_deeds`, in
+/// this order, and the error is the first that comes. At an error what is written to may have changed.
 pub fn lower_results<T, G: Guest>(
     cx: &mut LowerContext<'_, T, G>,
     results: &[Val],
@@ -63,8 +66,10 @@ pub fn lower_results<T, G: Guest>(
     requires near { members_flat (tuple_members (component_types cx.old.core.now) ty) ≤ max_results → length dst.old ≡ members_flat (tuple_members (component_types cx.old.core.now) ty) }
     requires far { max_results < members_flat (tuple_members (component_types cx.old.core.now) ty) → at + size false (product of_places (tuple_members (component_types cx.old.core.now) ty)) ≤ length cx.old.core.now.memory }
     ensures lowered { Crosses cx.old.core.now.component.types (have_handle (tuple_members (component_types cx.old.core.now) ty)) (all_passes (tuple_members (component_types cx.old.core.now) ty) results.now)
-        (λ hs ending. LowersResults (stage_of G.seen G.moves cx.old.core.now) (stage_of G.seen G.moves cx.new.core.now) (encoding_by cx.old.core.now cx.old.options)
-        (tuple_members (component_types cx.old.core.now) ty) (HaveTrees (tuple_members (component_types cx.old.core.now) ty) results.now) at dst.new hs ending)
+        (λ hs ending. EnactsResults (stage_of G.seen G.moves cx.old.core.now) (stage_of G.seen G.moves cx.new.core.now) (encoding_by cx.old.core.now cx.old.options)
+        (tuple_members (component_types cx.old.core.now) ty) (HaveTrees (tuple_members (component_types cx.old.core.now) ty) results.now)
+        (row_deeds (encoding_by cx.old.core.now cx.old.options) cx.old.core.now.component.types (tuple_members (component_types cx.old.core.now) ty) results.now)
+        cx.old.core.now.ledger cx.new.core.now.ledger (stop_in result) at dst.new hs ending)
         cx.old.core.now.ledger cx.new.core.now.ledger result }
     ensures cause { IfErr result (BlamesMembers (encoding_by cx.old.core.now cx.old.options) (tuple_members (component_types cx.old.core.now) ty) results.now) }
     ensures small { OnOk result (AreSmall (encoding_by cx.old.core.now cx.old.options) (tuple_members (component_types cx.old.core.now) ty) results.now) }
@@ -98,8 +103,10 @@ fn lower_results_by_size<T, G: Guest>(
     requires near { members_flat (tuple_members (component_types core.old) ty) ≤ max_results → length dst.old ≡ members_flat (tuple_members (component_types core.old) ty) }
     requires far { max_results < members_flat (tuple_members (component_types core.old) ty) → at + size false (product of_places (tuple_members (component_types core.old) ty)) ≤ length core.old.memory }
     ensures lowered { PartsLower core.old core.new (all_passes (tuple_members (component_types core.old) ty) results.now)
-        (λ hs. LowersResults (stage_of G.seen G.moves core.old) (stage_of G.seen G.moves core.new) (encoding_by core.old options)
-        (tuple_members (component_types core.old) ty) (HaveTrees (tuple_members (component_types core.old) ty) results.now) at dst.new hs (ending_of result)) result }
+        (λ hs. EnactsResults (stage_of G.seen G.moves core.old) (stage_of G.seen G.moves core.new) (encoding_by core.old options)
+        (tuple_members (component_types core.old) ty) (HaveTrees (tuple_members (component_types core.old) ty) results.now)
+        (row_deeds (encoding_by core.old options) core.old.component.types (tuple_members (component_types core.old) ty) results.now) core.old.ledger core.new.ledger
+        (stop_in result) at dst.new hs (ending_of result)) result }
     ensures cause { IfErr result (BlamesMembers (encoding_by core.old options) (tuple_members (component_types core.old) ty) results.now) }
     ensures small { OnOk result (AreSmall (encoding_by core.old options) (tuple_members (component_types core.old) ty) results.now) }
     ensures quiet { Quiet (have_block (tuple_members (component_types core.old) ty)) (core.new.guest ≡ core.old.guest) result }
@@ -128,8 +135,10 @@ fn store_results<T, G: Guest>(
     requires count { length results.now ≡ member_count (tuple_members (component_types core.old) ty) }
     requires room { at + size false (product of_places (tuple_members (component_types core.old) ty)) ≤ length core.old.memory }
     ensures stored { PartsLower core.old core.new (all_passes (tuple_members (component_types core.old) ty) results.now)
-        (λ hs. StoresMembers false (stage_of G.seen G.moves core.old) (stage_of G.seen G.moves core.new) (host_texts (encoding_by core.old options))
-        (tuple_members (component_types core.old) ty) 0 at (HaveTrees (tuple_members (component_types core.old) ty) results.now) hs (ending_of result)) result }
+        (λ hs. (low : StoresMembers false (stage_of G.seen G.moves core.old) (stage_of G.seen G.moves core.new) (host_texts (encoding_by core.old options))
+        (tuple_members (component_types core.old) ty) 0 at (HaveTrees (tuple_members (component_types core.old) ty) results.now) hs (ending_of result))
+        × Enacted core.old.ledger (row_deeds (encoding_by core.old options) core.old.component.types (tuple_members (component_types core.old) ty) results.now)
+        (stop_in result) low.answers low.trap hs core.new.ledger) result }
     ensures cause { IfErr result (BlamesMembers (encoding_by core.old options) (tuple_members (component_types core.old) ty) results.now) }
     ensures small { OnOk result (AreSmall (encoding_by core.old options) (tuple_members (component_types core.old) ty) results.now) }
     ensures quiet { Quiet (have_block (tuple_members (component_types core.old) ty)) (core.new.guest ≡ core.old.guest) result }

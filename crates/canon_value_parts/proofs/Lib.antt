@@ -24,6 +24,7 @@ pub mod LoadingParts
 pub mod LiftingParts
 pub mod LoadCases
 pub mod LiftCases
+pub mod Blaming
 pub mod CaseValues
 pub mod Cases
 pub mod MapsAndFlags

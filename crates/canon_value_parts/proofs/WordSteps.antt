@@ -19,7 +19,7 @@ use Rattle.canon_model.specs.Requests.{requests}
 use Rattle.canon_model.specs.Rep.{ScalarIs}
 use Rattle.canon_lowering.specs.Copies.{case_tree, copies}
 use Rattle.canon_lowering.proofs.AimedCases.{number_of}
-use Rattle.canon_lowering.specs.Attempt.{LowersMembers, LowersValue, members_words, value_words, LowersArgs}
+use Rattle.canon_lowering.specs.Attempt.{LowersMembers, LowersValue, members_words, value_words}
 use Rattle.canon_lowering.proofs.Copying.{copies_flat}
 use Rattle.canon_lowering.proofs.Attempts.{attempt_as, attempt_none, attempt_other, attempt_refused, attempt_stop, attempt_then, FirstAnd}
 use Rattle.canon_lowering.proofs.AimedWords.{fixed_words, members_words_cons, members_words_stop, product_words, scalar_words, words_moved}
@@ -52,8 +52,10 @@ use Rattle.canon_types.specs.Instance.{Instance}
 use Rattle.canon_passing.proofs.Passing.{IsOwn, handles_encoding, handles_instance, handles_then, own_elsewhere, own_ends, passes_as, passes_none, passes_stop, passes_stopped, passes_then}
 use Rattle.canon_passing.specs.Passed.{LowersHandles}
 use Rattle.canon_value_parts.specs.Resources.{all_passes, passes}
-use Rattle.canon_passing.specs.Deeds.{Enacted, stop_in}
-use Rattle.canon_value_parts.specs.ValueDeeds.{deeds, members_deeds}
+use Rattle.canon_passing.specs.Args.{EnactsParams}
+use Rattle.canon_passing.specs.Deeds.{Deed, Enacted, stop_in}
+use Rattle.canon_passing.proofs.Far.{params_near}
+use Rattle.canon_value_parts.specs.ValueDeeds.{args_deeds, deeds, members_deeds, row_deeds}
 use Rattle.canon_value_parts.proofs.DeedSteps.{deeds_fixed, deeds_product, enacted_as, enacted_cons, enacted_misnamed, enacted_none, enacted_refused, enacted_scalar, enacted_stop}
 use Rattle.canon_value_parts.proofs.StoreSteps.{MemberNamed, heads, named_join, named_split, fields_count, product_counts, value_count_members}
 use Rattle.canon_passing.proofs.Words.{first_stay, stays_then}
@@ -330,11 +332,18 @@ module _ {T G : Type 0} (L : GuestLaws G) (options : ℕ) where
 
 -- ---- parameters in a row, whose names are none
 
-module _ {T G : Type 0} (L : GuestLaws G) (options : ℕ) (a c : Parts T G) (dst dst2 : List ℕ) (ms : Members) (vs : List Val) (r : Result Spot Fault) (named : no_names vs ≡ member_names ms) (from : Spot) (first : from.word ≡ 0)
-    (h : PartsLowerTo L.seen L.moves options a c dst dst2 from r 0 ms (no_names vs) vs) where
-  pub near_lowered : members_flat ms ≤ max_params → length dst ≡ members_flat ms
-      → LowersArgs false (stage_of L.seen L.moves a) (stage_of L.seen L.moves c) (host_texts (encoding_by a options)) ms (HaveTrees ms vs) dst2 h.handles (ending_of r)
-  near_lowered near count =
-      args_near false (host_texts (encoding_by a options)) ms (MemberNamed ms (no_names vs) vs) (HaveTrees ms vs) (λ ts have. have.1) (λ ts have. (named, have)) (stage_of L.seen L.moves a)
-      (stage_of L.seen L.moves c) dst2 (ending_of r) near (h.stays.same_length ∙ count)
-      (subst (λ (i : ℕ). LowersMembers false (stage_of L.seen L.moves a) (stage_of L.seen L.moves c) (host_texts (encoding_by a options)) ms dst2 i (MemberNamed ms (no_names vs) vs) h.handles (ending_of r)) first h.lowered)
+module _ {T G : Type 0} (L : GuestLaws G) (options : ℕ) (a c : Parts T G) (dst dst2 : List ℕ) (ms : Members) (vs : List Val) (r : Result Spot Fault) (named : no_names vs ≡ member_names ms)
+    (h : PartsLowerTo L.seen L.moves options a c dst dst2 (record { word = 0; place = 0 }) r 0 ms (no_names vs) vs) where
+  pub near_enacts : members_flat ms ≤ max_params → length dst ≡ members_flat ms
+      → EnactsParams (stage_of L.seen L.moves a) (stage_of L.seen L.moves c) (encoding_by a options) ms (HaveTrees ms vs) (args_deeds (encoding_by a options) a.component.types ms vs) a.ledger c.ledger (stop_in r) dst2 h.handles (ending_of r)
+  unfolding args_near attempt_as
+  near_enacts near count =
+      let row : List Deed = row_deeds (encoding_by a options) a.component.types ms vs in
+      record {
+        lowered = record {
+          lowered = args_near false (host_texts (encoding_by a options)) ms (MemberNamed ms (no_names vs) vs) (HaveTrees ms vs) (λ ts have. have.1) (λ ts have. (named, have)) (stage_of L.seen L.moves a)
+              (stage_of L.seen L.moves c) dst2 (ending_of r) near (h.stays.same_length ∙ count) h.lowered;
+          asks = λ far. absurd (omega (arith, near, far));
+        };
+        enacted = enacted_as row (args_deeds (encoding_by a options) a.component.types ms vs) (stop_in r) a.ledger c.ledger h.lowered.answers h.lowered.trap h.handles (params_near ms row near) h.enacted;
+      }

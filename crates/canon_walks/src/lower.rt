@@ -2,12 +2,14 @@
 
 ghost use Rattle.std.specs.Prelude.{ℕ, ◌≡◌, ◌≤◌, ◌<◌, ◌+◌, ◌^◌, ◌∷◌, [], IfErr, Ok, OnOk, false, length};
 ghost use Rattle.canon_model.specs.Homes.{host_texts};
-ghost use Rattle.canon_lowering.specs.Attempt.{LowersArgs, LowersMembers};
+ghost use Rattle.canon_lowering.specs.Attempt.{LowersMembers};
 ghost use Rattle.canon_model.specs.Flat.{SameWords, max_params};
 ghost use Rattle.canon_model.specs.Layout.{flat, members_flat};
 ghost use Rattle.canon_model.specs.Shape.{member_count, string};
 ghost use Rattle.canon_types.specs.Table.{HasTuple, Knows, shape_of, tuple_members};
 ghost use Rattle.canon_plan.specs.Plan.{shape_of_handle, type_of_handle};
+ghost use Rattle.canon_passing.specs.Args.{EnactsParams};
+ghost use Rattle.canon_passing.specs.Deeds.{Enacted, stop_in};
 ghost use Rattle.canon_passing.specs.Passed.{PartsLower};
 ghost use Rattle.canon_value_parts.specs.Resources.{all_passes};
 ghost use Rattle.canon_context.specs.Core.{component_types, encoding_by, stage_of};
@@ -19,6 +21,7 @@ ghost use Rattle.canon_context.specs.Quiet.{Quiet, have_block};
 ghost use Rattle.canon_context.specs.Asks.{SameButHandles};
 ghost use Rattle.canon_val.specs.declared.val.Val.TheVariants as val;
 ghost use Rattle.canon_val.specs.Value.{HaveTrees};
+ghost use Rattle.canon_value_parts.specs.ValueDeeds.{args_deeds, row_deeds};
 ghost use Rattle.canon_value_parts.specs.View.{HaveKnownTypes, viewed_names, viewed_shapes, viewed_values};
 ghost use Rattle.canon_value_parts.specs.Viewed.{IsCaseSeen};
 ghost use Rattle.canon_passing.specs.Words.{Clears, WordsStay};
@@ -50,8 +53,10 @@ pub fn lower_args_near<T, G: Guest>(
     requires near { members_flat (tuple_members (component_types core.old) ty) ≤ max_params }
     requires words { length dst.old ≡ members_flat (tuple_members (component_types core.old) ty) }
     ensures lowered { PartsLower core.old core.new (all_passes (tuple_members (component_types core.old) ty) args.now)
-        (λ hs. LowersArgs false (stage_of G.seen G.moves core.old) (stage_of G.seen G.moves core.new) (host_texts (encoding_by core.old options))
-        (tuple_members (component_types core.old) ty) (HaveTrees (tuple_members (component_types core.old) ty) args.now) dst.new hs (ending_of result)) result }
+        (λ hs. EnactsParams (stage_of G.seen G.moves core.old) (stage_of G.seen G.moves core.new) (encoding_by core.old options)
+        (tuple_members (component_types core.old) ty) (HaveTrees (tuple_members (component_types core.old) ty) args.now)
+        (args_deeds (encoding_by core.old options) core.old.component.types (tuple_members (component_types core.old) ty) args.now) core.old.ledger core.new.ledger
+        (stop_in result) dst.new hs (ending_of result)) result }
     ensures cause { IfErr result (BlamesMembers (encoding_by core.old options) (tuple_members (component_types core.old) ty) args.now) }
     ensures small { OnOk result (AreSmall (encoding_by core.old options) (tuple_members (component_types core.old) ty) args.now) }
     ensures quiet { Quiet (have_block (tuple_members (component_types core.old) ty)) (core.new ≡ record core.old { ledger = core.new.ledger }) result }
@@ -78,8 +83,10 @@ pub fn lower_results_near<T, G: Guest>(
     requires count { length results.now ≡ member_count (tuple_members (component_types core.old) ty) }
     requires words { length dst.old ≡ members_flat (tuple_members (component_types core.old) ty) }
     ensures lowered { PartsLower core.old core.new (all_passes (tuple_members (component_types core.old) ty) results.now)
-        (λ hs. LowersMembers false (stage_of G.seen G.moves core.old) (stage_of G.seen G.moves core.new) (host_texts (encoding_by core.old options))
-        (tuple_members (component_types core.old) ty) dst.new 0 (HaveTrees (tuple_members (component_types core.old) ty) results.now) hs (ending_of result)) result }
+        (λ hs. (low : LowersMembers false (stage_of G.seen G.moves core.old) (stage_of G.seen G.moves core.new) (host_texts (encoding_by core.old options))
+        (tuple_members (component_types core.old) ty) dst.new 0 (HaveTrees (tuple_members (component_types core.old) ty) results.now) hs (ending_of result))
+        × Enacted core.old.ledger (row_deeds (encoding_by core.old options) core.old.component.types (tuple_members (component_types core.old) ty) results.now)
+        (stop_in result) low.answers low.trap hs core.new.ledger) result }
     ensures cause { IfErr result (BlamesMembers (encoding_by core.old options) (tuple_members (component_types core.old) ty) results.now) }
     ensures small { OnOk result (AreSmall (encoding_by core.old options) (tuple_members (component_types core.old) ty) results.now) }
     ensures quiet { Quiet (have_block (tuple_members (component_types core.old) ty)) (core.new ≡ record core.old { ledger = core.new.ledger }) result }

@@ -30,9 +30,3 @@ returns-else-is_some-clause-quiet g c =
     let far =
     far_many _ _ c.flat_count.result c.from.result (shape g (goal.at.returns-else-is_some-clause-quiet g c).After-tuple) c.from.ensures (c.flat_count.ensures.words _ c.tuple.ensures.abi) (sym c.is_some.ensures ∙ c.if-is_some.false) in
     λ near. absurd (omega (arith, near, far))
-
-pub returns-then-is_some-clause-lowered : goal.returns-then-is_some-clause-lowered
-returns-then-is_some-clause-lowered g c =
-    let near = near_few _ _ c.flat_count.result c.from.result (shape g (goal.at.returns-then-is_some-clause-lowered g c).After-tuple) (c.flat_count.ensures.words _ c.tuple.ensures.abi) (sym c.is_some.ensures ∙ c.if-is_some.true) in
-    let low = c.lower_args_near.ensures.lowered in
-    record { handles = low.handles; lowered = record { lowered = low.lowered; asks = λ far. absurd (omega (arith, near, far)) }; passed = low.passed }

@@ -1,10 +1,13 @@
-use Rattle.std.proofs.Common.{refl}
+use Rattle.std.proofs.Common.{Some, refl}
 use Rattle.canon_context.specs.Core.{component_types, encoding_by, stage_of}
 use Rattle.canon_context.specs.Quiet.{have_block, have_handle}
 use Rattle.canon_types.specs.Table.{tuple_members}
 use Rattle.canon_value_parts.proofs.Crossing.{crossed, quiet_but, told_blames}
 use Rattle.canon_value_parts.proofs.PassesOf.{no_row_passes}
-use Rattle.canon_passing.specs.Args.{LowersResults}
+use Rattle.canon_passing.specs.Args.{EnactsResults}
+use Rattle.canon_passing.proofs.ToldDeeds.{told_results}
+use Rattle.canon_context.specs.Lowers.{fault_ending}
+use Rattle.canon_value_parts.specs.ValueDeeds.{row_deeds}
 use Rattle.canon_value_parts.specs.Fails.{MemberFails}
 use Rattle.canon_value_parts.specs.Resources.{all_passes}
 use Rattle.canon_val.specs.Value.{HaveTrees}
@@ -20,9 +23,14 @@ returns-in-Err-clause-lowered g c =
     let by = c.lower_results_by_size in
     let ms = tuple_members (component_types core) a.ty in
     let h = c.in-Err.ensures.lowered in
+    let enc = encoding_by core a.cx.now.options in
+    let before = stage_of g.G.Guest.seen g.G.Guest.moves core in
+    let after = stage_of g.G.Guest.seen g.G.Guest.moves by.new.core in
+    let ds = row_deeds enc core.component.types ms a.results.now in
     crossed core.component.types (have_handle ms) (all_passes ms a.results.now) (no_row_passes ms a.results.now) core.ledger by.new.core.ledger c.in-Err.fault h.passed
-    (λ hs ending. LowersResults (stage_of g.G.Guest.seen g.G.Guest.moves core) (stage_of g.G.Guest.seen g.G.Guest.moves by.new.core) (encoding_by core a.cx.now.options) ms (HaveTrees ms a.results.now) a.at by.new.dst hs ending)
-    h.handles c.told.result c.told.ensures h.lowered
+    (λ hs ending. EnactsResults before after enc ms (HaveTrees ms a.results.now) ds core.ledger by.new.core.ledger (Some c.told.result) a.at by.new.dst hs ending)
+    h.handles c.told.result c.told.ensures
+    (told_results before after enc ms (HaveTrees ms a.results.now) ds core.ledger by.new.core.ledger c.in-Err.fault c.told.result c.told.ensures by.new.dst h.handles (fault_ending c.in-Err.fault) a.at h.lowered)
 
 pub returns-in-Err-clause-cause : goal.returns-in-Err-clause-cause
 returns-in-Err-clause-cause g c =

@@ -25,7 +25,11 @@ returns-then-is_some-clause-lowered g c =
     let near =
     one_or_none _ _ c.flat_count.result c.from.result (shape g (goal.at.returns-then-is_some-clause-lowered g c).After-tuple) c.from.ensures (c.flat_count.ensures.words _ c.tuple.ensures.abi) (sym c.is_some.ensures ∙ c.if-is_some.true) in
     let low = c.lower_results_near.ensures.lowered in
-    record { handles = low.handles; lowered = record { near = λ _. low.lowered; far = λ far. absurd (omega (arith, near, far)) }; passed = low.passed }
+    record {
+      handles = low.handles;
+      lowered = record { lowered = record { near = λ _. low.lowered.0; far = λ far. absurd (omega (arith, near, far)) }; near = λ _. low.lowered.1; far = λ far. absurd (omega (arith, near, far)) };
+      passed = low.passed;
+    }
 
 pub returns-else-is_some-clause-lowered : goal.returns-else-is_some-clause-lowered
 returns-else-is_some-clause-lowered g c =
@@ -33,7 +37,11 @@ returns-else-is_some-clause-lowered g c =
     more_than_one _ _ c.flat_count.result c.from.result (shape g (goal.at.returns-else-is_some-clause-lowered g c).After-tuple) c.from.ensures (c.flat_count.ensures.words _ c.tuple.ensures.abi)
     (sym c.is_some.ensures ∙ c.if-is_some.false) in
     let low = c.store_results.ensures.stored in
-    record { handles = low.handles; lowered = record { near = λ near. absurd (omega (arith, near, far)); far = λ _. low.lowered }; passed = low.passed }
+    record {
+      handles = low.handles;
+      lowered = record { lowered = record { near = λ near. absurd (omega (arith, near, far)); far = λ _. low.lowered.0 }; near = λ near. absurd (omega (arith, near, far)); far = λ _. low.lowered.1 };
+      passed = low.passed;
+    }
 
 pub returns-then-is_some-clause-quiet : goal.returns-then-is_some-clause-quiet
 returns-then-is_some-clause-quiet g c = λ none. let (same, why) = c.lower_results_near.ensures.quiet none in (ap (λ (x : Parts _ _). x.guest) same, why)

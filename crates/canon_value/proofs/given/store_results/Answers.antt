@@ -3,11 +3,11 @@ use Rattle.canon_model.proofs.Layouts.{members_end-le-size}
 use Rattle.canon_model.specs.Layout.{size}
 use Rattle.canon_model.specs.Shape.{of_places}
 use Rattle.canon_types.specs.Table.{tuple_members}
-use Rattle.canon_context.specs.Core.{component_types, encoding_by, stage_of}
-use Rattle.canon_val.specs.Value.{HaveTrees, no_names}
-use Rattle.canon_value_parts.proofs.Givens.{stored_as}
+use Rattle.canon_context.specs.Core.{component_types, encoding_by}
+use Rattle.canon_val.specs.Value.{no_names}
+use Rattle.canon_value_parts.proofs.Givens.{area_enacts}
 use Rattle.canon_value_parts.proofs.Lookups.{tuple_names}
-use Rattle.canon_value_parts.proofs.StoreSteps.{MemberNamed, value_count_members}
+use Rattle.canon_value_parts.proofs.StoreSteps.{value_count_members}
 use Rattle.canon_value.proofs.given.store_results.Goals as goal
 
 pub store_parts-requires-clause-room : goal.store_parts-requires-clause-room
@@ -17,28 +17,22 @@ store_parts-requires-clause-room g c = omega (arith, c.requires.room, members_en
 pub returns-in-Ok-clause-stored : goal.returns-in-Ok-clause-stored
 returns-in-Ok-clause-stored g c =
     let a = c.args in
-    let core = a.core.now in
-    let ms = tuple_members (component_types core) a.ty in
-    let vs = a.results.now in
+    let t = component_types a.core.now in
     let low = c.in-Ok.ensures.stores in
     record {
       handles = low.handles;
-      lowered = stored_as (encoding_by core a.options) ms (MemberNamed ms (no_names vs) vs) (HaveTrees ms vs) (λ ts have. have.1) (λ ts have. (tuple_names (component_types core) a.ty vs c.requires.count, have))
-          (stage_of g.G.Guest.seen g.G.Guest.moves core) (stage_of g.G.Guest.seen g.G.Guest.moves c.store_parts.new.core) a.at _ low.storing;
+      lowered = area_enacts g.G.Guest.seen g.G.Guest.moves a.options a.core.now c.store_parts.new.core (tuple_members t a.ty) a.results.now (tuple_names t a.ty a.results.now c.requires.count) a.at (Ok _) low;
       passed = low.handed;
     }
 
 pub returns-in-Err-clause-stored : goal.returns-in-Err-clause-stored
 returns-in-Err-clause-stored g c =
     let a = c.args in
-    let core = a.core.now in
-    let ms = tuple_members (component_types core) a.ty in
-    let vs = a.results.now in
+    let t = component_types a.core.now in
     let low = c.in-Err.ensures.stores in
     record {
       handles = low.handles;
-      lowered = stored_as (encoding_by core a.options) ms (MemberNamed ms (no_names vs) vs) (HaveTrees ms vs) (λ ts have. have.1) (λ ts have. (tuple_names (component_types core) a.ty vs c.requires.count, have))
-          (stage_of g.G.Guest.seen g.G.Guest.moves core) (stage_of g.G.Guest.seen g.G.Guest.moves c.store_parts.new.core) a.at _ low.storing;
+      lowered = area_enacts g.G.Guest.seen g.G.Guest.moves a.options a.core.now c.store_parts.new.core (tuple_members t a.ty) a.results.now (tuple_names t a.ty a.results.now c.requires.count) a.at (Err c.in-Err.fault) low;
       passed = low.handed;
     }
 

@@ -1,11 +1,11 @@
-use Rattle.std.proofs.Common.{Err, Ok, refl}
+use Rattle.std.proofs.Common.{Err, Ok}
 use Rattle.canon_types.specs.Table.{tuple_members}
 use Rattle.canon_context.specs.Core.{component_types, encoding_by}
 use Rattle.canon_val.specs.Value.{no_names}
 use Rattle.canon_context.proofs.Moves.{GuestLaws}
 use Rattle.canon_value_parts.proofs.Lookups.{tuple_names}
 use Rattle.canon_value_parts.proofs.StoreSteps.{value_count_members}
-use Rattle.canon_value_parts.proofs.WordSteps.{near_lowered}
+use Rattle.canon_value_parts.proofs.WordSteps.{near_enacts}
 use Rattle.canon_walks.proofs.lower.lower_args_near.Goals as goal
 
 pub returns-in-Ok-clause-lowered : goal.returns-in-Ok-clause-lowered
@@ -15,8 +15,8 @@ returns-in-Ok-clause-lowered g c =
     let low = c.in-Ok.ensures.lowers in
     record {
       handles = low.handles;
-      lowered = near_lowered L a.options a.core.now c.lower_parts.new.core a.dst.now c.lower_parts.new.dst _ a.args.now _
-          (tuple_names (component_types a.core.now) a.ty a.args.now c.requires.count) _ refl low c.requires.near c.requires.words;
+      lowered = near_enacts L a.options a.core.now c.lower_parts.new.core a.dst.now c.lower_parts.new.dst _ a.args.now (Ok _)
+          (tuple_names (component_types a.core.now) a.ty a.args.now c.requires.count) low c.requires.near c.requires.words;
       passed = low.handed;
     }
 
@@ -27,8 +27,8 @@ returns-in-Err-clause-lowered g c =
     let low = c.in-Err.ensures.lowers in
     record {
       handles = low.handles;
-      lowered = near_lowered L a.options a.core.now c.lower_parts.new.core a.dst.now c.lower_parts.new.dst _ a.args.now (Err c.in-Err.fault)
-          (tuple_names (component_types a.core.now) a.ty a.args.now c.requires.count) _ refl low c.requires.near c.requires.words;
+      lowered = near_enacts L a.options a.core.now c.lower_parts.new.core a.dst.now c.lower_parts.new.dst _ a.args.now (Err c.in-Err.fault)
+          (tuple_names (component_types a.core.now) a.ty a.args.now c.requires.count) low c.requires.near c.requires.words;
       passed = low.handed;
     }
 

@@ -1,37 +1,33 @@
 use Rattle.std.proofs.Common.{Err, Ok}
 use Rattle.canon_types.specs.Table.{tuple_members}
-use Rattle.canon_context.specs.Core.{component_types, encoding_by, stage_of}
-use Rattle.canon_val.specs.Value.{HaveTrees, no_names}
-use Rattle.canon_value_parts.proofs.Givens.{words_as}
+use Rattle.canon_context.specs.Core.{component_types, encoding_by}
+use Rattle.canon_val.specs.Value.{no_names}
+use Rattle.canon_value_parts.proofs.Givens.{row_enacts}
 use Rattle.canon_value_parts.proofs.Lookups.{tuple_names}
-use Rattle.canon_value_parts.proofs.StoreSteps.{MemberNamed, value_count_members}
+use Rattle.canon_value_parts.proofs.StoreSteps.{value_count_members}
 use Rattle.canon_walks.proofs.lower.lower_results_near.Goals as goal
 
 pub returns-in-Ok-clause-lowered : goal.returns-in-Ok-clause-lowered
 returns-in-Ok-clause-lowered g c =
     let a = c.args in
-    let core = a.core.now in
-    let ms = tuple_members (component_types core) a.ty in
-    let vs = a.results.now in
+    let t = component_types a.core.now in
     let low = c.in-Ok.ensures.lowers in
     record {
       handles = low.handles;
-      lowered = words_as (encoding_by core a.options) ms (MemberNamed ms (no_names vs) vs) (HaveTrees ms vs) (λ ts have. have.1) (λ ts have. (tuple_names (component_types core) a.ty vs c.requires.count, have))
-          (stage_of g.G.Guest.seen g.G.Guest.moves core) (stage_of g.G.Guest.seen g.G.Guest.moves c.lower_parts.new.core) c.lower_parts.new.dst _ low.lowered;
+      lowered = row_enacts g.G.Guest.seen g.G.Guest.moves a.options a.core.now c.lower_parts.new.core (tuple_members t a.ty) a.results.now (tuple_names t a.ty a.results.now c.requires.count)
+          a.dst.now c.lower_parts.new.dst (Ok _) low;
       passed = low.handed;
     }
 
 pub returns-in-Err-clause-lowered : goal.returns-in-Err-clause-lowered
 returns-in-Err-clause-lowered g c =
     let a = c.args in
-    let core = a.core.now in
-    let ms = tuple_members (component_types core) a.ty in
-    let vs = a.results.now in
+    let t = component_types a.core.now in
     let low = c.in-Err.ensures.lowers in
     record {
       handles = low.handles;
-      lowered = words_as (encoding_by core a.options) ms (MemberNamed ms (no_names vs) vs) (HaveTrees ms vs) (λ ts have. have.1) (λ ts have. (tuple_names (component_types core) a.ty vs c.requires.count, have))
-          (stage_of g.G.Guest.seen g.G.Guest.moves core) (stage_of g.G.Guest.seen g.G.Guest.moves c.lower_parts.new.core) c.lower_parts.new.dst _ low.lowered;
+      lowered = row_enacts g.G.Guest.seen g.G.Guest.moves a.options a.core.now c.lower_parts.new.core (tuple_members t a.ty) a.results.now (tuple_names t a.ty a.results.now c.requires.count)
+          a.dst.now c.lower_parts.new.dst (Err c.in-Err.fault) low;
       passed = low.handed;
     }
 
