@@ -27,7 +27,9 @@ use Rattle.canon_model.specs.Text.{Encoding}
 use Rattle.canon_model.specs.Tree.{Trees}
 use Rattle.canon_types.specs.Table.{param_members, result_members}
 use Rattle.canon_types.specs.declared.types.TypeFunc.{TypeFunc}
-use Rattle.canon_passing.specs.Args.{LowersResults}
+use Rattle.canon_passing.specs.Args.{EnactsResults, LowersResults}
+use Rattle.canon_passing.specs.Deeds.{stop_in}
+use Rattle.canon_value_parts.specs.ValueDeeds.{row_deeds}
 use Rattle.canon_value_parts.specs.Fails.{AreSmall, BlamesMembers}
 use Rattle.canon_passing.specs.Passed.{Crosses, QuietBut}
 use Rattle.canon_value_parts.specs.Resources.{all_passes}
@@ -88,7 +90,8 @@ lowered_first a c enc ms Have at ws rest hs e count h = record {
 module _ {T G : Type 0} (seen : G → Seen) (moves : GuestIn G → List Event → GuestIn G → Type 0) (asked : Asked) where
   pub lowered_given : (before mid after : Parts T G) (at : ℕ) (results : List Val) (ws rest : List ℕ) (r : Result (Unit {0}) Fault)
       → Crosses before.component.types (have_handle (result_members (component_types before) asked.func)) (all_passes (result_members (component_types before) asked.func) results)
-      (λ hs ending. LowersResults (stage_of seen moves before) (stage_of seen moves mid) (encoding_by before asked.options) (result_members (component_types before) asked.func) (HaveTrees (result_members (component_types before) asked.func) results) at ws hs ending)
+      (λ hs ending. EnactsResults (stage_of seen moves before) (stage_of seen moves mid) (encoding_by before asked.options) (result_members (component_types before) asked.func) (HaveTrees (result_members (component_types before) asked.func) results)
+      (row_deeds (encoding_by before asked.options) before.component.types (result_members (component_types before) asked.func) results) before.ledger mid.ledger (stop_in r) at ws hs ending)
       before.ledger mid.ledger r
       → IfErr r (BlamesMembers (encoding_by before asked.options) (result_members (component_types before) asked.func) results)
       → OnOk r (AreSmall (encoding_by before asked.options) (result_members (component_types before) asked.func) results)
@@ -106,7 +109,7 @@ module _ {T G : Type 0} (seen : G → Seen) (moves : GuestIn G → List Event �
       ending = h.ending;
       ends = h.ends;
       lowered = lowered_first (stage_of seen moves before) (stage_of seen moves mid) (encoding_by before asked.options) (result_members (component_types before) asked.func)
-          (HaveTrees (result_members (component_types before) asked.func) results) at ws rest h.given h.ending count h.lowered;
+          (HaveTrees (result_members (component_types before) asked.func) results) at ws rest h.given h.ending count h.lowered.lowered;
       passed = h.passed;
       as_told = h.as_told;
     };

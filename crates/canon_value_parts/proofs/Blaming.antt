@@ -24,6 +24,7 @@ use Rattle.canon_value_parts.specs.Fails.{Blames, CaseFails, Failure, FailsAt, M
 use Rattle.canon_value_parts.specs.ValueDeeds.{all_occur, case_deeds, case_in, deeds, each_deeds, is_scalar, members_deeds, pair_deeds, same_name}
 use Rattle.canon_value_parts.proofs.CasesBack.{case_known, failing_inside, one_payload, other_kind, unknown_so}
 use Rattle.canon_value_parts.proofs.Seen.{fixed_list_seen, flags_seen, items_seen, members_seen, pairs_seen, resource_seen, same_true, text_seen}
+use Rattle.canon_value_parts.proofs.Steps.{blames_first, blames_later}
 use Rattle.canon_value_parts.proofs.SeenBack.{fixed_list_back, flags_back, items_back, members_back, other_scalar, pairs_back, some_other, text_back}
 
 none_some : {A : Type 0} {x : A} → None ≡ Some x → ⊥
@@ -69,32 +70,10 @@ first_fails F (asks r ∷ ds) f e h = first_fails F ds f e h
 first_fails F (hands ps ∷ ds) f e h = first_fails F ds f e h
 first_fails F (fails g ∷ ds) f e h = subst F (same_some e) h
 
--- ---- the same failures, counted from an earlier place
-
-blames_on : (enc : Encoding) (F G : Failure → ℕ → Type 0) (start next c : ℕ) → next ≡ cap (start + c) → ((how : Failure) (j : ℕ) → F how j → G how (c + j)) → (e : Fault) → Blames enc F next e → Blames enc G start e
-blames_on enc F G start next c is w (fault.TypeMismatch k) (j, e, f) = (c + j, omega (arith, e, is), w _ j f)
-blames_on enc F G start next c is w (fault.LengthMismatch k) (j, e, f) = (c + j, omega (arith, e, is), w _ j f)
-blames_on enc F G start next c is w (fault.FieldName k) (j, e, f) = (c + j, omega (arith, e, is), w _ j f)
-blames_on enc F G start next c is w (fault.UnknownCase k) (j, e, f) = (c + j, omega (arith, e, is), w _ j f)
-blames_on enc F G start next c is w (fault.UnknownFlag k) (j, e, f) = (c + j, omega (arith, e, is), w _ j f)
-blames_on enc F G start next c is w (fault.PayloadExpected k) (j, e, f) = (c + j, omega (arith, e, is), w _ j f)
-blames_on enc F G start next c is w (fault.PayloadNotExpected k) (j, e, f) = (c + j, omega (arith, e, is), w _ j f)
-blames_on enc F G start next c is w (fault.StringTooLong n) (j, f) = (c + j, w _ j f)
-blames_on enc F G start next c is w (fault.SizeOverflow n) (j, f) = (c + j, w _ j f)
-blames_on enc F G start next c is w (fault.ReallocMisaligned a) h = tt
-blames_on enc F G start next c is w (fault.ReallocOutOfBounds a) h = tt
-blames_on enc F G start next c is w fault.GuestTrap h = tt
-blames_on enc F G start next c is w fault.OutOfMemory h = tt
-blames_on enc F G start next c is w (fault.Resource r) h = tt
-blames_on enc F G start next c is w e h = absurd h
-
 -- ---- what a test says that fails
 
 clash : {b : Bool} → b ≡ false → b ≡ true → ⊥
 clash e f = false≢true (sym e ∙ f)
-
-no_more : (j : ℕ) → j ≡ 0 + j
-no_more j = omega arith
 
 full : (v : Val) (vs : List Val) → ¬ (v ∷ vs ≡ [])
 full v vs e = cc
@@ -160,8 +139,8 @@ module _ (enc : Encoding) (types : Instance) where
   case_blamed : (l : VariantKind) (cs : Cases) (v : Val) (p : ℕ) (c : ℕ × List Val) → p < 2 ^ 64 → case_in l cs (out-Val v) ≡ Some c → (f : Fault) → CaseBlamed cs c.0 c.1 p f → ValueBlamed (variant l cs) v p f
   case_blamed l cs v p c lt e f (inl g) =
       let known = case_known l cs v c e in
-      blames_on enc (λ how k. CaseFails how cs c.0 c.1 k) (λ how k. FailsAt how (variant l cs) v k) p (cap (p + 1)) 1 refl
-      (λ how j r. inr (c.0, c.1, j, known.1 (failing_inside how cs c.0 c.1 j r), refl, r)) f g
+      blames_later enc (λ how k. CaseFails how cs c.0 c.1 k) (λ how k. FailsAt how (variant l cs) v k) 1 p (cap (p + 1)) f refl
+      (λ how j r. inr (c.0, c.1, j, known.1 (failing_inside how cs c.0 c.1 j r), refl, r)) g
   case_blamed l cs v p c lt e f (inr (inl (ef, past))) =
       subst (λ x. ValueBlamed (variant l cs) v p x) (sym ef) (0, omega (arith, lt), inl (refl, ((case_known l cs v c e).0, unknown_so l cs v c e past)))
   case_blamed l cs v p c lt e f (inr (inr (inl (ef, less, none, one)))) =
@@ -172,7 +151,7 @@ module _ (enc : Encoding) (types : Instance) where
 
   -- the failures of a part are those of the whole
   part_blamed : (F G : Failure → ℕ → Type 0) (start next c : ℕ) (ds : List Deed) → next ≡ cap (start + c) → ((how : Failure) (j : ℕ) → F how j → G how (c + j)) → IfFails (λ f. Blames enc F next f) ds → IfFails (λ f. Blames enc G start f) ds
-  part_blamed F G start next c ds is w h = fails_wider (λ f. Blames enc F next f) (λ f. Blames enc G start f) ds (λ f g. blames_on enc F G start next c is w f g) h
+  part_blamed F G start next c ds is w h = fails_wider (λ f. Blames enc F next f) (λ f. Blames enc G start f) ds (λ f g. blames_later enc F G c start next f is w g) h
 
   -- elements in a row
   each_blamed : {A : Type 0} → (count : A → ℕ) (g : A → ℕ → List Deed) (F : A → Failure → ℕ → Type 0) → ((v : A) (p : ℕ) → p < 2 ^ 64 → IfFails (λ f. Blames enc (F v) p f) (g v p))
@@ -181,7 +160,7 @@ module _ (enc : Encoding) (types : Instance) where
   each_blamed {A} count g F one (v ∷ vs) p lt =
       let Rest : List A → Failure → ℕ → Type 0 = λ ws how j. SomeFails count (λ w i. F w how i) ws j in
       fails_then (λ f. Blames enc (Rest (v ∷ vs)) p f) (g v p) (each_deeds count g vs (cap (p + count v)))
-      (part_blamed (F v) (Rest (v ∷ vs)) p p 0 (g v p) (omega (arith, lt)) (λ how j h. subst (λ i. Rest (v ∷ vs) how i) (no_more j) (inl h)) (one v p lt))
+      (fails_wider (λ f. Blames enc (F v) p f) (λ f. Blames enc (Rest (v ∷ vs)) p f) (g v p) (λ f h. blames_first enc (F v) (Rest (v ∷ vs)) p f (λ how j q. inl q) h) (one v p lt))
       (part_blamed (Rest vs) (Rest (v ∷ vs)) p (cap (p + count v)) (count v) (each_deeds count g vs (cap (p + count v))) refl (λ how j h. inr (j, refl, h)) (each_blamed count g F one vs (cap (p + count v)) (omega arith)))
 
   mutual
@@ -240,7 +219,7 @@ module _ (enc : Encoding) (types : Instance) where
         (λ other. (0, omega (arith, lt), inl (refl, (m.0, m.1, is, eqb-false (length m.1) (member_count ms) other)))) (λ same.
         fails_wider (λ f. RowBlamed ms m.0 m.1 p (cap (p + 1)) f) (λ f. ValueBlamed (product k ms) v p f) (members_deeds enc types ms p m.0 m.1 (cap (p + 1)))
         (λ f g. ⊎_elim
-        (λ q. blames_on enc (λ how j. MemberFails how ms m.1 j) (λ how j. FailsAt how (product k ms) v j) p (cap (p + 1)) 1 refl (λ how j r. inr (m.0, m.1, j, is, eqb-true (length m.1) (member_count ms) same, refl, r)) f q)
+        (λ q. blames_later enc (λ how j. MemberFails how ms m.1 j) (λ how j. FailsAt how (product k ms) v j) 1 p (cap (p + 1)) f refl (λ how j r. inr (m.0, m.1, j, is, eqb-true (length m.1) (member_count ms) same, refl, r)) q)
         (λ q. subst (λ x. ValueBlamed (product k ms) v p x) (sym q.0) (0, omega (arith, lt), inl (refl, (m.0, m.1, is, eqb-true (length m.1) (member_count ms) same, q.1)))) g)
         (members_blamed ms p m.0 m.1 (cap (p + 1)) (omega arith))))
     value_blamed (variant k cs) v p lt = kind_fails (λ f. ValueBlamed (variant k cs) v p f) (case_in k cs (out-Val v)) (fault.TypeMismatch p) _
@@ -260,11 +239,11 @@ module _ (enc : Encoding) (types : Instance) where
         test_fails G (same_name n name) (fault.FieldName whole) (deeds enc types s v p ++ members_deeds enc types ms whole ns vs next) (λ other. inr (refl, λ e. clash other (same_true n name (name_first n name ns (member_names ms) e)))) (λ same.
         fails_then G (deeds enc types s v p) (members_deeds enc types ms whole ns vs next)
         (fails_wider (λ f. ValueBlamed s v p f) G (deeds enc types s v p)
-        (λ f g. inl (blames_on enc (λ how k. FailsAt how s v k) (λ how j. MemberFails how (member name s ms) (v ∷ vs) j) p p 0 (omega (arith, lt)) (λ how j q. subst (λ i. MemberFails how (member name s ms) (v ∷ vs) i) (no_more j) (inl q)) f g))
+        (λ f g. inl (blames_first enc (λ how k. FailsAt how s v k) (λ how j. MemberFails how (member name s ms) (v ∷ vs) j) p f (λ how j q. inl q) g))
         (value_blamed s v p lt))
         (fails_wider (λ f. RowBlamed ms ns vs whole next f) G (members_deeds enc types ms whole ns vs next)
         (λ f g. ⊎_elim
-        (λ q. inl (blames_on enc (λ how j. MemberFails how ms vs j) (λ how j. MemberFails how (member name s ms) (v ∷ vs) j) p next (places v) refl (λ how j r. inr (j, refl, r)) f q))
+        (λ q. inl (blames_later enc (λ how j. MemberFails how ms vs j) (λ how j. MemberFails how (member name s ms) (v ∷ vs) j) (places v) p next f refl (λ how j r. inr (j, refl, r)) q))
         (λ q. inr (q.0, λ e. q.1 (names_later n name ns (member_names ms) e))) g)
         (members_blamed ms whole ns vs next (omega arith))))
 

@@ -210,9 +210,11 @@ module _ (enc : Encoding) (types : Instance) where
 
   pub enacted_unknown : (names : List Name) (set : Vec (String Global) Global) (p : ℕ) (l : LedgerState) → Any (λ n. ¬ Occurs n names) (map (λ s. string_bytes s) set.items)
       → Enacted l (deeds enc types (flags names) (val.Flags set) p) (Some (fault.UnknownFlag p)) [] None [] l
-  enacted_unknown names set p l unknown = enacted_fails (deeds enc types (flags names) (val.Flags set) p) (fault.UnknownFlag p) l ([],
-      kind_is _ (map (λ s. string_bytes s) set.items) (fault.TypeMismatch p) (λ ns. tested (all_occur ns names) (fault.UnknownFlag p) []) (flags_seen (map (λ s. string_bytes s) set.items) (val.Flags set) (set, refl, refl))
-      ∙ ap (λ b. tested b (fault.UnknownFlag p) []) (not_all (map (λ s. string_bytes s) set.items) names unknown))
+  enacted_unknown names set p l unknown = enacted_fails (deeds enc types (flags names) (val.Flags set) p) (fault.UnknownFlag p) l (
+    [],
+    kind_is _ (map (λ s. string_bytes s) set.items) (fault.TypeMismatch p) (λ ns. tested (all_occur ns names) (fault.UnknownFlag p) []) (flags_seen (map (λ s. string_bytes s) set.items) (val.Flags set) (set, refl, refl))
+        ∙ ap (λ b. tested b (fault.UnknownFlag p) []) (not_all (map (λ s. string_bytes s) set.items) names unknown),
+  )
 
   -- ---- a text
 
@@ -223,8 +225,10 @@ module _ (enc : Encoding) (types : Instance) where
   short_text_is s p short = text_is s p ∙ ap (λ b. tested b (fault.StringTooLong (length (string_bytes s))) (map asks (text_requests enc (chars (string_bytes s))))) (lt-ltb _ _ short)
 
   pub long_text_starts : (s : String Global) (p : ℕ) → 2 ^ 31 ≤ most_bytes enc (length (string_bytes s)) (chars (string_bytes s)) → Starts (fault.StringTooLong (length (string_bytes s))) (deeds enc types string (val.String s) p)
-  long_text_starts s p long = (map asks (text_requests enc (chars (string_bytes s))),
-      text_is s p ∙ ap (λ b. tested b (fault.StringTooLong (length (string_bytes s))) (map asks (text_requests enc (chars (string_bytes s))))) (le-ltb _ _ long))
+  long_text_starts s p long = (
+    map asks (text_requests enc (chars (string_bytes s))),
+    text_is s p ∙ ap (λ b. tested b (fault.StringTooLong (length (string_bytes s))) (map asks (text_requests enc (chars (string_bytes s))))) (le-ltb _ _ long),
+  )
 
   -- ---- a list or a map: its block, and then its elements as members
 

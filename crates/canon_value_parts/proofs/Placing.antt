@@ -58,16 +58,16 @@ module _ {T G : Type 0} (L : GuestLaws G) (options : ℕ) where
   unfolding attempt_refused
   unplaced a s v place e small is first b =
       let Stood : Ending → Type 0 = λ end. (q : LowersValue false (stage_of L.seen L.moves a) (stage_of L.seen L.moves a) (host_texts (encoding_by a options)) s [] 0 (HasTree s v) [] end)
-          × Enacted a.ledger (deeds (encoding_by a options) a.component.types s v place) (Some e) q.answers q.trap [] a.ledger in
+      × Enacted a.ledger (deeds (encoding_by a options) a.component.types s v place) (Some e) q.answers q.trap [] a.ledger in
       let stood : Stood (fault_ending e) = subst Stood (sym (own_ends e is)) (attempt_refused false (stage_of L.seen L.moves a) [] _ small, enacted_fails (deeds (encoding_by a options) a.component.types s v place) e a.ledger first) in
       record {
-    handles = [];
-    lowered = stood.0;
-    enacted = stood.1;
-    handed = passes_stopped a.component.types a.ledger a.ledger (passes v s) e refl (own_elsewhere e is);
-    narrow = tt;
-    counted = b;
-    same = refl;
+        handles = [];
+        lowered = stood.0;
+        enacted = stood.1;
+        handed = passes_stopped a.component.types a.ledger a.ledger (passes v s) e refl (own_elsewhere e is);
+        narrow = tt;
+        counted = b;
+        same = refl;
       }
 
 -- ---- a list or a map in a block of its own
@@ -153,9 +153,9 @@ module _ (whole : Shape) (v : Val) (n : ℕ) (ms : Members) (vs : List Val) (l :
         unfolding rows_words attempt_block
         row_whole =
             let Inner : Encoding → Instance → LedgerState → Type 0 = λ x j z. (q : StoresMembers false (stage_of L.seen L.moves b) (stage_of L.seen L.moves c) (host_texts x) ms 0 p (MemberNamed ms (no_names vs) vs) h.handles (ending_of r))
-                × Enacted z (row_of_it x j place) (stop_in r) q.answers q.trap h.handles c.ledger in
+            × Enacted z (row_of_it x j place) (stop_in r) q.answers q.trap h.handles c.ledger in
             let inner : Inner (encoding_by a options) a.component.types a.ledger = subst (λ (x : Encoding). Inner x a.component.types a.ledger) (same_encoding a b options g.same)
-                (subst₂ (λ (j : Instance) (z : LedgerState). Inner (encoding_by b options) j z) (handles_instance a b (same_handles a b g.same)) (value_same_ledger a b g.same) (h.storing, h.enacted)) in
+            (subst₂ (λ (j : Instance) (z : LedgerState). Inner (encoding_by b options) j z) (handles_instance a b (same_handles a b g.same)) (value_same_ledger a b g.same) (h.storing, h.enacted)) in
             let few_n : n < 2 ^ 32 = omega (arith, is, few) in
             let fit_n : n * size false l.part < 2 ^ 32 = omega (arith, ap₂ (λ (j : ℕ) (s : Shape). j * size false s) is (ap element_shape l.shape), fit) in
             let x : Answer = answer (items_call false l.part n) p g.does.mark in (

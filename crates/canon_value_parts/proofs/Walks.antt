@@ -151,17 +151,17 @@ module _ {T G : Type 0} (L : GuestLaws G) (options : ℕ) where
   unfolding attempt_refused
   value_refused a s at v from e small is fails b =
       let Stood : Ending → Type 0 = λ end. (q : StoresValue false (stage_of L.seen L.moves a) (stage_of L.seen L.moves a) (host_texts (encoding_by a options)) s at (HasTree s v) [] end)
-          × Enacted a.ledger (deeds (encoding_by a options) a.component.types s v from) (Some e) q.answers q.trap [] a.ledger in
+      × Enacted a.ledger (deeds (encoding_by a options) a.component.types s v from) (Some e) q.answers q.trap [] a.ledger in
       let stood : Stood (fault_ending e) = subst Stood (sym (own_ends e is)) (attempt_refused false (stage_of L.seen L.moves a) _ _ small, enacted_refused (encoding_by a options) a.component.types s v from e a.ledger fails) in
       record {
-    handles = [];
-    storing = stood.0;
-    enacted = stood.1;
-    handed = passes_stopped a.component.types a.ledger a.ledger (passes v s) e refl (own_elsewhere e is);
-    counted = b;
-    same = refl;
-    quiet = λ none. (refl, own_ends e is);
-  }
+        handles = [];
+        storing = stood.0;
+        enacted = stood.1;
+        handed = passes_stopped a.component.types a.ledger a.ledger (passes v s) e refl (own_elsewhere e is);
+        counted = b;
+        same = refl;
+        quiet = λ none. (refl, own_ends e is);
+      }
 
   pub scalar_stores : (a : Parts T G) (m : List ℕ) (type : InterfaceType) (at : ℕ) (v : Val) (w n place next : ℕ) → length a.memory ≤ 2 ^ 32 → at + n ≤ length a.memory → n ≡ size false (shape_of (component_types a) type)
       → IsWordOf type v w → num (narrow m) at n ≡ w % 256 ^ n → Writes (block at n) a.memory m → next ≡ cap (place + 1) → passes v (shape_of (component_types a) type) ≡ []
@@ -274,9 +274,9 @@ module _ {T G : Type 0} (L : GuestLaws G) (options : ℕ) where
   parts_cons a b c place name named s ms o at names v vs from mid r en h k =
       let enc : Encoding = encoding_by a options in
       let Rest : Encoding → Instance → Type 0 = λ x j. (q : StoresMembers false (stage_of L.seen L.moves b) (stage_of L.seen L.moves c) (host_texts x) ms (ends false o s) at (MemberNamed ms names vs) k.handles (ending_of r))
-          × Enacted b.ledger (members_deeds x j ms place names vs mid) (stop_in r) q.answers q.trap k.handles c.ledger in
+      × Enacted b.ledger (members_deeds x j ms place names vs mid) (stop_in r) q.answers q.trap k.handles c.ledger in
       let rest : Rest enc a.component.types = subst (λ (x : Encoding). Rest x a.component.types) (handles_encoding a b options h.same)
-          (subst (λ (j : Instance). Rest (encoding_by b options) j) (handles_instance a b h.same) (k.storing, k.enacted)) in
+      (subst (λ (j : Instance). Rest (encoding_by b options) j) (handles_instance a b h.same) (k.storing, k.enacted)) in
       record {
         handles = h.handles ++ k.handles;
         storing = first_and false a c enc name named s ms o at names v vs (ending_of r) en
@@ -328,26 +328,26 @@ module _ {T G : Type 0} (L : GuestLaws G) (options : ℕ) where
   unfolding product_stored fixed_stored attempt_as
   members_store a c place (product k ns) ms at names vs v r room few e p count given h =
       let Inner : Members → Type 0 = λ xs. (q : StoresMembers false (stage_of L.seen L.moves a) (stage_of L.seen L.moves c) (host_texts (encoding_by a options)) xs 0 at (MemberNamed xs names vs) h.handles (ending_of r))
-          × Enacted a.ledger (members_deeds (encoding_by a options) a.component.types xs place names vs (cap (place + 1))) (stop_in r) q.answers q.trap h.handles c.ledger in
+      × Enacted a.ledger (members_deeds (encoding_by a options) a.component.types xs place names vs (cap (place + 1))) (stop_in r) q.answers q.trap h.handles c.ledger in
       let inner : Inner ns = subst Inner e (h.storing, h.enacted) in
       record {
-    handles = h.handles;
-    storing = product_stored false (stage_of L.seen L.moves a) (stage_of L.seen L.moves c) (host_texts (encoding_by a options)) k ns at (MemberNamed ns names vs) (HasTree (product k ns) v)
-        (ending_of r) (omega (arith, room, h.storing.lowering.goes.no_shorter))
-        (product_is k ns names vs v p) (product_back k ns names vs v p)
-        inner.0;
-    enacted = enacted_as (members_deeds (encoding_by a options) a.component.types ns place names vs (cap (place + 1))) (deeds (encoding_by a options) a.component.types (product k ns) v place) (stop_in r) a.ledger c.ledger
-        inner.0.answers inner.0.trap h.handles (deeds_product (encoding_by a options) a.component.types k ns names vs v place p (count ∙ ap member_count e)) inner.1;
-    handed = passes_as a.component.types a.ledger c.ledger (all_passes ms vs) (passes v (product k ns)) h.handles r given h.handed;
-    counted = product_counts (encoding_by a options) place k ns names vs v r few p (count ∙ ap member_count e) (subst (λ (xs : Members). FieldsCount (encoding_by a options) place xs names vs (cap (place + 1)) r) e h.counted);
-    same = h.same;
-    quiet = λ none. h.quiet (ap have_block e ∙ none);
+        handles = h.handles;
+        storing = product_stored false (stage_of L.seen L.moves a) (stage_of L.seen L.moves c) (host_texts (encoding_by a options)) k ns at (MemberNamed ns names vs) (HasTree (product k ns) v)
+            (ending_of r) (omega (arith, room, h.storing.lowering.goes.no_shorter))
+            (product_is k ns names vs v p) (product_back k ns names vs v p)
+            inner.0;
+        enacted = enacted_as (members_deeds (encoding_by a options) a.component.types ns place names vs (cap (place + 1))) (deeds (encoding_by a options) a.component.types (product k ns) v place) (stop_in r) a.ledger c.ledger
+            inner.0.answers inner.0.trap h.handles (deeds_product (encoding_by a options) a.component.types k ns names vs v place p (count ∙ ap member_count e)) inner.1;
+        handed = passes_as a.component.types a.ledger c.ledger (all_passes ms vs) (passes v (product k ns)) h.handles r given h.handed;
+        counted = product_counts (encoding_by a options) place k ns names vs v r few p (count ∙ ap member_count e) (subst (λ (xs : Members). FieldsCount (encoding_by a options) place xs names vs (cap (place + 1)) r) e h.counted);
+        same = h.same;
+        quiet = λ none. h.quiet (ap have_block e ∙ none);
       }
   members_store a c place (fixed n s) ms at names vs v r room few e (en, (xs, ev, same)) count given h =
       let enough : length vs ≡ n = count ∙ (ap member_count e ∙ copies_count n s) in
       let named : names ≡ member_names (copies n s) = en ∙ copies_names n s vs enough in
       let Inner : Members → Type 0 = λ ys. (q : StoresMembers false (stage_of L.seen L.moves a) (stage_of L.seen L.moves c) (host_texts (encoding_by a options)) ys 0 at (MemberNamed ys names vs) h.handles (ending_of r))
-          × Enacted a.ledger (members_deeds (encoding_by a options) a.component.types ys place names vs (cap (place + 1))) (stop_in r) q.answers q.trap h.handles c.ledger in
+      × Enacted a.ledger (members_deeds (encoding_by a options) a.component.types ys place names vs (cap (place + 1))) (stop_in r) q.answers q.trap h.handles c.ledger in
       let inner : Inner (copies n s) = subst Inner e (h.storing, h.enacted) in
       record {
         handles = h.handles;

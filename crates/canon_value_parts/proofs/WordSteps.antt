@@ -110,18 +110,18 @@ module _ {T G : Type 0} (L : GuestLaws G) (options : ℕ) where
   unfolding attempt_refused
   value_refused a dst from s v e small is fails b =
       let Stood : Ending → Type 0 = λ end. (q : LowersValue false (stage_of L.seen L.moves a) (stage_of L.seen L.moves a) (host_texts (encoding_by a options)) s dst from.word (HasTree s v) [] end)
-          × Enacted a.ledger (deeds (encoding_by a options) a.component.types s v from.place) (Some e) q.answers q.trap [] a.ledger in
+      × Enacted a.ledger (deeds (encoding_by a options) a.component.types s v from.place) (Some e) q.answers q.trap [] a.ledger in
       let stood : Stood (fault_ending e) = subst Stood (sym (own_ends e is)) (attempt_refused false (stage_of L.seen L.moves a) [] _ small, enacted_refused (encoding_by a options) a.component.types s v from.place e a.ledger fails) in
       record {
-    handles = [];
-    lowered = stood.0;
-    enacted = stood.1;
-    handed = passes_stopped a.component.types a.ledger a.ledger (passes v s) e refl (own_elsewhere e is);
-    stays = stays_none from.word dst;
-    passed = tt;
-    counted = b;
-    same = refl;
-    quiet = λ none. (refl, own_ends e is);
+        handles = [];
+        lowered = stood.0;
+        enacted = stood.1;
+        handed = passes_stopped a.component.types a.ledger a.ledger (passes v s) e refl (own_elsewhere e is);
+        stays = stays_none from.word dst;
+        passed = tt;
+        counted = b;
+        same = refl;
+        quiet = λ none. (refl, own_ends e is);
       }
 
   pub scalar_lowers : (a : Parts T G) (dst : List ℕ) (from to : Spot) (type : InterfaceType) (v : Val) (w : ℕ) → length a.memory ≤ 2 ^ 32 → from.word + flat (shape_of (component_types a) type) ≤ length dst → IsWordOf type v w
@@ -220,9 +220,9 @@ module _ {T G : Type 0} (L : GuestLaws G) (options : ℕ) where
   parts_cons a b c dst dst2 dst3 place name named s ms names v vs from mid r en h k =
       let enc : Encoding = encoding_by a options in
       let Rest : ℕ → Encoding → Instance → Type 0 = λ i x j. (q : LowersMembers false (stage_of L.seen L.moves b) (stage_of L.seen L.moves c) (host_texts x) ms dst3 i (MemberNamed ms names vs) k.handles (ending_of r))
-          × Enacted b.ledger (members_deeds x j ms place names vs mid.place) (stop_in r) q.answers q.trap k.handles c.ledger in
+      × Enacted b.ledger (members_deeds x j ms place names vs mid.place) (stop_in r) q.answers q.trap k.handles c.ledger in
       let rest : Rest (from.word + flat s) enc a.component.types = subst (λ (i : ℕ). Rest i enc a.component.types) h.passed (subst (λ (x : Encoding). Rest mid.word x a.component.types) (handles_encoding a b options h.same)
-          (subst (λ (j : Instance). Rest mid.word (encoding_by b options) j) (handles_instance a b h.same) (k.lowered, k.enacted))) in
+      (subst (λ (j : Instance). Rest mid.word (encoding_by b options) j) (handles_instance a b h.same) (k.lowered, k.enacted))) in
       record {
         handles = h.handles ++ k.handles;
         lowered = first_and a c enc name named s ms dst3 from.word names v vs (ending_of r) en
@@ -282,29 +282,29 @@ module _ {T G : Type 0} (L : GuestLaws G) (options : ℕ) where
   unfolding flat product_words fixed_words attempt_as
   members_lower a c dst dst2 from (product k ns) ms names vs v r few e p count given h =
       let Inner : Members → Type 0 = λ xs. (q : LowersMembers false (stage_of L.seen L.moves a) (stage_of L.seen L.moves c) (host_texts (encoding_by a options)) xs dst2 from.word (MemberNamed xs names vs) h.handles (ending_of r))
-          × Enacted a.ledger (members_deeds (encoding_by a options) a.component.types xs from.place names vs (cap (from.place + 1))) (stop_in r) q.answers q.trap h.handles c.ledger in
+      × Enacted a.ledger (members_deeds (encoding_by a options) a.component.types xs from.place names vs (cap (from.place + 1))) (stop_in r) q.answers q.trap h.handles c.ledger in
       let inner : Inner ns = subst Inner e (h.lowered, h.enacted) in
       record {
-    handles = h.handles;
-    lowered =
-        product_words false (stage_of L.seen L.moves a) (stage_of L.seen L.moves c) (host_texts (encoding_by a options)) k ns dst2 from.word (MemberNamed ns names vs) (HasTree (product k ns) v)
-        (ending_of r) (product_is k ns names vs v p) (product_back k ns names vs v p)
-        inner.0;
-    enacted = enacted_as (members_deeds (encoding_by a options) a.component.types ns from.place names vs (cap (from.place + 1))) (deeds (encoding_by a options) a.component.types (product k ns) v from.place) (stop_in r) a.ledger c.ledger
-        inner.0.answers inner.0.trap h.handles (deeds_product (encoding_by a options) a.component.types k ns names vs v from.place p (count ∙ ap member_count e)) inner.1;
-    handed = passes_as a.component.types a.ledger c.ledger (all_passes ms vs) (passes v (product k ns)) h.handles r given h.handed;
-    stays = h.stays;
-    passed = subst (λ (n : ℕ). WordsPassed from n r) (ap members_flat e) h.passed;
-    counted = product_counts (encoding_by a options) from.place k ns names vs v (place_after r) few p (count ∙ ap member_count e)
-        (subst (λ (xs : Members). FieldsCount (encoding_by a options) from.place xs names vs (cap (from.place + 1)) (place_after r)) e h.counted);
-    same = h.same;
-    quiet = λ none. h.quiet (ap have_block e ∙ none);
+        handles = h.handles;
+        lowered =
+            product_words false (stage_of L.seen L.moves a) (stage_of L.seen L.moves c) (host_texts (encoding_by a options)) k ns dst2 from.word (MemberNamed ns names vs) (HasTree (product k ns) v)
+            (ending_of r) (product_is k ns names vs v p) (product_back k ns names vs v p)
+            inner.0;
+        enacted = enacted_as (members_deeds (encoding_by a options) a.component.types ns from.place names vs (cap (from.place + 1))) (deeds (encoding_by a options) a.component.types (product k ns) v from.place) (stop_in r) a.ledger c.ledger
+            inner.0.answers inner.0.trap h.handles (deeds_product (encoding_by a options) a.component.types k ns names vs v from.place p (count ∙ ap member_count e)) inner.1;
+        handed = passes_as a.component.types a.ledger c.ledger (all_passes ms vs) (passes v (product k ns)) h.handles r given h.handed;
+        stays = h.stays;
+        passed = subst (λ (n : ℕ). WordsPassed from n r) (ap members_flat e) h.passed;
+        counted = product_counts (encoding_by a options) from.place k ns names vs v (place_after r) few p (count ∙ ap member_count e)
+            (subst (λ (xs : Members). FieldsCount (encoding_by a options) from.place xs names vs (cap (from.place + 1)) (place_after r)) e h.counted);
+        same = h.same;
+        quiet = λ none. h.quiet (ap have_block e ∙ none);
       }
   members_lower a c dst dst2 from (fixed n s) ms names vs v r few e (en, p) count given h =
       let enough : length vs ≡ n = count ∙ (ap member_count e ∙ copies_count n s) in
       let named : names ≡ member_names (copies n s) = en ∙ copies_names n s vs enough in
       let Inner : Members → Type 0 = λ ys. (q : LowersMembers false (stage_of L.seen L.moves a) (stage_of L.seen L.moves c) (host_texts (encoding_by a options)) ys dst2 from.word (MemberNamed ys names vs) h.handles (ending_of r))
-          × Enacted a.ledger (members_deeds (encoding_by a options) a.component.types ys from.place names vs (cap (from.place + 1))) (stop_in r) q.answers q.trap h.handles c.ledger in
+      × Enacted a.ledger (members_deeds (encoding_by a options) a.component.types ys from.place names vs (cap (from.place + 1))) (stop_in r) q.answers q.trap h.handles c.ledger in
       let inner : Inner (copies n s) = subst Inner e (h.lowered, h.enacted) in
       record {
         handles = h.handles;
