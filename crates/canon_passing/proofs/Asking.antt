@@ -5,7 +5,7 @@ use Rattle.canon_context.specs.Lowers.{fault_ending}
 use Rattle.canon_context.specs.declared.fault.Fault.{Fault}
 use Rattle.canon_context.specs.declared.fault.Fault.TheVariants as fault
 use Rattle.canon_ledger.specs.Ledger.{LedgerState}
-use Rattle.canon_lowering.specs.Lowering.{Answer, AtMostOne, BeginsWith, CauseOf, LastIs, Meets, Trap, refused}
+use Rattle.canon_lowering.specs.Lowering.{Answer, AtMostOne, BeginsWith, CauseOf, Meets, Trap, refused}
 use Rattle.canon_memory.specs.Guest.{Moment}
 use Rattle.canon_model.specs.Requests.{Call, Request, call_of}
 use Rattle.canon_passing.specs.Deeds.{AskEnds, Deed, Enacts, asks}

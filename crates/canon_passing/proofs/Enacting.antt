@@ -1,14 +1,12 @@
 -- What follows from what came of a list of deeds, whatever they are.
-use Rattle.std.proofs.Common.{Err, List, None, Option, Some, [], ap, inl, inr, refl, subst, subst₂, sym, ℕ, ◌++◌, ◌∙◌, ◌≡◌, ◌⊎◌, ◌∷◌}
+use Rattle.std.proofs.Common.{List, None, Option, Some, [], ap, inl, inr, refl, subst, subst₂, sym, ℕ, ◌++◌, ◌∙◌, ◌≡◌, ◌⊎◌, ◌∷◌}
 use Rattle.canon_context.specs.declared.fault.Fault.{Fault}
 use Rattle.canon_context.specs.declared.fault.Fault.TheVariants as fault
-use Rattle.canon_context.specs.Faults.{stop_of}
 use Rattle.canon_ledger.specs.Ledger.{LedgerState}
-use Rattle.canon_ledger.specs.declared.fault.ResourceFault.TheVariants as resource
 use Rattle.canon_lowering.specs.Lowering.{Answer, Meets, Trap}
 use Rattle.canon_model.specs.Requests.{Call, Request, call_of}
 use Rattle.canon_passing.specs.Deeds.{AskEnds, Ceases, Deed, Enacts, HandEnds, asked, asks, fails, first_fault, handed, hands}
-use Rattle.canon_resources.specs.Parts.{LeafMoves, LeavesStop, LeavesTake, Part, Stops}
+use Rattle.canon_resources.specs.Parts.{LeavesTake, Part}
 
 none_some : {A : Type 0} {x : A} → None ≡ Some x → ⊥
 none_some e = cc
