@@ -9,8 +9,10 @@ ghost use Rattle.canon_context.specs.Core.{component_types, encoding_by, stage_o
 ghost use Rattle.canon_value_parts.specs.Fails.{BlamesValue, IsSmall};
 ghost use Rattle.canon_context.specs.Lowers.{ending_of};
 ghost use Rattle.canon_context.specs.Quiet.{has_block, has_handle};
+ghost use Rattle.canon_passing.specs.Deeds.{Enacted, stop_in};
 ghost use Rattle.canon_passing.specs.Passed.{Crosses, QuietBut};
 ghost use Rattle.canon_value_parts.specs.Resources.{passes};
+ghost use Rattle.canon_value_parts.specs.ValueDeeds.{deeds};
 ghost use Rattle.canon_context.specs.Asks.{SameButHandles};
 ghost use Rattle.canon_val.specs.Value.{HasTree};
 
@@ -23,7 +25,8 @@ use canon_walks::store_value;
 /// Stores the value at an address of the guest's memory (CanonicalABI.md, "store"). Answers `TypeMismatch`,
 /// `LengthMismatch`, `FieldName`, `UnknownCase`, `UnknownFlag`, `PayloadExpected` or `PayloadNotExpected` where the value
 /// isn't of the type, `StringTooLong` or `SizeOverflow` where a block would be too large, and the faults of
-/// `LowerContext::realloc`. A value of a type that reaches no text and no list asks the guest for nothing. At an error its place and its blocks may have changed.
+/// `LowerContext::realloc`: the first that comes in the order of what is done, which is `deeds`. A value of a type that reaches no text
+/// and no list asks the guest for nothing. At an error its place and its blocks may have changed.
 pub fn linear_lower_to_memory<T, G: Guest>(
     value: &Val,
     cx: &mut LowerContext<'_, T, G>,
@@ -34,8 +37,10 @@ pub fn linear_lower_to_memory<T, G: Guest>(
     requires aligned { offset % align false (shape_of (component_types cx.old.core.now) ty) ≡ 0 }
     requires room { offset + size false (shape_of (component_types cx.old.core.now) ty) ≤ length cx.old.core.now.memory }
     ensures stored { Crosses cx.old.core.now.component.types (has_handle (shape_of (component_types cx.old.core.now) ty)) (passes value.now (shape_of (component_types cx.old.core.now) ty))
-        (λ hs ending. StoresValue false (stage_of G.seen G.moves cx.old.core.now) (stage_of G.seen G.moves cx.new.core.now) (host_texts (encoding_by cx.old.core.now cx.old.options))
+        (λ hs ending. (low : StoresValue false (stage_of G.seen G.moves cx.old.core.now) (stage_of G.seen G.moves cx.new.core.now) (host_texts (encoding_by cx.old.core.now cx.old.options))
         (shape_of (component_types cx.old.core.now) ty) offset (HasTree (shape_of (component_types cx.old.core.now) ty) value.now) hs ending)
+        × Enacted cx.old.core.now.ledger (deeds (encoding_by cx.old.core.now cx.old.options) cx.old.core.now.component.types (shape_of (component_types cx.old.core.now) ty) value.now 0)
+        (stop_in result) low.answers low.trap hs cx.new.core.now.ledger)
         cx.old.core.now.ledger cx.new.core.now.ledger result }
     ensures cause { IfErr result (BlamesValue (encoding_by cx.old.core.now cx.old.options) (shape_of (component_types cx.old.core.now) ty) value.now) }
     ensures small { OnOk result (IsSmall (encoding_by cx.old.core.now cx.old.options) (shape_of (component_types cx.old.core.now) ty) value.now) }
