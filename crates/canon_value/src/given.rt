@@ -107,7 +107,6 @@ fn lower_results_by_size<T, G: Guest>(
         (tuple_members (component_types core.old) ty) (HaveTrees (tuple_members (component_types core.old) ty) results.now)
         (row_deeds (encoding_by core.old options) core.old.component.types (tuple_members (component_types core.old) ty) results.now) core.old.ledger core.new.ledger
         (stop_in result) at dst.new hs (ending_of result)) result }
-    ensures cause { IfErr result (BlamesMembers (encoding_by core.old options) (tuple_members (component_types core.old) ty) results.now) }
     ensures small { OnOk result (AreSmall (encoding_by core.old options) (tuple_members (component_types core.old) ty) results.now) }
     ensures quiet { Quiet (have_block (tuple_members (component_types core.old) ty)) (core.new.guest ≡ core.old.guest) result }
     ensures quiet_near { members_flat (tuple_members (component_types core.old) ty) ≤ max_results →
@@ -139,7 +138,6 @@ fn store_results<T, G: Guest>(
         (tuple_members (component_types core.old) ty) 0 at (HaveTrees (tuple_members (component_types core.old) ty) results.now) hs (ending_of result))
         × Enacted core.old.ledger (row_deeds (encoding_by core.old options) core.old.component.types (tuple_members (component_types core.old) ty) results.now)
         (stop_in result) low.answers low.trap hs core.new.ledger) result }
-    ensures cause { IfErr result (BlamesMembers (encoding_by core.old options) (tuple_members (component_types core.old) ty) results.now) }
     ensures small { OnOk result (AreSmall (encoding_by core.old options) (tuple_members (component_types core.old) ty) results.now) }
     ensures quiet { Quiet (have_block (tuple_members (component_types core.old) ty)) (core.new.guest ≡ core.old.guest) result }
     ensures same_core { SameButHandles core.old core.new }

@@ -1,6 +1,6 @@
 -- The first fault among the deeds of a value is one that the value is to blame for.
 use Rattle.std.proofs.Common.{Bool, List, None, Option, Some, [], ap, arith, chars, inl, inr, length, map, refl, string_bytes, subst, suc, ⊎_elim, sym, true, false, zero, ℕ, ◌*◌, ◌++◌, ◌+◌, ◌^◌, ◌<◌, ◌≤◌, ◌∙◌, ◌≡◌, ◌⊎◌, ◌∷◌}
-use Rattle.std.specs.Prelude.{◌&&◌, ◌==◌, nat_lt}
+use Rattle.std.specs.Prelude.{◌&&◌, ◌==◌, if◌then◌else◌, nat_le, nat_lt}
 use Rattle.std.proofs.lemmas.Bool.{eqb-true, eqb-false, false≢true, ltb-false}
 use Rattle.std.proofs.lemmas.Str.{IsUtf8-string_bytes}
 use Rattle.canon_context.specs.declared.fault.Fault.{Fault}
@@ -9,19 +9,20 @@ use Rattle.canon_ledger.specs.Ledger.{LedgerState}
 use Rattle.canon_lowering.specs.Copies.{case_members}
 use Rattle.canon_lowering.specs.Lowering.{Answer, Trap}
 use Rattle.canon_model.proofs.Texts.{spells_chars}
-use Rattle.canon_model.specs.Layout.{align, size}
+use Rattle.canon_model.specs.Layout.{align, members_align, members_flat, size}
+use Rattle.canon_model.specs.Flat.{max_params}
 use Rattle.canon_model.specs.Memory.{cap}
 use Rattle.canon_model.specs.Requests.{Call, Request, anew, text_requests}
-use Rattle.canon_model.specs.Shape.{Cases, Members, Name, Shape, VariantKind, bare, borrow, case_count, fixed, flags, list, member, member_count, no_cases, no_members, of_items, of_pairs, own, payload, product, scalar, string, variant}
+use Rattle.canon_model.specs.Shape.{Cases, Members, Name, Shape, VariantKind, bare, borrow, case_count, fixed, flags, list, member, member_count, no_cases, no_members, of_items, of_pairs, of_places, own, payload, product, scalar, string, variant}
 use Rattle.canon_model.specs.Text.{Encoding, Spells, in_utf8, most_bytes}
-use Rattle.canon_passing.specs.Deeds.{AskEnds, Deed, Enacts, HandEnds, asks, block_deeds, fails, first_fault, hands, of_kind, tested}
+use Rattle.canon_passing.specs.Deeds.{AskEnds, Deed, Enacted, Enacts, HandEnds, asks, block_deeds, fails, first_fault, hands, of_kind, tested}
 use Rattle.canon_passing.proofs.Enacting.{enacts_cause, same_some}
 use Rattle.canon_resources.specs.Parts.{Part}
 use Rattle.canon_types.specs.Instance.{Instance}
-use Rattle.canon_val.specs.Value.{IsCase, IsPairShape, member_names, pair_places, places}
+use Rattle.canon_val.specs.Value.{IsCase, IsPairShape, member_names, no_names, pair_places, places}
 use Rattle.canon_val.specs.declared.val.Val.{Val, out-Val}
-use Rattle.canon_value_parts.specs.Fails.{Blames, CaseFails, Failure, FailsAt, MemberFails, PairFails, SomeFails}
-use Rattle.canon_value_parts.specs.ValueDeeds.{all_occur, case_deeds, case_in, deeds, each_deeds, is_scalar, members_deeds, pair_deeds, same_name}
+use Rattle.canon_value_parts.specs.Fails.{Blames, BlamesMembers, CaseFails, Failure, FailsAt, MemberFails, PairFails, SomeFails}
+use Rattle.canon_value_parts.specs.ValueDeeds.{all_occur, args_deeds, case_deeds, case_in, deeds, each_deeds, is_scalar, members_deeds, pair_deeds, row_deeds, same_name}
 use Rattle.canon_value_parts.proofs.CasesBack.{case_known, failing_inside, one_payload, other_kind, unknown_so}
 use Rattle.canon_value_parts.proofs.Seen.{fixed_list_seen, flags_seen, items_seen, members_seen, pairs_seen, resource_seen, same_true, text_seen}
 use Rattle.canon_value_parts.proofs.Steps.{blames_first, blames_later}
@@ -298,3 +299,18 @@ module _ (enc : Encoding) (types : Instance) where
       → Enacts last l (members_deeds enc types ms whole ns vs p) (Some f) xs t hs n → Blames enc (λ how k. MemberFails how ms vs k) p f ⊎ ((f ≡ fault.FieldName whole) × ¬ (ns ≡ member_names ms))
   members_blame ms whole ns vs p last l n f xs t hs lt h =
       blamed_by (λ how k. MemberFails how ms vs k) (λ g. RowBlamed ms ns vs whole p g) p last (members_deeds enc types ms whole ns vs p) l n f xs t hs (λ g b. inl b) (members_blamed ms whole ns vs p lt) h
+
+  -- values in a row, as parameters are or results; the block of their tuple may be asked for before them
+  pub row_blames : (ms : Members) (vs : List Val) (l n : LedgerState) (f : Fault) (xs : List Answer) (t : Option Trap) (hs : List ℕ) → no_names vs ≡ member_names ms → Enacted l (row_deeds enc types ms vs) (Some f) xs t hs n → BlamesMembers enc ms vs f
+  row_blames ms vs l n f xs t hs named h = ⊎_elim (λ b. b) (λ q. absurd (q.1 named)) (members_blame ms 0 (no_names vs) vs 0 0 l n f xs t hs (omega arith) (h 0))
+
+  block_blamed : (G : Fault → Type 0) (b : Bool) (r : Request) (ds : List Deed) → IfFails G ds → IfFails G (if b then ds else asks r ∷ ds)
+  block_blamed G true r ds h = h
+  block_blamed G false r ds h = h
+
+  pub args_blame : (ms : Members) (vs : List Val) (l n : LedgerState) (f : Fault) (xs : List Answer) (t : Option Trap) (hs : List ℕ) → no_names vs ≡ member_names ms → Enacted l (args_deeds enc types ms vs) (Some f) xs t hs n → BlamesMembers enc ms vs f
+  args_blame ms vs l n f xs t hs named h =
+      let G : Fault → Type 0 = λ g. RowBlamed ms (no_names vs) vs 0 0 g in
+      ⊎_elim (λ b. b) (λ q. absurd (q.1 named))
+      (blamed_by (λ how k. MemberFails how ms vs k) G 0 0 (args_deeds enc types ms vs) l n f xs t hs (λ g b. inl b)
+      (block_blamed G (nat_le (members_flat ms) max_params) (anew (members_align false ms) (size false (product of_places ms))) (row_deeds enc types ms vs) (members_blamed ms 0 (no_names vs) vs 0 (omega arith))) (h 0))

@@ -13,7 +13,7 @@ use Rattle.canon_model.specs.Memory.{cap}
 use Rattle.canon_model.specs.Requests.{Request, anew, case_requests, host_asks, members_requests, requests, text_requests}
 use Rattle.canon_model.specs.Shape.{Cases, Members, Shape, bare, borrow, fixed, flags, list, member, member_count, no_cases, no_members, of_items, of_pairs, own, payload, product, scalar, string, variant}
 use Rattle.canon_model.specs.Text.{Encoding, Spells, in_utf8}
-use Rattle.canon_model.specs.Tree.{Tree, Trees, case_number, list_of_each, no_trees, payload_of, scalars_of, tree, tree_count}
+use Rattle.canon_model.specs.Tree.{Tree, Trees, list_of_each, payload_of, scalars_of}
 use Rattle.canon_passing.specs.Deeds.{Deed, asked, asks, block_deeds, fails, hands, of_kind, tested, text_deeds}
 use Rattle.canon_types.specs.Instance.{Instance}
 use Rattle.canon_val.specs.Value.{CaseHas, EachHas, HasTree, HaveTrees, PairHas, member_names, pair_places, places}

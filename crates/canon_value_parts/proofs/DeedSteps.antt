@@ -1,15 +1,13 @@
 -- The steps of a walk, as far as its records say what was done.
-use Rattle.std.proofs.Common.{Bool, Err, List, None, Ok, Option, Result, Some, [], ap, arith, inl, inr, le-ltb, length, lt-ltb, map, chars, string_bytes, refl, subst, suc, sym, true, false, zero, ℕ, ◌*◌, ◌++◌, ◌+◌, ◌<◌, ◌^◌, ◌∙◌, ◌≡◌, ◌≤◌, ◌∷◌, ◌⊎◌}
+use Rattle.std.proofs.Common.{Bool, List, None, Option, Some, [], ap, arith, inl, inr, le-ltb, length, lt-ltb, map, chars, string_bytes, refl, subst, suc, sym, true, false, zero, ℕ, ◌*◌, ◌++◌, ◌+◌, ◌<◌, ◌^◌, ◌∙◌, ◌≡◌, ◌≤◌, ◌∷◌, ◌⊎◌}
 use Rattle.std.specs.Prelude.{All, Any, String, Vec, nat_lt, ◌&&◌, ◌==◌, ◌||◌}
 use Rattle.std.specs.declared.alloc.Global.{Global}
 use Rattle.std.proofs.lemmas.Bool.{eq-eqb, false≢true}
 use Rattle.std.proofs.lemmas.List.{append_assoc, append-nil}
 use Rattle.canon_context.specs.declared.fault.Fault.{Fault}
 use Rattle.canon_context.specs.declared.fault.Fault.TheVariants as fault
-use Rattle.canon_context.specs.Faults.{stop_of}
 use Rattle.canon_ledger.specs.Ledger.{LedgerState}
 use Rattle.canon_ledger.specs.declared.fault.ResourceFault.{ResourceFault}
-use Rattle.canon_ledger.specs.declared.fault.ResourceFault.TheVariants as resource
 use Rattle.canon_lowering.specs.Copies.{case_members, copies, pairs_of}
 use Rattle.canon_lowering.specs.Lowering.{Answer, Trap}
 use Rattle.canon_lowering.proofs.Pairing.{pair_shape}
@@ -24,7 +22,7 @@ use Rattle.canon_passing.proofs.Enacting.{enacts_stop, enacts_then}
 use Rattle.canon_passing.proofs.Passing.{Ended, Took}
 use Rattle.canon_plan.specs.Plan.{shaped_handle}
 use Rattle.canon_resources.specs.Held.{Any as AnyResource}
-use Rattle.canon_resources.specs.Parts.{LeafMoves, LeafTakes, Part, PassedResource, Stops, TakesParts, do_part, lower_parts, passed, refusal_of}
+use Rattle.canon_resources.specs.Parts.{LeafTakes, Part, PassedResource, Stops, TakesParts, do_part, lower_parts, passed, refusal_of}
 use Rattle.canon_types.specs.Instance.{Instance}
 use Rattle.canon_val.specs.Value.{HasScalar, IsCase, IsFixedListValue, IsProduct, Occurs, member_names, no_names, pair_places, places}
 use Rattle.canon_val.specs.declared.val.Val.{Val}

@@ -1,13 +1,13 @@
 -- Parameters that are lowered into a block.
 use Rattle.canon_memory.specs.Guest.{Moment}
-use Rattle.canon_value_parts.specs.Fails.{MemberFails}
+use Rattle.canon_value_parts.specs.Fails.{AreSmall}
 use Rattle.canon_value_parts.proofs.Lookups.{tuple_names}
 use Rattle.canon_lowering.specs.Attempt.{StoresMembers, args_call}
 use Rattle.canon_lowering.specs.Lowering.{CauseOf, Answer, Trap, refused}
 use Rattle.canon_lowering.proofs.Attempts.{attempt_block}
 use Rattle.canon_lowering.proofs.Lowerings.{answer, none_answered}
 use Rattle.std.proofs.Common.{◌≡◌, ◌<◌, ◌∙◌, Err, List, None, Option, Result, [], ◌∷◌, ap, false, inl, length, refl, subst, subst₂, sym, ℕ, Ok}
-use Rattle.std.specs.Prelude.{IfErr}
+use Rattle.std.specs.Prelude.{IfErr, IfOk}
 use Rattle.canon_ledger.specs.Ledger.{LedgerState}
 use Rattle.canon_lowering.proofs.Parameters.{args_far}
 use Rattle.canon_model.specs.Homes.{host_texts}
@@ -27,21 +27,25 @@ use Rattle.canon_context.specs.Asks.{AsksFor, SameButHandles}
 use Rattle.canon_passing.proofs.Passing.{handles_instance, handles_then, passes_from, same_handles, value_same_ledger}
 use Rattle.canon_passing.specs.Passed.{PartsLower}
 use Rattle.canon_value_parts.specs.Resources.{all_passes}
-use Rattle.canon_value_parts.specs.Stores.{FieldsCount, PartsStoreTo, PlacesCounted}
+use Rattle.canon_value_parts.specs.Stores.{FieldsCount, PartsStoreTo}
 use Rattle.canon_value_parts.specs.ValueDeeds.{args_deeds, row_deeds}
 use Rattle.canon_value_parts.proofs.DeedSteps.{enacted_as}
 use Rattle.canon_model.specs.Tree.{Trees}
-use Rattle.canon_val.specs.Value.{HaveTrees, no_names, all_places}
+use Rattle.canon_val.specs.Value.{HaveTrees, no_names}
 use Rattle.canon_context.specs.declared.fault.Fault.{Fault}
 use Rattle.canon_val.specs.declared.val.Val.{Val}
 use Rattle.canon_context.proofs.Moves.{GuestLaws}
 use Rattle.canon_context.proofs.Cores.{same_encoding, same_types}
-use Rattle.canon_value_parts.proofs.StoreSteps.{MemberNamed, value_count_members}
+use Rattle.canon_value_parts.proofs.StoreSteps.{MemberNamed}
 
 -- where a refusal is for the value alone, no request trapped
 no_trap : (a b : Moment) (answers : List Answer) (trap : Option Trap) (r : Result ℕ Fault) → IfErr r (λ e. fault_ending e ≡ refused) → CauseOf a b answers trap (ending_of r) → trap ≡ None
 no_trap a b answers trap (Ok n) h cause = cause
 no_trap a b answers trap (Err e) h cause = subst (λ end. CauseOf a b answers trap end) h cause
+
+fields_small : (enc : Encoding) (ms : Members) (names : List Name) (vs : List Val) (from : ℕ) (r : Result ℕ Fault) → FieldsCount enc ms names vs from r → IfOk r (λ next. AreSmall enc ms vs)
+fields_small enc ms names vs from (Ok next) h = h.2
+fields_small enc ms names vs from (Err e) h = tt
 
 module _ {T G : Type 0} (L : GuestLaws G) (options : ℕ) (a b c : Parts T G) (j : ℕ) (vs : List Val) (p : ℕ) (far : max_params < members_flat (tuple_members (component_types a) j))
     (count : length vs ≡ member_count (tuple_members (component_types a) j))
@@ -98,6 +102,5 @@ module _ {T G : Type 0} (L : GuestLaws G) (options : ℕ) (a b c : Parts T G) (j
   pub far_same : SameButHandles a c
   far_same = handles_then a b c (same_handles a b g.same) stood.same
 
-  pub far_counted : PlacesCounted (encoding_by a options) (λ how k. MemberFails how ms vs k) 0 (all_places vs) r
-  far_counted = value_count_members (encoding_by a options) 0 ms (no_names vs) vs 0 r (tuple_names (component_types a) j vs count)
-      (subst (λ (x : Encoding). FieldsCount x 0 ms (no_names vs) vs 0 r) (same_encoding a b options g.same) stood.counted)
+  pub far_small : IfOk r (λ next. AreSmall (encoding_by a options) ms vs)
+  far_small = fields_small (encoding_by a options) ms (no_names vs) vs 0 r (subst (λ (x : Encoding). FieldsCount x ms (no_names vs) vs 0 r) (same_encoding a b options g.same) stood.counted)

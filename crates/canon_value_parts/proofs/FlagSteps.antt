@@ -92,10 +92,10 @@ module _ {T G : Type 0} (L : GuestLaws G) (options : ℕ) (a : Parts T G) (names
           quiet = λ none. (refl, tt);
         })
 
-    pub flags_not_stored : (some : List Name) → AreStored a.memory m at bytes names some → SomeUnknown names (names_of set.items) → place < 2 ^ 64
+    pub flags_not_stored : (some : List Name) → AreStored a.memory m at bytes names some → SomeUnknown names (names_of set.items)
         → StoresTo L.seen L.moves options a (record a { memory = m }) s at (val.Flags set) place (Err (fault.UnknownFlag place))
     unfolding size
-    flags_not_stored some h unknown few =
+    flags_not_stored some h unknown =
         let writes : Writes (block at (flags_size (length names))) a.memory m = subst (λ (n : ℕ). Writes (block at n) a.memory m) many h.writes in
         subst (λ (x : Shape). StoresTo L.seen L.moves options a (record a { memory = m }) x at (val.Flags set) place (Err (fault.UnknownFlag place))) (sym is) (record {
           handles = [];
@@ -109,7 +109,7 @@ module _ {T G : Type 0} (L : GuestLaws G) (options : ℕ) (a : Parts T G) (names
           };
           handed = passes_stopped a.component.types a.ledger a.ledger (passes (val.Flags set) (flags names)) (fault.UnknownFlag place) refl refl;
           enacted = enacted_unknown (encoding_by a options) a.component.types names set place a.ledger unknown;
-          counted = (0, omega (arith, few), (refl, (names_of set.items, (set, refl, refl), unknown)));
+          counted = tt;
           same = refl;
           quiet = λ none. (refl, refl);
         })
@@ -133,16 +133,16 @@ module _ {T G : Type 0} (L : GuestLaws G) (options : ℕ) (a : Parts T G) (names
       quiet = λ none. (refl, tt);
     })
 
-    pub flags_not_lowered : SomeUnknown names (names_of set.items) → place < 2 ^ 64 → LowersTo L.seen L.moves options a a dst dst2 from (Err (fault.UnknownFlag from.place)) s (val.Flags set)
+    pub flags_not_lowered : SomeUnknown names (names_of set.items) → LowersTo L.seen L.moves options a a dst dst2 from (Err (fault.UnknownFlag from.place)) s (val.Flags set)
     unfolding attempt_refused
-    flags_not_lowered unknown few = subst (λ (x : Shape). LowersTo L.seen L.moves options a a dst dst2 from (Err (fault.UnknownFlag from.place)) x (val.Flags set)) (sym is) (record {
+    flags_not_lowered unknown = subst (λ (x : Shape). LowersTo L.seen L.moves options a a dst dst2 from (Err (fault.UnknownFlag from.place)) x (val.Flags set)) (sym is) (record {
       handles = [];
       lowered = attempt_refused false (stage_of L.seen L.moves a) [] _ small;
       handed = passes_stopped a.component.types a.ledger a.ledger (passes (val.Flags set) (flags names)) (fault.UnknownFlag from.place) refl refl;
       enacted = enacted_unknown (encoding_by a options) a.component.types names set from.place a.ledger unknown;
       stays = stays;
       passed = tt;
-      counted = (0, omega (arith, few, is_place), (refl, (names_of set.items, (set, refl, refl), unknown)));
+      counted = tt;
       same = refl;
       quiet = λ none. (refl, refl);
     })

@@ -6,7 +6,7 @@ use Rattle.canon_context.specs.declared.fault.Fault.{Fault}
 use Rattle.canon_context.specs.declared.fault.Fault.TheVariants as fault
 use Rattle.canon_lowering.specs.Copies.{case_members}
 use Rattle.canon_model.specs.Memory.{cap}
-use Rattle.canon_model.specs.Shape.{Cases, Members, Name, ProductKind, Scalar, Shape, VariantKind, bare, bool, borrow, case_count, char, f32, f64, fixed, flags, list, member_count, no_cases, of_items, of_pairs, own, payload, product, s16, s32, s64, s8, scalar, string, u16, u32, u64, u8, variant}
+use Rattle.canon_model.specs.Shape.{Cases, Scalar, Shape, VariantKind, bare, bool, borrow, case_count, char, f32, f64, fixed, flags, list, member_count, no_cases, of_items, of_pairs, own, payload, product, s16, s32, s64, s8, scalar, string, u16, u32, u64, u8, variant}
 use Rattle.canon_model.specs.Text.{Encoding}
 use Rattle.canon_passing.specs.Deeds.{Deed, fails, hands, of_kind, tested}
 use Rattle.canon_resources.specs.Held.{Any}
@@ -16,7 +16,7 @@ use Rattle.canon_val.specs.Value.{IsCase, places}
 use Rattle.canon_val.specs.declared.val.Val.{Val, out-Val}
 use Rattle.canon_val.specs.declared.val.Val.TheOpen.{Val-F as F, Val-F}
 use Rattle.canon_val.specs.declared.val.Val.TheVariants as val
-use Rattle.canon_value_parts.specs.Fails.{Fails, IsOther, IsOtherScalar, mismatch, payload_expected, payload_not_expected, unknown_case, wrong_length}
+use Rattle.canon_value_parts.specs.Fails.{Fails, IsOther, IsOtherScalar, payload_expected, payload_not_expected, unknown_case, wrong_length}
 use Rattle.canon_value_parts.specs.ValueDeeds.{case_deeds, case_in, deeds, each_deeds, fixed_in, flags_in, is_scalar, items_in, members_deeds, members_in, pairs_in, resource_in, text_in}
 use Rattle.canon_value_parts.specs.Viewed.{BlamesItself}
 use Rattle.canon_value_parts.proofs.CasesBack.{case_below, case_known, other_kind}

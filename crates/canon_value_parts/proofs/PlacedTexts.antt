@@ -24,7 +24,6 @@ use Rattle.canon_context.specs.Core.{Parts, encoding_by, stage_of}
 use Rattle.canon_context.specs.Lowers.{fault_ending}
 use Rattle.canon_context.specs.declared.fault.Fault.{Fault}
 use Rattle.canon_string.specs.Texts.{IsTextOf, PutsText}
-use Rattle.canon_value_parts.specs.Fails.{Blames, FailsAt}
 use Rattle.canon_value_parts.specs.Stores.{PlacesTo}
 use Rattle.canon_context.specs.declared.fault.Fault.TheVariants as fault
 use Rattle.canon_passing.proofs.Passing.{ledger_unless, passes_none, passes_stopped, same_handles, value_same_ledger}
@@ -36,7 +35,6 @@ use Rattle.canon_val.specs.declared.val.Val.TheVariants as val
 use Rattle.canon_context.proofs.Moves.{GuestLaws}
 use Rattle.canon_value_parts.proofs.Contents.{places_text, value_same_text}
 use Rattle.canon_value_parts.proofs.Sizes.{text_small}
-use Rattle.canon_value_parts.proofs.Steps.{blames_unless}
 
 module _ {T G : Type 0} (L : GuestLaws G) (options : ℕ) (a b : Parts T G) (s : String Global) where
   -- a text's trees are its value's
@@ -142,8 +140,6 @@ module _ {T G : Type 0} (L : GuestLaws G) (options : ℕ) (a b : Parts T G) (s :
         (ledger_unless e (λ r is. let (still, n, long, many) = h.blames (ap fault_ending is) in let other : e ≡ fault.Resource r = is in cc));
     enacted = unplaced_deeds place e h;
     narrow = tt;
-    counted = blames_unless (encoding_by a options) (λ how k. FailsAt how string (val.String s) k) place e (λ is.
-        let (still, n, same, long) = h.blames is in
-        subst (Blames (encoding_by a options) (λ how k. FailsAt how string (val.String s) k) place) (sym same) (0, (refl, (s, refl, long))));
+    counted = tt;
     same = same_handles a b h.same;
   }

@@ -4,13 +4,12 @@ use Rattle.canon_lowering.proofs.Attempts.{attempt_block, attempt_refused, attem
 use Rattle.canon_lowering.specs.Attempt.{LowersValue, StoresMembers, items_call, value_words}
 use Rattle.canon_lowering.specs.Lowering.{Answer, Ending, Reallocated}
 use Rattle.canon_model.specs.Homes.{host_texts}
-use Rattle.canon_model.specs.Requests.{Call}
 use Rattle.canon_model.specs.Shape.{Members, Shape, list}
 use Rattle.canon_model.specs.Text.{Encoding, utf8}
 use Rattle.canon_model.specs.Tree.{Tree, tree_count, trees_of}
 use Rattle.canon_types.specs.Depth.{element_shape}
 use Rattle.canon_context.specs.Core.{Parts, encoding_by, stage_of}
-use Rattle.canon_value_parts.specs.Fails.{AreSmall, Blames, Failure, FailsAt, IsSmall, MemberFails, overflow, too_long}
+use Rattle.canon_value_parts.specs.Fails.{AreSmall, FailsAt, IsSmall, MemberFails, overflow, too_long}
 use Rattle.canon_context.specs.Lowers.{fault_ending, ending_of}
 use Rattle.canon_context.specs.Asks.{AsksFor}
 use Rattle.canon_value_parts.specs.Stores.{PlacesTo, PlacesCounted, FieldsCount, PartsStoreTo}
@@ -38,25 +37,18 @@ use Rattle.canon_value_parts.specs.ValueDeeds.{deeds, members_deeds}
 use Rattle.canon_value_parts.proofs.Heads.{Starts}
 use Rattle.canon_value_parts.proofs.DeedSteps.{enacted_as, enacted_fails, fitting_block, large_block}
 use Rattle.canon_value_parts.proofs.StoreSteps.{MemberNamed, value_count_members}
-use Rattle.canon_value_parts.proofs.Steps.{blames_later, blames_unless}
 use Rattle.canon_lowering.proofs.AimedPairs.{list_ungiven, list_ungiven_asked, rows_words}
 use Rattle.canon_model.specs.Layout.{size}
-use Rattle.canon_lowering.specs.Stages.{Stage}
 use Rattle.canon_context.specs.declared.fault.Fault.TheVariants as fault
-
--- ---- a block that isn't given: no value is to blame
-
-asked_blames : {K : Type 0} (enc : Encoding) (F : Failure → ℕ → Type 0) (from : ℕ) (a b : Stage K) (c : Call) (e : Fault) (p : ℕ) → Reallocated a b c (fault_ending e) p → Blames enc F from e
-asked_blames enc F from a b c e p h = blames_unless enc F from e (λ is. absurd (subst (λ (x : Ending). Reallocated a b c x p) is h))
 
 -- ---- a value that is refused
 
 module _ {T G : Type 0} (L : GuestLaws G) (options : ℕ) where
   -- a value refused for its own fault
-  pub unplaced : (a : Parts T G) (s : Shape) (v : Val) (place : ℕ) (e : Fault) → length a.memory ≤ 2 ^ 32 → IsOwn e → Starts e (deeds (encoding_by a options) a.component.types s v place) → Blames (encoding_by a options) (λ how k. FailsAt how s v k) place e
+  pub unplaced : (a : Parts T G) (s : Shape) (v : Val) (place : ℕ) (e : Fault) → length a.memory ≤ 2 ^ 32 → IsOwn e → Starts e (deeds (encoding_by a options) a.component.types s v place)
       → PlacesTo L.seen L.moves options a a s v place (Err e)
   unfolding attempt_refused
-  unplaced a s v place e small is first b =
+  unplaced a s v place e small is first =
       let Stood : Ending → Type 0 = λ end. (q : LowersValue false (stage_of L.seen L.moves a) (stage_of L.seen L.moves a) (host_texts (encoding_by a options)) s [] 0 (HasTree s v) [] end)
       × Enacted a.ledger (deeds (encoding_by a options) a.component.types s v place) (Some e) q.answers q.trap [] a.ledger in
       let stood : Stood (fault_ending e) = subst Stood (sym (own_ends e is)) (attempt_refused false (stage_of L.seen L.moves a) [] _ small, enacted_fails (deeds (encoding_by a options) a.component.types s v place) e a.ledger first) in
@@ -66,7 +58,7 @@ module _ {T G : Type 0} (L : GuestLaws G) (options : ℕ) where
         enacted = stood.1;
         handed = passes_stopped a.component.types a.ledger a.ledger (passes v s) e refl (own_elsewhere e is);
         narrow = tt;
-        counted = b;
+        counted = tt;
         same = refl;
       }
 
@@ -89,7 +81,7 @@ module _ (whole : Shape) (v : Val) (n : ℕ) (ms : Members) (vs : List Val) (l :
   counts : (enc : Encoding) (place : ℕ) (r : Result ℕ Fault) → n < 2 ^ 32 → n * size false l.part < 2 ^ 32 → PlacesCounted enc (λ how k. MemberFails how ms vs k) (cap (place + 1)) (all_places vs) r
       → PlacesCounted enc (λ how k. FailsAt how shape v k) place (places v) r
   counts enc place (Ok to) few fit (e, h) = (omega (arith, e, l.counted), small enc few fit h)
-  counts enc place (Err e) few fit b = blames_later enc (λ how k. MemberFails how ms vs k) (λ how k. FailsAt how shape v k) 1 place (cap (place + 1)) e refl l.fails b
+  counts enc place (Err e) few fit h = tt
 
   -- what is done with it: the block, and then its members
   abbrev row_of_it : Encoding → Instance → ℕ → List Deed
@@ -106,7 +98,7 @@ module _ (whole : Shape) (v : Val) (n : ℕ) (ms : Members) (vs : List Val) (l :
     list_too_large a place k small is many =
         let many_of : (2 ^ 32 ≤ n) ⊎ (2 ^ 32 ≤ n * size false l.part) = subst₂ (λ (j : ℕ) (s : Shape). (2 ^ 32 ≤ j) ⊎ (2 ^ 32 ≤ j * size false s)) is (ap element_shape l.shape) many in
         subst (λ (j : ℕ). PlacesTo L.seen L.moves options a a whole v place (Err (fault.SizeOverflow j))) (sym is)
-        (unplaced L options a whole v place (fault.SizeOverflow n) small refl (by_parts (λ s. Starts (fault.SizeOverflow n) (deeds (encoding_by a options) a.component.types s v place)) (large (encoding_by a options) a.component.types place many_of)) (0, by_parts (λ s. FailsAt (overflow n) s v 0) (l.overflows many_of)))
+        (unplaced L options a whole v place (fault.SizeOverflow n) small refl (by_parts (λ s. Starts (fault.SizeOverflow n) (deeds (encoding_by a options) a.component.types s v place)) (large (encoding_by a options) a.component.types place many_of)))
 
     -- its block isn't given
     ungiven_deeds : (a b : Parts T G) (place : ℕ) (e : Fault) → n < 2 ^ 32 → n * size false l.part < 2 ^ 32 → (h : AsksFor L.seen L.moves a b (items_call false l.part n) (Err e))
@@ -135,7 +127,7 @@ module _ (whole : Shape) (v : Val) (n : ℕ) (ms : Members) (vs : List Val) (l :
           enacted = ungiven_deeds a b place e few_n fit_n h;
           handed = passes_stopped a.component.types a.ledger b.ledger (passes v shape) e (value_same_ledger a b h.same) (ungiven_elsewhere (stage_of L.seen L.moves a) (stage_of L.seen L.moves b) (items_call false l.part n) e 0 h.does);
           narrow = tt;
-          counted = asked_blames (encoding_by a options) (λ how k. FailsAt how shape v k) place (stage_of L.seen L.moves a) (stage_of L.seen L.moves b) (items_call false l.part n) e 0 h.does;
+          counted = tt;
           same = same_handles a b h.same;
         })
 

@@ -1,20 +1,20 @@
 -- Steps of storing, over plain variables.
-use Rattle.std.proofs.Common.{◌≡◌, ◌≤◌, ◌<◌, ◌+◌, ◌^◌, Err, List, Ok, Result, ◌∷◌, ap₂, arith, false, inl, inr, length, refl, subst, sym, ℕ}
+use Rattle.std.proofs.Common.{◌≡◌, ◌≤◌, ◌+◌, Err, List, Ok, Result, ◌∷◌, ap₂, arith, false, refl, subst, sym, ℕ}
 use Rattle.canon_lowering.proofs.Attempts.{FirstAnd}
 use Rattle.canon_model.specs.Layout.{size}
-use Rattle.canon_model.specs.Shape.{Members, Name, ProductKind, Shape, member, member_count, product}
+use Rattle.canon_model.specs.Shape.{Members, Name, ProductKind, Shape, member, product}
 use Rattle.canon_model.specs.Tree.{Trees}
 use Rattle.canon_types.specs.Table.{TypeTable, shape_of}
 use Rattle.canon_types.specs.declared.types.InterfaceType.{InterfaceType}
 use Rattle.canon_plan.specs.NoHandle.{IsScalarType}
-use Rattle.canon_value_parts.specs.Fails.{Blames, FailsAt, IsSmall, MemberFails}
+use Rattle.canon_value_parts.specs.Fails.{FailsAt, IsSmall, MemberFails}
 use Rattle.canon_value_parts.specs.Stores.{PlacesCounted, FieldsCount}
 use Rattle.canon_val.specs.Value.{HasTree, HaveTrees, IsProduct, all_places, member_names, places}
 use Rattle.canon_model.specs.Memory.{cap}
 use Rattle.canon_context.specs.declared.fault.Fault.{Fault}
 use Rattle.canon_val.specs.declared.val.Val.{Val}
 use Rattle.canon_value_parts.proofs.Sizes.{member_small, product_small}
-use Rattle.canon_value_parts.proofs.Steps.{blames_later, places_product}
+use Rattle.canon_value_parts.proofs.Steps.{places_product}
 use Rattle.canon_plan.proofs.ScalarTypes.{scalar_shape}
 use Rattle.canon_model.specs.Text.{Encoding}
 use Rattle.canon_passing.proofs.Shapes.{scalar_bytes}
@@ -49,24 +49,16 @@ named_split name named s ms names v vs ts (same, (w, others, t, rest, ev, et, ha
 
 -- ---- counting
 
-pub fields_count : (enc : Encoding) (place : ℕ) (name named : Name) (s : Shape) (ms : Members) (names : List Name) (v : Val) (vs : List Val) (from mid : ℕ) (r : Result ℕ Fault) → named ≡ name → mid ≡ cap (from + places v) → IsSmall enc s v
-    → FieldsCount enc place ms names vs mid r → FieldsCount enc place (member name s ms) (named ∷ names) (v ∷ vs) from r
-fields_count enc place name named s ms names v vs from mid (Ok to) en em first (same, e, rest) = (ap₂ (λ x xs. x ∷ xs) en same, omega (arith, em, e), member_small enc name s ms v vs first rest)
-fields_count enc place name named s ms names v vs from mid (Err e) en em first (inl (is, other)) = inl (is, λ same. other (tails named name names (member_names ms) same))
-fields_count enc place name named s ms names v vs from mid (Err e) en em first (inr b) =
-    inr (blames_later enc (λ how k. MemberFails how ms vs k) (λ how k. MemberFails how (member name s ms) (v ∷ vs) k) (places v) from mid e em (λ how j f. inr (j, refl, f)) b)
+pub fields_count : (enc : Encoding) (name named : Name) (s : Shape) (ms : Members) (names : List Name) (v : Val) (vs : List Val) (from mid : ℕ) (r : Result ℕ Fault) → named ≡ name → mid ≡ cap (from + places v) → IsSmall enc s v
+    → FieldsCount enc ms names vs mid r → FieldsCount enc (member name s ms) (named ∷ names) (v ∷ vs) from r
+fields_count enc name named s ms names v vs from mid (Ok to) en em first (same, e, rest) = (ap₂ (λ x xs. x ∷ xs) en same, omega (arith, em, e), member_small enc name s ms v vs first rest)
+fields_count enc name named s ms names v vs from mid (Err e) en em first h = tt
 
-pub product_counts : (enc : Encoding) (place : ℕ) (k : ProductKind) (ms : Members) (names : List Name) (vs : List Val) (v : Val) (r : Result ℕ Fault) → place < 2 ^ 64 → IsProduct k names vs v → length vs ≡ member_count ms
-    → FieldsCount enc place ms names vs (cap (place + 1)) r → PlacesCounted enc (λ how j. FailsAt how (product k ms) v j) place (places v) r
-product_counts enc place k ms names vs v (Ok to) small p count (same, e, fit) = (omega (arith, e, places_product k names vs v p), product_small enc k ms names vs v p fit)
-product_counts enc place k ms names vs v (Err e) small p count (inl (is, other)) =
-    subst (λ x. Blames enc (λ how j. FailsAt how (product k ms) v j) place x) (sym is) (0, omega (arith, small), inl (refl, (names, vs, p, count, other)))
-product_counts enc place k ms names vs v (Err e) small p count (inr b) =
-    blames_later enc (λ how j. MemberFails how ms vs j) (λ how j. FailsAt how (product k ms) v j) 1 place (cap (place + 1)) e refl (λ how j f. inr (names, vs, j, p, count, refl, f)) b
+pub product_counts : (enc : Encoding) (place : ℕ) (k : ProductKind) (ms : Members) (names : List Name) (vs : List Val) (v : Val) (r : Result ℕ Fault) → IsProduct k names vs v
+    → FieldsCount enc ms names vs (cap (place + 1)) r → PlacesCounted enc (λ how j. FailsAt how (product k ms) v j) place (places v) r
+product_counts enc place k ms names vs v (Ok to) p (same, e, fit) = (omega (arith, e, places_product k names vs v p), product_small enc k ms names vs v p fit)
+product_counts enc place k ms names vs v (Err e) p h = tt
 
--- of values whose names are right
-pub value_count_members : (enc : Encoding) (place : ℕ) (ms : Members) (names : List Name) (vs : List Val) (from : ℕ) (r : Result ℕ Fault) → names ≡ member_names ms → FieldsCount enc place ms names vs from r
-    → PlacesCounted enc (λ how k. MemberFails how ms vs k) from (all_places vs) r
-value_count_members enc place ms names vs from (Ok to) same (_, e, small) = (e, small)
-value_count_members enc place ms names vs from (Err e) same (inl (is, other)) = absurd (other same)
-value_count_members enc place ms names vs from (Err e) same (inr b) = b
+pub value_count_members : (enc : Encoding) (ms : Members) (names : List Name) (vs : List Val) (from : ℕ) (r : Result ℕ Fault) → FieldsCount enc ms names vs from r → PlacesCounted enc (λ how k. MemberFails how ms vs k) from (all_places vs) r
+value_count_members enc ms names vs from (Ok to) (same, e, small) = (e, small)
+value_count_members enc ms names vs from (Err e) h = tt

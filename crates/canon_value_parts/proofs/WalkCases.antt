@@ -1,5 +1,5 @@
 -- Storing a case: its number, and its payload as no member or one.
-use Rattle.std.proofs.Common.{◌≡◌, ◌≤◌, ◌<◌, ◌+◌, ◌*◌, ◌%◌, ◌^◌, ◌∙◌, Bool, Err, List, Ok, Result, ap, arith, false, inr, length, refl, subst, sym, ℕ}
+use Rattle.std.proofs.Common.{◌≡◌, ◌≤◌, ◌<◌, ◌+◌, ◌*◌, ◌%◌, ◌^◌, ◌∙◌, Bool, Err, List, Ok, Result, ap, arith, false, length, refl, subst, sym, ℕ}
 use Rattle.std.proofs.Math.Nat.{mod-eq_of_lt}
 use Rattle.canon_abi.specs.Sizes.{tag_bytes}
 use Rattle.canon_lowering.proofs.AimedCases.{CaseIs, case_room, number_of, tag_written, variant_stored}
@@ -31,9 +31,8 @@ use Rattle.canon_context.specs.declared.fault.Fault.{Fault}
 use Rattle.canon_val.specs.declared.val.Val.{Val}
 use Rattle.canon_value_parts.proofs.Sizes.{case_small}
 use Rattle.canon_passing.proofs.Shapes.{case_quiet}
-use Rattle.canon_value_parts.proofs.Cases.{case_back, case_fails, case_has, case_is, case_places, case_shallow, has_case, one_case}
+use Rattle.canon_value_parts.proofs.Cases.{case_back, case_has, case_is, case_places, case_shallow, has_case, one_case}
 use Rattle.canon_context.proofs.Moves.{GuestLaws}
-use Rattle.canon_value_parts.proofs.Steps.{blames_later}
 use Rattle.canon_context.proofs.Cores.{written_whole}
 use Rattle.canon_passing.specs.Deeds.{stop_in}
 use Rattle.canon_value_parts.specs.ValueDeeds.{deeds, members_deeds}
@@ -68,8 +67,7 @@ pub case_counted : (enc : Encoding) (k : VariantKind) (cs : Cases) (d : ℕ) (vs
     → PlacesCounted enc (λ how j. MemberFails how (case_members cs d) vs j) (cap (place + 1)) (all_places vs) r
     → PlacesCounted enc (λ how j. FailsAt how (variant k cs) v j) place (places v) r
 case_counted enc k cs d vs v place (Ok to) of (e, small) = (omega (arith, e, case_places k cs d vs v of), case_small enc k cs d vs v of small)
-case_counted enc k cs d vs v place (Err e) of b =
-    blames_later enc (λ how j. MemberFails how (case_members cs d) vs j) (λ how j. FailsAt how (variant k cs) v j) 1 place (cap (place + 1)) e refl (λ how j f. inr (d, vs, j, of, refl, case_fails how cs d vs j f)) b
+case_counted enc k cs d vs v place (Err e) of h = tt
 
 -- ---- what a view of a case says to a walk
 
@@ -112,7 +110,7 @@ module _ {T G : Type 0} (L : GuestLaws G) (options : ℕ) where
     handed = passes_as a.component.types a.ledger c.ledger (all_passes (case_members cs d) vs) (passes v (variant k cs)) h.handles r given h.handed;
     enacted = enacted_as (members_deeds (encoding_by a options) a.component.types (case_members cs d) place names vs (cap (place + 1))) (deeds (encoding_by a options) a.component.types (variant k cs) v place) (stop_in r) a.ledger c.ledger
         h.storing.answers h.storing.trap h.handles (deeds_case (encoding_by a options) a.component.types k cs d names vs v place of named count lt) h.enacted;
-    counted = case_counted (encoding_by a options) k cs d vs v place r of (value_count_members (encoding_by a options) place (case_members cs d) names vs (cap (place + 1)) r named h.counted);
+    counted = case_counted (encoding_by a options) k cs d vs v place r of (value_count_members (encoding_by a options) (case_members cs d) names vs (cap (place + 1)) r h.counted);
     same = h.same;
     quiet = λ none. h.quiet (case_quiet cs d none);
   }

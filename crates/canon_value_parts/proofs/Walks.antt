@@ -25,7 +25,7 @@ use Rattle.canon_types.specs.Table.{shape_of}
 use Rattle.canon_types.specs.declared.types.InterfaceType.{InterfaceType}
 use Rattle.canon_plan.specs.NoHandle.{HaveNoHandle, HasNoHandle}
 use Rattle.canon_context.specs.Core.{Parts, component_types, encoding_by, stage_of}
-use Rattle.canon_value_parts.specs.Fails.{Blames, Failure, FailsAt, MemberFails, SomeFails}
+use Rattle.canon_value_parts.specs.Fails.{Failure, FailsAt, MemberFails, SomeFails}
 use Rattle.canon_context.specs.Lowers.{ending_of, fault_ending}
 use Rattle.canon_context.specs.Quiet.{has_block, have_block}
 use Rattle.canon_value_parts.specs.Stores.{PlacesCounted, FieldsCount, PartsStoreTo, PlacesTo, StoresTo}
@@ -42,7 +42,7 @@ use Rattle.canon_value_parts.proofs.Contents.{each_count, fixed_values, list_tre
 use Rattle.canon_value_parts.proofs.Sizes.{fixed_small, none_small, scalar_small}
 use Rattle.canon_context.proofs.Moves.{GuestLaws}
 use Rattle.canon_passing.proofs.Shapes.{no_first, no_later, least_low, copies_quiet}
-use Rattle.canon_value_parts.proofs.Steps.{blocks_none, blames_first, blames_later}
+use Rattle.canon_value_parts.proofs.Steps.{blocks_none}
 use Rattle.canon_plan.proofs.Lookups.{copies_count}
 use Rattle.canon_value_parts.proofs.Scalars.{scalar_places}
 use Rattle.canon_plan.proofs.ScalarTypes.{scalar_shape}
@@ -56,7 +56,7 @@ use Rattle.canon_passing.specs.Deeds.{Enacted, stop_in}
 use Rattle.canon_value_parts.specs.ValueDeeds.{deeds, members_deeds}
 use Rattle.std.proofs.lemmas.List.{append-nil}
 use Rattle.canon_value_parts.proofs.DeedSteps.{deeds_fixed, deeds_product, enacted_as, enacted_cons, enacted_misnamed, enacted_none, enacted_refused, enacted_scalar, enacted_stop}
-use Rattle.canon_value_parts.proofs.StoreSteps.{MemberNamed, value_count_members, fields_count, heads, named_join, named_split, product_counts}
+use Rattle.canon_value_parts.proofs.StoreSteps.{MemberNamed, value_count_members, fields_count, named_join, named_split, product_counts}
 use Rattle.canon_value_parts.proofs.Values.{product_names, product_values}
 use Rattle.canon_lowering.specs.Stages.{Stage, holding}
 
@@ -102,8 +102,7 @@ pub fixed_counted : (enc : Encoding) (n : ℕ) (s : Shape) (names : List Name) (
     → PlacesCounted enc (λ how k. MemberFails how (copies n s) vs k) (cap (place + 1)) (all_places vs) r
     → PlacesCounted enc (λ how k. FailsAt how (fixed n s) v k) place (places v) r
 fixed_counted enc n s names vs v place (Ok to) count (xs, ev, same) (e, small) = (omega (arith, e, ap places ev ∙ places_fixed xs, ap all_places same), fixed_small enc n s vs v count (xs, ev, same) small)
-fixed_counted enc n s names vs v place (Err e) count (xs, ev, same) b =
-    blames_later enc (λ how k. MemberFails how (copies n s) vs k) (λ how k. FailsAt how (fixed n s) v k) 1 place (cap (place + 1)) e refl (λ how j f. inr (vs, j, (xs, ev, same), count, refl, copies_fail how n s vs j f)) b
+fixed_counted enc n s names vs v place (Err e) count (xs, ev, same) h = tt
 
 -- ---- a value's tree from its members' trees, and back
 
@@ -146,10 +145,10 @@ stop_at wide a b enc s at Has ws e not h = record {
 module _ {T G : Type 0} (L : GuestLaws G) (options : ℕ) where
   -- ---- a value by itself
 
-  pub value_refused : (a : Parts T G) (s : Shape) (at : ℕ) (v : Val) (from : ℕ) (e : Fault) → length a.memory ≤ 2 ^ 32 → IsOwn e → BlamesItself s v from e → Blames (encoding_by a options) (λ how k. FailsAt how s v k) from e
+  pub value_refused : (a : Parts T G) (s : Shape) (at : ℕ) (v : Val) (from : ℕ) (e : Fault) → length a.memory ≤ 2 ^ 32 → IsOwn e → BlamesItself s v from e
       → StoresTo L.seen L.moves options a a s at v from (Err e)
   unfolding attempt_refused
-  value_refused a s at v from e small is fails b =
+  value_refused a s at v from e small is fails =
       let Stood : Ending → Type 0 = λ end. (q : StoresValue false (stage_of L.seen L.moves a) (stage_of L.seen L.moves a) (host_texts (encoding_by a options)) s at (HasTree s v) [] end)
       × Enacted a.ledger (deeds (encoding_by a options) a.component.types s v from) (Some e) q.answers q.trap [] a.ledger in
       let stood : Stood (fault_ending e) = subst Stood (sym (own_ends e is)) (attempt_refused false (stage_of L.seen L.moves a) _ _ small, enacted_refused (encoding_by a options) a.component.types s v from e a.ledger fails) in
@@ -158,7 +157,7 @@ module _ {T G : Type 0} (L : GuestLaws G) (options : ℕ) where
         storing = stood.0;
         enacted = stood.1;
         handed = passes_stopped a.component.types a.ledger a.ledger (passes v s) e refl (own_elsewhere e is);
-        counted = b;
+        counted = tt;
         same = refl;
         quiet = λ none. (refl, own_ends e is);
       }
@@ -285,8 +284,8 @@ module _ {T G : Type 0} (L : GuestLaws G) (options : ℕ) where
             (subst (λ (i : Instance). LowersHandles i b.ledger c.ledger (all_passes ms vs) k.handles r) (handles_instance a b h.same) k.handed);
         enacted = enacted_cons enc a.component.types name named s ms place names v vs from a.ledger b.ledger c.ledger mid (stop_in r) h.storing.answers rest.0.answers h.storing.trap rest.0.trap
             h.handles k.handles en h.counted.0 h.enacted rest.1;
-        counted = fields_count enc place name named s ms names v vs from mid r en h.counted.0 h.counted.1
-            (subst (λ (x : Encoding). FieldsCount x place ms names vs mid r) (handles_encoding a b options h.same) k.counted);
+        counted = fields_count enc name named s ms names v vs from mid r en h.counted.0 h.counted.1
+            (subst (λ (x : Encoding). FieldsCount x ms names vs mid r) (handles_encoding a b options h.same) k.counted);
         same = handles_then a b c h.same k.same;
         quiet = λ none. let one = h.quiet (no_first (has_block s) (have_block ms) none) in let others = k.quiet (no_later (has_block s) (have_block ms) none) in (others.0 ∙ one.0, others.1);
       }
@@ -301,7 +300,7 @@ module _ {T G : Type 0} (L : GuestLaws G) (options : ℕ) where
         (members_stop false (host_texts (encoding_by a options)) name s ms o at (HasTree s v) (MemberNamed ms names vs) (stage_of L.seen L.moves a) (stage_of L.seen L.moves b) (fault_ending e) (not_done e) h.storing);
     handed = passes_stop a.component.types a.ledger b.ledger (passes v s) (all_passes ms vs) e h.handed;
     enacted = enacted_stop (encoding_by a options) a.component.types name named s ms place names v vs from a.ledger b.ledger e h.storing.answers h.storing.trap h.handles en h.enacted;
-    counted = inr (blames_first (encoding_by a options) (λ how k. FailsAt how s v k) (λ how k. MemberFails how (member name s ms) (v ∷ vs) k) from e (λ how j f. inl f) h.counted);
+    counted = tt;
     same = h.same;
     quiet = λ none. h.quiet (no_first (has_block s) (have_block ms) none);
   }
@@ -315,18 +314,18 @@ module _ {T G : Type 0} (L : GuestLaws G) (options : ℕ) where
     storing = attempt_refused false (stage_of L.seen L.moves a) _ _ small;
     handed = passes_stopped a.component.types a.ledger a.ledger (all_passes (member name s ms) (v ∷ vs)) (fault.FieldName place) refl refl;
     enacted = enacted_misnamed (encoding_by a options) a.component.types name named s ms place names v vs from a.ledger other;
-    counted = inl (refl, λ same. other (heads named name names (member_names ms) same));
+    counted = tt;
     same = refl;
     quiet = λ none. (refl, refl);
   }
 
   -- ---- a value from its members
 
-  pub members_store : (a c : Parts T G) (place : ℕ) (s : Shape) (ms : Members) (at : ℕ) (names : List Name) (vs : List Val) (v : Val) (r : Result ℕ Fault) → at + size false s ≤ length a.memory → place < 2 ^ 64
+  pub members_store : (a c : Parts T G) (place : ℕ) (s : Shape) (ms : Members) (at : ℕ) (names : List Name) (vs : List Val) (v : Val) (r : Result ℕ Fault) → at + size false s ≤ length a.memory
       → LiesAs s ms → HasMembers s names vs v → length vs ≡ member_count ms → passes v s ≡ all_passes ms vs → PartsStoreTo L.seen L.moves options a c place ms 0 at names vs (cap (place + 1)) r
       → StoresTo L.seen L.moves options a c s at v place r
   unfolding product_stored fixed_stored attempt_as
-  members_store a c place (product k ns) ms at names vs v r room few e p count given h =
+  members_store a c place (product k ns) ms at names vs v r room e p count given h =
       let Inner : Members → Type 0 = λ xs. (q : StoresMembers false (stage_of L.seen L.moves a) (stage_of L.seen L.moves c) (host_texts (encoding_by a options)) xs 0 at (MemberNamed xs names vs) h.handles (ending_of r))
       × Enacted a.ledger (members_deeds (encoding_by a options) a.component.types xs place names vs (cap (place + 1))) (stop_in r) q.answers q.trap h.handles c.ledger in
       let inner : Inner ns = subst Inner e (h.storing, h.enacted) in
@@ -339,13 +338,12 @@ module _ {T G : Type 0} (L : GuestLaws G) (options : ℕ) where
         enacted = enacted_as (members_deeds (encoding_by a options) a.component.types ns place names vs (cap (place + 1))) (deeds (encoding_by a options) a.component.types (product k ns) v place) (stop_in r) a.ledger c.ledger
             inner.0.answers inner.0.trap h.handles (deeds_product (encoding_by a options) a.component.types k ns names vs v place p (count ∙ ap member_count e)) inner.1;
         handed = passes_as a.component.types a.ledger c.ledger (all_passes ms vs) (passes v (product k ns)) h.handles r given h.handed;
-        counted = product_counts (encoding_by a options) place k ns names vs v r few p (count ∙ ap member_count e) (subst (λ (xs : Members). FieldsCount (encoding_by a options) place xs names vs (cap (place + 1)) r) e h.counted);
+        counted = product_counts (encoding_by a options) place k ns names vs v r p (subst (λ (xs : Members). FieldsCount (encoding_by a options) xs names vs (cap (place + 1)) r) e h.counted);
         same = h.same;
         quiet = λ none. h.quiet (ap have_block e ∙ none);
       }
-  members_store a c place (fixed n s) ms at names vs v r room few e (en, (xs, ev, same)) count given h =
+  members_store a c place (fixed n s) ms at names vs v r room e (en, (xs, ev, same)) count given h =
       let enough : length vs ≡ n = count ∙ (ap member_count e ∙ copies_count n s) in
-      let named : names ≡ member_names (copies n s) = en ∙ copies_names n s vs enough in
       let Inner : Members → Type 0 = λ ys. (q : StoresMembers false (stage_of L.seen L.moves a) (stage_of L.seen L.moves c) (host_texts (encoding_by a options)) ys 0 at (MemberNamed ys names vs) h.handles (ending_of r))
       × Enacted a.ledger (members_deeds (encoding_by a options) a.component.types ys place names vs (cap (place + 1))) (stop_in r) q.answers q.trap h.handles c.ledger in
       let inner : Inner (copies n s) = subst Inner e (h.storing, h.enacted) in
@@ -359,14 +357,14 @@ module _ {T G : Type 0} (L : GuestLaws G) (options : ℕ) where
             inner.0.answers inner.0.trap h.handles (deeds_fixed (encoding_by a options) a.component.types n s names vs v place (xs, ev, same) en enough) inner.1;
         handed = passes_as a.component.types a.ledger c.ledger (all_passes ms vs) (passes v (fixed n s)) h.handles r given h.handed;
         counted = fixed_counted (encoding_by a options) n s names vs v place r enough (xs, ev, same)
-            (value_count_members (encoding_by a options) place (copies n s) names vs (cap (place + 1)) r named (subst (λ (ys : Members). FieldsCount (encoding_by a options) place ys names vs (cap (place + 1)) r) e h.counted));
+            (value_count_members (encoding_by a options) (copies n s) names vs (cap (place + 1)) r (subst (λ (ys : Members). FieldsCount (encoding_by a options) ys names vs (cap (place + 1)) r) e h.counted));
         same = h.same;
         quiet = λ none. h.quiet (ap have_block e ∙ copies_quiet n s none);
       }
-  members_store a c place (scalar k) ms at names vs v r room few e p count given h = absurd e
-  members_store a c place string ms at names vs v r room few e p count given h = absurd e
-  members_store a c place (own i) ms at names vs v r room few e p count given h = absurd e
-  members_store a c place (borrow i) ms at names vs v r room few e p count given h = absurd e
-  members_store a c place (list k s) ms at names vs v r room few e p count given h = absurd e
-  members_store a c place (variant k cs) ms at names vs v r room few e p count given h = absurd e
-  members_store a c place (flags ns) ms at names vs v r room few e p count given h = absurd e
+  members_store a c place (scalar k) ms at names vs v r room e p count given h = absurd e
+  members_store a c place string ms at names vs v r room e p count given h = absurd e
+  members_store a c place (own i) ms at names vs v r room e p count given h = absurd e
+  members_store a c place (borrow i) ms at names vs v r room e p count given h = absurd e
+  members_store a c place (list k s) ms at names vs v r room e p count given h = absurd e
+  members_store a c place (variant k cs) ms at names vs v r room e p count given h = absurd e
+  members_store a c place (flags ns) ms at names vs v r room e p count given h = absurd e

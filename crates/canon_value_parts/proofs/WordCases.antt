@@ -63,9 +63,9 @@ unfolding flat
 variant_flat k cs = refl
 
 case_words_counted : (enc : Encoding) (place : ℕ) (k : VariantKind) (cs : Cases) (d : ℕ) (names : List Name) (vs : List Val) (v : Val) (r : Result ℕ Fault) → IsCase k cs d vs v
-    → names ≡ member_names (case_members cs d) → FieldsCount enc place (case_members cs d) names vs (cap (place + 1)) r
+    → FieldsCount enc (case_members cs d) names vs (cap (place + 1)) r
     → PlacesCounted enc (λ how j. FailsAt how (variant k cs) v j) place (places v) r
-case_words_counted enc place k cs d names vs v r of named h = case_counted enc k cs d vs v place r of (value_count_members enc place (case_members cs d) names vs (cap (place + 1)) r named h)
+case_words_counted enc place k cs d names vs v r of h = case_counted enc k cs d vs v place r of (value_count_members enc (case_members cs d) names vs (cap (place + 1)) r h)
 
 module _ {T G : Type 0} (L : GuestLaws G) (options : ℕ) where
   -- `dst1` has the case's number in its first word, `dst2` the payload behind it, and `dst3` zeros up to the end
@@ -100,7 +100,7 @@ module _ {T G : Type 0} (L : GuestLaws G) (options : ℕ) where
           before = λ p l. clears.written.stays.before p (omega (arith, l, h.passed)) ∙ (h.stays.before p (omega (arith, l)) ∙ (ap (λ (xs : List ℕ). slice_index xs p) e1 ∙ get_or-set_other dst from.word p d 0 (omega (arith, l))));
         };
         passed = refl;
-        counted = case_words_counted enc from.place k cs d names vs v (Ok past.place) of named h.counted;
+        counted = case_words_counted enc from.place k cs d names vs v (Ok past.place) of h.counted;
         same = h.same;
         quiet = λ none. h.quiet (case_quiet cs d none);
       }
@@ -133,7 +133,7 @@ module _ {T G : Type 0} (L : GuestLaws G) (options : ℕ) where
           before = λ p l. h.stays.before p (omega (arith, l)) ∙ (ap (λ (xs : List ℕ). slice_index xs p) e1 ∙ get_or-set_other dst from.word p d 0 (omega (arith, l)));
         };
         passed = tt;
-        counted = case_words_counted enc from.place k cs d names vs v (Err e) of named h.counted;
+        counted = tt;
         same = h.same;
         quiet = λ none. h.quiet (case_quiet cs d none);
       }

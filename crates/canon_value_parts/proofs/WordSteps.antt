@@ -1,5 +1,5 @@
 -- Steps of lowering to words, over plain variables.
-use Rattle.std.proofs.Common.{◌∙◌, ◌++◌, List, [], ◌∷◌, subst, sym, ◌≡◌, ◌≤◌, ◌<◌, ◌+◌, ◌^◌, Err, Ok, Result, Some, ap, arith, inl, inr, length, refl, set, suc, true, zero, ℕ, ◌%◌, false}
+use Rattle.std.proofs.Common.{◌∙◌, ◌++◌, List, [], ◌∷◌, subst, sym, ◌≡◌, ◌≤◌, ◌<◌, ◌+◌, ◌^◌, Err, Ok, Result, Some, ap, arith, length, refl, set, suc, true, zero, ℕ, ◌%◌, false}
 use Rattle.canon_model.specs.Homes.{host_texts}
 use Rattle.canon_model.specs.Shape.{Cases, Members, Shape, bare, borrow, fixed, flags, list, member, no_cases, no_members, own, payload, product, scalar, string, variant, Name, member_count}
 use Rattle.canon_model.specs.Tree.{Tree, Trees, no_trees, payload_of}
@@ -10,9 +10,9 @@ use Rattle.canon_val.specs.declared.val.Val.{Val}
 use Rattle.canon_value_parts.proofs.Contents.{each_count}
 use Rattle.canon_lowering.proofs.Parameters.{args_near}
 use Rattle.canon_passing.proofs.Shapes.{copies_quiet, no_first, no_later}
-use Rattle.canon_value_parts.proofs.Walks.{copies_names, fixed_back, fixed_counted, fixed_is, product_back, product_is}
+use Rattle.canon_value_parts.proofs.Walks.{fixed_back, fixed_counted, fixed_is, product_back, product_is}
 use Rattle.canon_plan.proofs.Lookups.{copies_count}
-use Rattle.canon_value_parts.proofs.Steps.{blocks_none, blames_first}
+use Rattle.canon_value_parts.proofs.Steps.{blocks_none}
 use Rattle.canon_value_parts.specs.Viewed.{BlamesItself, HasMembers}
 use Rattle.canon_plan.specs.Plan.{LiesAs}
 use Rattle.canon_model.specs.Requests.{requests}
@@ -32,7 +32,6 @@ use Rattle.canon_model.specs.Text.{Encoding}
 use Rattle.canon_types.specs.Table.{shape_of}
 use Rattle.canon_types.specs.declared.types.InterfaceType.{InterfaceType}
 use Rattle.canon_context.specs.Core.{Parts, component_types, encoding_by, stage_of}
-use Rattle.canon_value_parts.specs.Fails.{Blames, FailsAt, MemberFails}
 use Rattle.canon_context.specs.Lowers.{ending_of, fault_ending}
 use Rattle.canon_context.specs.Quiet.{has_block, have_block}
 use Rattle.canon_value_parts.specs.Stores.{PlacesTo, FieldsCount}
@@ -57,7 +56,7 @@ use Rattle.canon_passing.specs.Deeds.{Deed, Enacted, stop_in}
 use Rattle.canon_passing.proofs.Far.{params_near}
 use Rattle.canon_value_parts.specs.ValueDeeds.{args_deeds, deeds, members_deeds, row_deeds}
 use Rattle.canon_value_parts.proofs.DeedSteps.{deeds_fixed, deeds_product, enacted_as, enacted_cons, enacted_misnamed, enacted_none, enacted_refused, enacted_scalar, enacted_stop}
-use Rattle.canon_value_parts.proofs.StoreSteps.{MemberNamed, heads, named_join, named_split, fields_count, product_counts, value_count_members}
+use Rattle.canon_value_parts.proofs.StoreSteps.{MemberNamed, named_join, named_split, fields_count, product_counts, value_count_members}
 use Rattle.canon_passing.proofs.Words.{first_stay, stays_then}
 
 -- ---- a value's lists of fixed length are as long as its type says
@@ -105,10 +104,10 @@ passed_both from mid n m (Err x) e h = tt
 module _ {T G : Type 0} (L : GuestLaws G) (options : ℕ) where
   -- ---- a value by itself
 
-  pub value_refused : (a : Parts T G) (dst : List ℕ) (from : Spot) (s : Shape) (v : Val) (e : Fault) → length a.memory ≤ 2 ^ 32 → IsOwn e → BlamesItself s v from.place e → Blames (encoding_by a options) (λ how k. FailsAt how s v k) from.place e
+  pub value_refused : (a : Parts T G) (dst : List ℕ) (from : Spot) (s : Shape) (v : Val) (e : Fault) → length a.memory ≤ 2 ^ 32 → IsOwn e → BlamesItself s v from.place e
       → LowersTo L.seen L.moves options a a dst dst from (Err e) s v
   unfolding attempt_refused
-  value_refused a dst from s v e small is fails b =
+  value_refused a dst from s v e small is fails =
       let Stood : Ending → Type 0 = λ end. (q : LowersValue false (stage_of L.seen L.moves a) (stage_of L.seen L.moves a) (host_texts (encoding_by a options)) s dst from.word (HasTree s v) [] end)
       × Enacted a.ledger (deeds (encoding_by a options) a.component.types s v from.place) (Some e) q.answers q.trap [] a.ledger in
       let stood : Stood (fault_ending e) = subst Stood (sym (own_ends e is)) (attempt_refused false (stage_of L.seen L.moves a) [] _ small, enacted_refused (encoding_by a options) a.component.types s v from.place e a.ledger fails) in
@@ -119,7 +118,7 @@ module _ {T G : Type 0} (L : GuestLaws G) (options : ℕ) where
         handed = passes_stopped a.component.types a.ledger a.ledger (passes v s) e refl (own_elsewhere e is);
         stays = stays_none from.word dst;
         passed = tt;
-        counted = b;
+        counted = tt;
         same = refl;
         quiet = λ none. (refl, own_ends e is);
       }
@@ -234,8 +233,8 @@ module _ {T G : Type 0} (L : GuestLaws G) (options : ℕ) where
             h.handles k.handles en h.counted.0 h.enacted rest.1;
         stays = stays_then from.word mid.word dst dst2 dst3 (omega (arith, h.passed)) h.stays k.stays;
         passed = passed_both from mid (flat s) (members_flat ms) r h.passed k.passed;
-        counted = fields_count enc place name named s ms names v vs from.place mid.place (place_after r) en h.counted.0 h.counted.1
-            (subst (λ (x : Encoding). FieldsCount x place ms names vs mid.place (place_after r)) (handles_encoding a b options h.same) k.counted);
+        counted = fields_count enc name named s ms names v vs from.place mid.place (place_after r) en h.counted.0 h.counted.1
+            (subst (λ (x : Encoding). FieldsCount x ms names vs mid.place (place_after r)) (handles_encoding a b options h.same) k.counted);
         same = handles_then a b c h.same k.same;
         quiet = λ none. let one = h.quiet (no_first (has_block s) (have_block ms) none) in let others =
             k.quiet (no_later (has_block s) (have_block ms) none) in (others.0 ∙ ap (λ (x : Parts T G). record x { ledger = c.ledger }) one.0, others.1);
@@ -253,7 +252,7 @@ module _ {T G : Type 0} (L : GuestLaws G) (options : ℕ) where
     enacted = enacted_stop (encoding_by a options) a.component.types name named s ms place names v vs from.place a.ledger b.ledger e h.lowered.answers h.lowered.trap h.handles en h.enacted;
     stays = h.stays;
     passed = tt;
-    counted = inr (blames_first (encoding_by a options) (λ how k. FailsAt how s v k) (λ how k. MemberFails how (member name s ms) (v ∷ vs) k) from.place e (λ how j f. inl f) h.counted);
+    counted = tt;
     same = h.same;
     quiet = λ none. h.quiet (no_first (has_block s) (have_block ms) none);
   }
@@ -269,18 +268,18 @@ module _ {T G : Type 0} (L : GuestLaws G) (options : ℕ) where
     enacted = enacted_misnamed (encoding_by a options) a.component.types name named s ms place names v vs from.place a.ledger other;
     stays = stays_none from.word dst;
     passed = tt;
-    counted = inl (refl, λ same. other (heads named name names (member_names ms) same));
+    counted = tt;
     same = refl;
     quiet = λ none. (refl, refl);
   }
 
   -- ---- a value from its members
 
-  pub members_lower : (a c : Parts T G) (dst dst2 : List ℕ) (from : Spot) (s : Shape) (ms : Members) (names : List Name) (vs : List Val) (v : Val) (r : Result Spot Fault) → from.place < 2 ^ 64
+  pub members_lower : (a c : Parts T G) (dst dst2 : List ℕ) (from : Spot) (s : Shape) (ms : Members) (names : List Name) (vs : List Val) (v : Val) (r : Result Spot Fault)
       → LiesAs s ms → HasMembers s names vs v → length vs ≡ member_count ms → passes v s ≡ all_passes ms vs → PartsLowerTo L.seen L.moves options a c dst dst2 (inside from) r from.place ms names vs
       → LowersTo L.seen L.moves options a c dst dst2 from r s v
   unfolding flat product_words fixed_words attempt_as
-  members_lower a c dst dst2 from (product k ns) ms names vs v r few e p count given h =
+  members_lower a c dst dst2 from (product k ns) ms names vs v r e p count given h =
       let Inner : Members → Type 0 = λ xs. (q : LowersMembers false (stage_of L.seen L.moves a) (stage_of L.seen L.moves c) (host_texts (encoding_by a options)) xs dst2 from.word (MemberNamed xs names vs) h.handles (ending_of r))
       × Enacted a.ledger (members_deeds (encoding_by a options) a.component.types xs from.place names vs (cap (from.place + 1))) (stop_in r) q.answers q.trap h.handles c.ledger in
       let inner : Inner ns = subst Inner e (h.lowered, h.enacted) in
@@ -295,14 +294,13 @@ module _ {T G : Type 0} (L : GuestLaws G) (options : ℕ) where
         handed = passes_as a.component.types a.ledger c.ledger (all_passes ms vs) (passes v (product k ns)) h.handles r given h.handed;
         stays = h.stays;
         passed = subst (λ (n : ℕ). WordsPassed from n r) (ap members_flat e) h.passed;
-        counted = product_counts (encoding_by a options) from.place k ns names vs v (place_after r) few p (count ∙ ap member_count e)
-            (subst (λ (xs : Members). FieldsCount (encoding_by a options) from.place xs names vs (cap (from.place + 1)) (place_after r)) e h.counted);
+        counted = product_counts (encoding_by a options) from.place k ns names vs v (place_after r) p
+            (subst (λ (xs : Members). FieldsCount (encoding_by a options) xs names vs (cap (from.place + 1)) (place_after r)) e h.counted);
         same = h.same;
         quiet = λ none. h.quiet (ap have_block e ∙ none);
       }
-  members_lower a c dst dst2 from (fixed n s) ms names vs v r few e (en, p) count given h =
+  members_lower a c dst dst2 from (fixed n s) ms names vs v r e (en, p) count given h =
       let enough : length vs ≡ n = count ∙ (ap member_count e ∙ copies_count n s) in
-      let named : names ≡ member_names (copies n s) = en ∙ copies_names n s vs enough in
       let Inner : Members → Type 0 = λ ys. (q : LowersMembers false (stage_of L.seen L.moves a) (stage_of L.seen L.moves c) (host_texts (encoding_by a options)) ys dst2 from.word (MemberNamed ys names vs) h.handles (ending_of r))
       × Enacted a.ledger (members_deeds (encoding_by a options) a.component.types ys from.place names vs (cap (from.place + 1))) (stop_in r) q.answers q.trap h.handles c.ledger in
       let inner : Inner (copies n s) = subst Inner e (h.lowered, h.enacted) in
@@ -317,18 +315,18 @@ module _ {T G : Type 0} (L : GuestLaws G) (options : ℕ) where
         stays = h.stays;
         passed = subst (λ (k : ℕ). WordsPassed from k r) (ap members_flat e ∙ copies_flat n s) h.passed;
         counted = fixed_counted (encoding_by a options) n s names vs v from.place (place_after r) enough p
-            (value_count_members (encoding_by a options) from.place (copies n s) names vs (cap (from.place + 1)) (place_after r) named
-            (subst (λ (ys : Members). FieldsCount (encoding_by a options) from.place ys names vs (cap (from.place + 1)) (place_after r)) e h.counted));
+            (value_count_members (encoding_by a options) (copies n s) names vs (cap (from.place + 1)) (place_after r)
+            (subst (λ (ys : Members). FieldsCount (encoding_by a options) ys names vs (cap (from.place + 1)) (place_after r)) e h.counted));
         same = h.same;
         quiet = λ none. h.quiet (ap have_block e ∙ copies_quiet n s none);
       }
-  members_lower a c dst dst2 from (scalar k) ms names vs v r few e p count given h = absurd e
-  members_lower a c dst dst2 from string ms names vs v r few e p count given h = absurd e
-  members_lower a c dst dst2 from (own i) ms names vs v r few e p count given h = absurd e
-  members_lower a c dst dst2 from (borrow i) ms names vs v r few e p count given h = absurd e
-  members_lower a c dst dst2 from (list k s) ms names vs v r few e p count given h = absurd e
-  members_lower a c dst dst2 from (variant k cs) ms names vs v r few e p count given h = absurd e
-  members_lower a c dst dst2 from (flags ns) ms names vs v r few e p count given h = absurd e
+  members_lower a c dst dst2 from (scalar k) ms names vs v r e p count given h = absurd e
+  members_lower a c dst dst2 from string ms names vs v r e p count given h = absurd e
+  members_lower a c dst dst2 from (own i) ms names vs v r e p count given h = absurd e
+  members_lower a c dst dst2 from (borrow i) ms names vs v r e p count given h = absurd e
+  members_lower a c dst dst2 from (list k s) ms names vs v r e p count given h = absurd e
+  members_lower a c dst dst2 from (variant k cs) ms names vs v r e p count given h = absurd e
+  members_lower a c dst dst2 from (flags ns) ms names vs v r e p count given h = absurd e
 
 -- ---- parameters in a row, whose names are none
 

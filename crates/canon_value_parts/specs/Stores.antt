@@ -1,13 +1,13 @@
 -- How values are stored one after another: each at its place of memory, and its fault, if it fails, at its place among the
 -- values. A core goes from one to another.
-use Rattle.std.specs.Prelude.{◌≡◌, ◌+◌, ◌<◌, ◌^◌, ◌⊎◌, Err, IfOk, List, Ok, Result, [], ◌∷◌, false, ℕ}
+use Rattle.std.specs.Prelude.{◌≡◌, ◌+◌, ◌<◌, ◌^◌, Err, IfOk, List, Ok, Result, [], ◌∷◌, false, ℕ}
 use Rattle.canon_lowering.specs.Attempt.{LowersValue, StoresMembers, StoresValue}
 use Rattle.canon_memory.specs.Guest.{GuestIn, Seen}
 use Rattle.canon_memory.specs.declared.event.Event.{Event}
 use Rattle.canon_model.specs.Homes.{host_texts}
 use Rattle.canon_model.specs.Shape.{Members, Name, Shape}
 use Rattle.canon_context.specs.Core.{Parts, encoding_by, stage_of}
-use Rattle.canon_value_parts.specs.Fails.{AreSmall, Blames, Failure, FailsAt, MemberFails, NoneTooLarge}
+use Rattle.canon_value_parts.specs.Fails.{AreSmall, Failure, FailsAt, NoneTooLarge}
 use Rattle.canon_context.specs.Lowers.{ending_of}
 use Rattle.canon_context.specs.Quiet.{Quiet, has_block, have_block}
 use Rattle.canon_passing.specs.Deeds.{Enacted, stop_in}
@@ -18,20 +18,17 @@ use Rattle.canon_val.specs.Value.{HasTree, HaveTrees, all_places, member_names, 
 use Rattle.canon_model.specs.Memory.{cap}
 use Rattle.canon_value_parts.specs.declared.blocks.Placed.{Placed}
 use Rattle.canon_context.specs.declared.fault.Fault.{Fault}
-use Rattle.canon_context.specs.declared.fault.Fault.TheVariants as fault
 use Rattle.canon_val.specs.declared.val.Val.{Val}
 use Rattle.canon_model.specs.Text.{Encoding}
 use Rattle.canon_context.specs.Asks.{SameButHandles}
 
--- n places were counted from `from` on and nothing there is too large, or the fault is reported at its place
+-- n places were counted from `from` on and nothing there is too large
 abbrev pub PlacesCounted : Encoding → (Failure → ℕ → Type 0) → ℕ → ℕ → Result ℕ Fault → Type 0
-PlacesCounted enc F from n (Ok next) = (next ≡ cap (from + n)) × NoneTooLarge enc F
-PlacesCounted enc F from n (Err e) = Blames enc F from e
+PlacesCounted enc F from n result = IfOk result (λ next. (next ≡ cap (from + n)) × NoneTooLarge enc F)
 
--- the same of the fields of a record that has this place, with their names
-abbrev pub FieldsCount : Encoding → ℕ → Members → List Name → List Val → ℕ → Result ℕ Fault → Type 0
-FieldsCount enc place ms names vs from (Ok next) = (names ≡ member_names ms) × (next ≡ cap (from + all_places vs)) × AreSmall enc ms vs
-FieldsCount enc place ms names vs from (Err e) = ((e ≡ fault.FieldName place) × ¬ (names ≡ member_names ms)) ⊎ Blames enc (λ how k. MemberFails how ms vs k) from e
+-- the same of members with these names, which are the type's
+abbrev pub FieldsCount : Encoding → Members → List Name → List Val → ℕ → Result ℕ Fault → Type 0
+FieldsCount enc ms names vs from result = IfOk result (λ next. (names ≡ member_names ms) × (next ≡ cap (from + all_places vs)) × AreSmall enc ms vs)
 
 -- the two words of a block, and the place after what stands there
 abbrev pub placed_words : Result Placed Fault → List ℕ
@@ -59,7 +56,7 @@ module _ {T G : Type 0} (seen : G → Seen) (moves : GuestIn G → List Event �
     pub storing : StoresMembers false (stage_of seen moves before) (stage_of seen moves after) (host_texts (encoding_by before options)) ms o at (λ ts. (names ≡ member_names ms) × HaveTrees ms vs ts) handles (ending_of result)
     pub handed : LowersHandles before.component.types before.ledger after.ledger (all_passes ms vs) handles result
     pub enacted : Enacted before.ledger (members_deeds (encoding_by before options) before.component.types ms place names vs from) (stop_in result) storing.answers storing.trap handles after.ledger
-    pub counted : FieldsCount (encoding_by before options) place ms names vs from result
+    pub counted : FieldsCount (encoding_by before options) ms names vs from result
     pub same : SameButHandles before after
     pub quiet : Quiet (have_block ms) (after.guest ≡ before.guest) result
 

@@ -74,6 +74,6 @@ module _ {T G : Type 0} (seen : G → Seen) (moves : GuestIn G → List Event �
     pub enacted : Enacted before.ledger (members_deeds (encoding_by before options) before.component.types ms place names vs from.place) (stop_in result) lowered.answers lowered.trap handles after.ledger
     pub stays : WordsStay from.word dst dst2
     pub passed : WordsPassed from (members_flat ms) result
-    pub counted : FieldsCount (encoding_by before options) place ms names vs from.place (place_after result)
+    pub counted : FieldsCount (encoding_by before options) ms names vs from.place (place_after result)
     pub same : SameButHandles before after
     pub quiet : Quiet (have_block ms) (after ≡ record before { ledger = after.ledger }) result

@@ -1,6 +1,6 @@
 //! Values, lowered into words.
 
-ghost use Rattle.std.specs.Prelude.{ℕ, ◌≡◌, ◌≤◌, ◌<◌, ◌+◌, ◌^◌, ◌∷◌, [], IfErr, Ok, OnOk, false, length};
+ghost use Rattle.std.specs.Prelude.{ℕ, ◌≡◌, ◌≤◌, ◌<◌, ◌+◌, ◌^◌, ◌∷◌, [], Ok, OnOk, false, length};
 ghost use Rattle.canon_model.specs.Homes.{host_texts};
 ghost use Rattle.canon_lowering.specs.Attempt.{LowersMembers};
 ghost use Rattle.canon_model.specs.Flat.{SameWords, max_params};
@@ -15,7 +15,7 @@ ghost use Rattle.canon_value_parts.specs.Resources.{all_passes};
 ghost use Rattle.canon_context.specs.Core.{component_types, encoding_by, stage_of};
 ghost use Rattle.canon_plan.specs.Element.{IsKnown, list_shape};
 ghost use Rattle.canon_value_parts.specs.Elements.{element_in, list_value};
-ghost use Rattle.canon_value_parts.specs.Fails.{AreSmall, BlamesMembers};
+ghost use Rattle.canon_value_parts.specs.Fails.{AreSmall};
 ghost use Rattle.canon_context.specs.Lowers.{ending_of};
 ghost use Rattle.canon_context.specs.Quiet.{Quiet, have_block};
 ghost use Rattle.canon_context.specs.Asks.{SameButHandles};
@@ -57,7 +57,6 @@ pub fn lower_args_near<T, G: Guest>(
         (tuple_members (component_types core.old) ty) (HaveTrees (tuple_members (component_types core.old) ty) args.now)
         (args_deeds (encoding_by core.old options) core.old.component.types (tuple_members (component_types core.old) ty) args.now) core.old.ledger core.new.ledger
         (stop_in result) dst.new hs (ending_of result)) result }
-    ensures cause { IfErr result (BlamesMembers (encoding_by core.old options) (tuple_members (component_types core.old) ty) args.now) }
     ensures small { OnOk result (AreSmall (encoding_by core.old options) (tuple_members (component_types core.old) ty) args.now) }
     ensures quiet { Quiet (have_block (tuple_members (component_types core.old) ty)) (core.new ≡ record core.old { ledger = core.new.ledger }) result }
     ensures same_core { SameButHandles core.old core.new }
@@ -87,7 +86,6 @@ pub fn lower_results_near<T, G: Guest>(
         (tuple_members (component_types core.old) ty) dst.new 0 (HaveTrees (tuple_members (component_types core.old) ty) results.now) hs (ending_of result))
         × Enacted core.old.ledger (row_deeds (encoding_by core.old options) core.old.component.types (tuple_members (component_types core.old) ty) results.now)
         (stop_in result) low.answers low.trap hs core.new.ledger) result }
-    ensures cause { IfErr result (BlamesMembers (encoding_by core.old options) (tuple_members (component_types core.old) ty) results.now) }
     ensures small { OnOk result (AreSmall (encoding_by core.old options) (tuple_members (component_types core.old) ty) results.now) }
     ensures quiet { Quiet (have_block (tuple_members (component_types core.old) ty)) (core.new ≡ record core.old { ledger = core.new.ledger }) result }
     ensures same_core { SameButHandles core.old core.new }

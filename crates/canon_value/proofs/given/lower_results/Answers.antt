@@ -1,7 +1,12 @@
-use Rattle.std.proofs.Common.{Some, refl}
+use Rattle.std.proofs.Common.{Some, refl, ⊎_elim}
+use Rattle.std.proofs.lemmas.Bool.{cases_lt}
+use Rattle.canon_model.specs.Flat.{max_results}
+use Rattle.canon_model.specs.Layout.{members_flat}
 use Rattle.canon_context.specs.Core.{component_types, encoding_by, stage_of}
 use Rattle.canon_context.specs.Quiet.{have_block, have_handle}
 use Rattle.canon_types.specs.Table.{tuple_members}
+use Rattle.canon_value_parts.proofs.Blaming.{row_blames}
+use Rattle.canon_value_parts.proofs.Lookups.{tuple_names}
 use Rattle.canon_value_parts.proofs.Crossing.{crossed, quiet_but, told_blames}
 use Rattle.canon_value_parts.proofs.PassesOf.{no_row_passes}
 use Rattle.canon_passing.specs.Args.{EnactsResults}
@@ -36,7 +41,16 @@ pub returns-in-Err-clause-cause : goal.returns-in-Err-clause-cause
 returns-in-Err-clause-cause g c =
     let a = c.args in
     let core = a.cx.now.core.now in
-    told_blames (encoding_by core a.cx.now.options) (λ how k. MemberFails how (tuple_members (component_types core) a.ty) a.results.now k) 0 c.in-Err.fault c.told.result c.told.ensures c.in-Err.ensures.cause
+    let enc = encoding_by core a.cx.now.options in
+    let ms = tuple_members (component_types core) a.ty in
+    let named = tuple_names (component_types core) a.ty a.results.now c.requires.count in
+    let left = c.lower_results_by_size.new.core.ledger in
+    let h = c.in-Err.ensures.lowered in
+    let low = h.lowered.lowered in
+    told_blames enc (λ how k. MemberFails how ms a.results.now k) 0 c.in-Err.fault c.told.result c.told.ensures (⊎_elim
+    (λ many. row_blames enc core.component.types ms a.results.now core.ledger left c.in-Err.fault (low.far many).answers (low.far many).trap h.handles named (h.lowered.far many))
+    (λ few. row_blames enc core.component.types ms a.results.now core.ledger left c.in-Err.fault (low.near few).answers (low.near few).trap h.handles named (h.lowered.near few))
+    (cases_lt max_results (members_flat ms)))
 
 pub returns-in-Ok-clause-quiet : goal.returns-in-Ok-clause-quiet
 returns-in-Ok-clause-quiet g c = λ none. c.in-Ok.ensures.quiet none

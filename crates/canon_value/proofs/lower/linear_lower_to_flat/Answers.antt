@@ -1,9 +1,10 @@
-use Rattle.std.proofs.Common.{Some, false, refl}
+use Rattle.std.proofs.Common.{Some, arith, false, refl}
 use Rattle.canon_model.specs.Homes.{host_texts}
 use Rattle.canon_context.specs.Core.{component_types, encoding_by, stage_of}
 use Rattle.canon_context.specs.Quiet.{has_block, has_handle}
 use Rattle.canon_lowering.specs.Attempt.{LowersValue}
 use Rattle.canon_types.specs.Table.{shape_of}
+use Rattle.canon_value_parts.proofs.Blaming.{value_blames}
 use Rattle.canon_value_parts.proofs.Crossing.{crossed, quiet_but, told_blames}
 use Rattle.canon_value_parts.proofs.PassesOf.{no_passes}
 use Rattle.canon_value_parts.specs.Fails.{FailsAt}
@@ -35,7 +36,11 @@ pub returns-in-Err-clause-cause : goal.returns-in-Err-clause-cause
 returns-in-Err-clause-cause g c =
     let a = c.args in
     let core = a.cx.now.core.now in
-    told_blames (encoding_by core a.cx.now.options) (λ how k. FailsAt how (shape_of (component_types core) a.ty) a.value.now k) 0 c.in-Err.fault c.told.result c.told.ensures c.in-Err.ensures.lowers.counted
+    let enc = encoding_by core a.cx.now.options in
+    let s = shape_of (component_types core) a.ty in
+    let h = c.in-Err.ensures.lowers in
+    told_blames enc (λ how k. FailsAt how s a.value.now k) 0 c.in-Err.fault c.told.result c.told.ensures
+    (value_blames enc core.component.types s a.value.now 0 0 core.ledger c.lower_value.new.core.ledger c.in-Err.fault h.lowered.answers h.lowered.trap h.handles (omega arith) (h.enacted 0))
 
 pub returns-in-Err-clause-quiet : goal.returns-in-Err-clause-quiet
 returns-in-Err-clause-quiet g c =

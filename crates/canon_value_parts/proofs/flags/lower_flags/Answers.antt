@@ -23,7 +23,7 @@ returns-then-not-put_flags-clause-lowers g c options =
     let t = c.types-types.result.now in
     let shape = ap (λ (x : TypeTable). shape_of x (ty.Flags a.i)) (sym c.types-types.ensures) ∙ flags_are t a.i c.flags.result.now c.flags.ensures.entry in
     flags_not_lowered L options a.core.now (flag_names t a.i) a.set.now c.requires.small a.from.place a.dst.now c.put_flags.new.dst a.from refl c.put_flags.ensures.written.stays _ shape
-    (c.put_flags.ensures.unknown c.if-not-put_flags.true) (omega arith)
+    (c.put_flags.ensures.unknown c.if-not-put_flags.true)
 
 pub returns-clause-lowers : goal.returns-clause-lowers
 returns-clause-lowers g c options =

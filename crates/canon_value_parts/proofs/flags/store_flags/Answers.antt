@@ -55,7 +55,7 @@ returns-in_default g c =
     record {
       stores = λ options. subst (λ (x : Parts _ _). StoresTo L.seen L.moves options core x (shape_of (component_types core) (ty.Flags a.i)) a.at (val.Flags a.set.now) a.place (Err (fault.UnknownFlag a.place))) (sym inv.same)
           (flags_not_stored L options core names a.set.now c.requires.small a.place c.loop-name.core.memory _ (its_shape g at) a.at c.flags.result.now.abi.size32 (bytes_many g at)
-          (bytes_room g at) _ inv.stored unknown (omega arith));
+          (bytes_room g at) _ inv.stored unknown);
     }
 
 pub mark_byte-requires : goal.mark_byte-requires

@@ -9,7 +9,7 @@ use Rattle.canon_value_parts.proofs.HandleLifting.{handle_shape}
 use Rattle.canon_passing.proofs.Shapes.{handle_flat}
 use Rattle.canon_val.specs.declared.val.Val.{Val}
 use Rattle.canon_val.specs.declared.val.Val.TheVariants as val
-use Rattle.canon_context.specs.Core.{component_types, encoding_by}
+use Rattle.canon_context.specs.Core.{component_types}
 use Rattle.canon_value_parts.specs.Elements.{element_in}
 use Rattle.canon_value_parts.specs.View.{IsMember, viewed_names, viewed_shapes, viewed_values}
 use Rattle.canon_value_parts.specs.Words.{LowersTo, PartsLowerTo}
@@ -143,7 +143,7 @@ lower_value-returns-in-Ok-Members g t0 c =
     let r = c.lower_parts in
     record {
       lowers = members_lower L a.options core r.new.core a.dst.now r.new.dst a.from (shape_of t a.ty) (viewed_shapes t ms) (viewed_names ms) (viewed_values ms) a.value.now r.result
-          (omega arith) lies has count (members_passes t a.ty a.value.now ms seen)
+          lies has count (members_passes t a.ty a.value.now ms seen)
           (subst (λ (x : Spot). PartsLowerTo L.seen L.moves a.options core r.new.core a.dst.now r.new.dst x r.result a.from.place (viewed_shapes t ms) (viewed_names ms) (viewed_values ms)) c.inside.ensures r.ensures.lowers);
     }
 
@@ -161,8 +161,8 @@ lower_value-returns-in-Err g t0 c =
     let core = a.core.now in
     let L : GuestLaws _ = record { seen = g.G.Guest.seen; moves = g.G.Guest.moves; stays = g.met.G.Guest.stays; goes_on = g.met.G.Guest.goes_on } in
     let fails = rw c.types.ensures at c.in-Err.ensures in
-    let (is, blames) = blames_itself (shape_of (component_types core) a.ty) a.value.now a.from.place (omega arith) c.in-Err.fault fails in
-    record { lowers = value_refused L a.options core a.dst.now a.from (shape_of (component_types core) a.ty) a.value.now c.in-Err.fault c.requires.small is fails (blames (encoding_by core a.options)) }
+    let is = (blames_itself (shape_of (component_types core) a.ty) a.value.now a.from.place (omega arith) c.in-Err.fault fails).0 in
+    record { lowers = value_refused L a.options core a.dst.now a.from (shape_of (component_types core) a.ty) a.value.now c.in-Err.fault c.requires.small is fails }
 
 -- ---- a case
 

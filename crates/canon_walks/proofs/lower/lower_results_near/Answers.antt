@@ -1,10 +1,8 @@
 use Rattle.std.proofs.Common.{Err, Ok}
 use Rattle.canon_types.specs.Table.{tuple_members}
-use Rattle.canon_context.specs.Core.{component_types, encoding_by}
-use Rattle.canon_val.specs.Value.{no_names}
+use Rattle.canon_context.specs.Core.{component_types}
 use Rattle.canon_value_parts.proofs.Givens.{row_enacts}
 use Rattle.canon_value_parts.proofs.Lookups.{tuple_names}
-use Rattle.canon_value_parts.proofs.StoreSteps.{value_count_members}
 use Rattle.canon_walks.proofs.lower.lower_results_near.Goals as goal
 
 pub returns-in-Ok-clause-lowered : goal.returns-in-Ok-clause-lowered
@@ -31,15 +29,5 @@ returns-in-Err-clause-lowered g c =
       passed = low.handed;
     }
 
-pub returns-in-Err-clause-cause : goal.returns-in-Err-clause-cause
-returns-in-Err-clause-cause g c =
-    let a = c.args in
-    let t = component_types a.core.now in
-    value_count_members (encoding_by a.core.now a.options) 0 (tuple_members t a.ty) (no_names a.results.now) a.results.now 0 (Err c.in-Err.fault)
-    (tuple_names t a.ty a.results.now c.requires.count) c.in-Err.ensures.lowers.counted
-
 pub returns-in-Ok-clause-small : goal.returns-in-Ok-clause-small
-returns-in-Ok-clause-small g c =
-    let a = c.args in
-    let t = component_types a.core.now in
-    (value_count_members (encoding_by a.core.now a.options) 0 (tuple_members t a.ty) (no_names a.results.now) a.results.now 0 (Ok _) (tuple_names t a.ty a.results.now c.requires.count) c.in-Ok.ensures.lowers.counted).1
+returns-in-Ok-clause-small g c = c.in-Ok.ensures.lowers.counted.2

@@ -12,7 +12,7 @@ use Rattle.canon_value_parts.proofs.HandleLifting.{handle_shape}
 use Rattle.canon_passing.proofs.Shapes.{handle_size}
 use Rattle.canon_val.specs.declared.val.Val.{Val}
 use Rattle.canon_val.specs.declared.val.Val.TheVariants as val
-use Rattle.canon_context.specs.Core.{Parts, component_types, encoding_by}
+use Rattle.canon_context.specs.Core.{Parts, component_types}
 use Rattle.canon_context.specs.Asks.{AsksFor}
 use Rattle.canon_value_parts.specs.Stores.{PartsStoreTo, StoresTo}
 use Rattle.canon_lowering.specs.Attempt.{items_call}
@@ -310,7 +310,7 @@ store_value-returns-in-Ok-Members g t0 c =
     let (known, lies, has, count) = seen in
     let ms = c.in-Ok-Members.members in
     record {
-      stores = members_store L a.options core c.store_parts.new.core a.place (shape_of t a.ty) (viewed_shapes t ms) a.at (viewed_names ms) (viewed_values ms) a.value.now c.store_parts.result c.requires.room (omega arith) lies has count
+      stores = members_store L a.options core c.store_parts.new.core a.place (shape_of t a.ty) (viewed_shapes t ms) a.at (viewed_names ms) (viewed_values ms) a.value.now c.store_parts.result c.requires.room lies has count
           (members_passes t a.ty a.value.now ms seen) (subst (λ (n : ℕ). PartsStoreTo L.seen L.moves a.options core c.store_parts.new.core a.place (viewed_shapes t ms) 0 a.at (viewed_names ms) (viewed_values ms) n
           c.store_parts.result)
           c.saturating_add.ensures c.store_parts.ensures.stores);
@@ -360,5 +360,5 @@ store_value-returns-in-Err g t0 c =
     let core = a.core.now in
     let L : GuestLaws _ = record { seen = g.G.Guest.seen; moves = g.G.Guest.moves; stays = g.met.G.Guest.stays; goes_on = g.met.G.Guest.goes_on } in
     let fails = rw c.types.ensures at c.in-Err.ensures in
-    let (is, blames) = blames_itself (shape_of (component_types core) a.ty) a.value.now a.place (omega arith) c.in-Err.fault fails in
-    record { stores = value_refused L a.options core (shape_of (component_types core) a.ty) a.at a.value.now a.place c.in-Err.fault c.requires.small is fails (blames (encoding_by core a.options)) }
+    let is = (blames_itself (shape_of (component_types core) a.ty) a.value.now a.place (omega arith) c.in-Err.fault fails).0 in
+    record { stores = value_refused L a.options core (shape_of (component_types core) a.ty) a.at a.value.now a.place c.in-Err.fault c.requires.small is fails }
