@@ -14,6 +14,7 @@ pub mod OptionSteps
 pub mod PairSteps
 pub mod ResultSteps
 pub mod Rows
+pub mod ScalarRows
 pub mod ScalarSteps
 pub mod Seen
 pub mod Stood

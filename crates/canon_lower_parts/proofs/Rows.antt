@@ -47,10 +47,10 @@ module _ {D G : Type 0} (L : GuestLaws G) (options : ℕ) {A : Type 0} (Walks : 
   abbrev pub Row : Parts D G → Parts D G → List A → Result (Unit {0}) Fault → Type 0
   Row a b xs r = TypedMembersStore L.seen L.moves options a b (copies (length xs) s) 0 at (EachMeans Walks xs) (flat_map gives xs) r
 
-  row_nothing : (a : Parts D G) (i : ℕ) → length a.memory ≤ 2 ^ 32 → RowFrom a a i [] (Ok tt)
+  pub row_nothing : (a : Parts D G) (i : ℕ) → length a.memory ≤ 2 ^ 32 → RowFrom a a i [] (Ok tt)
   row_nothing a i small = members_nothing L options a (i * size false s) at small
 
-  row_more : (a b c : Parts D G) (i : ℕ) (x : A) (xs : List A) (r : Result (Unit {0}) Fault) → TypedStores L.seen L.moves options a b s (at + i * size false s) (Walks x) (gives x) (Ok tt)
+  pub row_more : (a b c : Parts D G) (i : ℕ) (x : A) (xs : List A) (r : Result (Unit {0}) Fault) → TypedStores L.seen L.moves options a b s (at + i * size false s) (Walks x) (gives x) (Ok tt)
       → RowFrom b c (i + 1) xs r → RowFrom a c i (x ∷ xs) r
   row_more a b c i x xs r h k = members_more L options a b c s (copies (length xs) s) (i * size false s) at (Walks x) (EachMeans Walks xs) (gives x) (flat_map gives xs) r
       (subst (λ (n : ℕ). TypedStores L.seen L.moves options a b s (at + n) (Walks x) (gives x) (Ok tt)) (sym (row_begins s i)) h)

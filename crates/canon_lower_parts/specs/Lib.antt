@@ -8,6 +8,7 @@ pub mod Lists
 pub mod Lowers
 pub mod Pairs
 pub mod Places
+pub mod ScalarRows
 pub mod Scalars
 pub mod Stores
 pub mod Tuples
