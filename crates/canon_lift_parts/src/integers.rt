@@ -6,12 +6,13 @@ ghost use Rattle.canon_lift_parts.specs.Integers.{AreSpelled};
 ghost use Rattle.canon_lowering.specs.Storing.{narrow};
 ghost use Rattle.canon_model.specs.Memory.{num};
 
+use crate::reads::{read_u16, read_u32, read_u64};
 use canon_abi::OutOfMemory;
-use canon_bytes::{load_u8, load_u16, load_u32, load_u64};
+use canon_bytes::load_u8;
 use std::alloc::Global;
 
 /// An integer whose lowest byte stands first.
-pub trait Integer: Drop {
+pub trait Integer: Copy {
     // how many bytes it takes
     ghost bytes: { ℕ };
 
@@ -42,15 +43,47 @@ pub fn numbers<T: Integer>(
     ensures count { IfOk result (λ v. length v.items ≡ count) }
     ensures held { IfOk result (λ v. AreSpelled T.held T.bytes (narrow memory.now) pointer v.items) }
 {
-    let width = T::width();
-    let mut items = Vec::new(alloc);
-    for k in 0..count {
-        match items.push(T::load(memory, pointer + k * width)) {
-            Ok(()) => {}
-            Err(_) => return Err(OutOfMemory),
-        }
+    if count == 0 {
+        return Ok(Vec::new(alloc));
     }
+    let mut items = Vec::new(alloc);
+    match items.resize(count as usize, T::load(memory, pointer)) {
+        Ok(()) => {}
+        Err(_) => return Err(OutOfMemory),
+    }
+    read_row(memory, pointer, items.as_mut_slice());
     Ok(items)
+}
+
+/// Reads the integers that stand in a row from an address on, as many as there is place for.
+fn read_row<T: Integer>(memory: &[u8], pointer: u64, place: &mut [T])
+    requires inside { pointer + length place.old * T.bytes ≤ length memory.now }
+    ensures count { length place.new ≡ length place.old }
+    ensures held { AreSpelled T.held T.bytes (narrow memory.now) pointer place.new }
+{
+    let width = T::width();
+    for k in 0..place.len() {
+        place[k] = T::load(memory, pointer + k as u64 * width);
+    }
+}
+
+/// The bytes that stand in a row from an address on, by one copy.
+pub fn copied_bytes(
+    alloc: Global,
+    memory: &[u8],
+    pointer: u64,
+    count: u64,
+) -> Result<Vec<u8>, OutOfMemory>
+    requires inside { pointer + count ≤ length memory.now }
+    ensures count { IfOk result (λ v. length v.items ≡ count) }
+    ensures held { IfOk result (λ v. AreSpelled (λ x n. x ≡ n) 1 (narrow memory.now) pointer v.items) }
+{
+    let start = pointer as usize;
+    let mut bytes = Vec::new(alloc);
+    match bytes.extend_from_slice(&memory[start..start + count as usize]) {
+        Ok(()) => Ok(bytes),
+        Err(_) => Err(OutOfMemory),
+    }
 }
 
 impl Integer for i8 {
@@ -91,7 +124,7 @@ impl Integer for i16 {
     }
 
     fn load(memory: &[u8], at: u64) -> i16 {
-        load_u16(memory, at).cast_signed()
+        read_u16(memory, at).cast_signed()
     }
 }
 
@@ -105,7 +138,7 @@ impl Integer for u16 {
     }
 
     fn load(memory: &[u8], at: u64) -> u16 {
-        load_u16(memory, at)
+        read_u16(memory, at)
     }
 }
 
@@ -119,7 +152,7 @@ impl Integer for i32 {
     }
 
     fn load(memory: &[u8], at: u64) -> i32 {
-        load_u32(memory, at).cast_signed()
+        read_u32(memory, at).cast_signed()
     }
 }
 
@@ -133,7 +166,7 @@ impl Integer for u32 {
     }
 
     fn load(memory: &[u8], at: u64) -> u32 {
-        load_u32(memory, at)
+        read_u32(memory, at)
     }
 }
 
@@ -147,7 +180,7 @@ impl Integer for i64 {
     }
 
     fn load(memory: &[u8], at: u64) -> i64 {
-        load_u64(memory, at).cast_signed()
+        read_u64(memory, at).cast_signed()
     }
 }
 
@@ -161,6 +194,6 @@ impl Integer for u64 {
     }
 
     fn load(memory: &[u8], at: u64) -> u64 {
-        load_u64(memory, at)
+        read_u64(memory, at)
     }
 }

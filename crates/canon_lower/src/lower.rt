@@ -1,6 +1,6 @@
 //! The traits of Rust types whose values are lowered.
 
-ghost use Rattle.std.specs.Prelude.{◌≡◌, ◌≤◌, ◌+◌, ◌*◌, List, false, flat_map, length};
+ghost use Rattle.std.specs.Prelude.{◌≡◌, ◌≤◌, ◌+◌, ◌*◌, IsFalse, IsTrue, List, Ok, false, flat_map, length};
 ghost use Rattle.canon_context.specs.Core.{component_types};
 ghost use Rattle.canon_resources.specs.Parts.{Part};
 ghost use Rattle.canon_lower_parts.specs.Given.{IsGiven};
@@ -61,6 +61,27 @@ pub trait Lower: ComponentType {
         ensures same_reference { cx.new.core.ghost_name ≡ cx.old.core.ghost_name }
         ensures same_options { cx.new.options ≡ cx.old.options };
 
+    /// Stores values in a row at once, where the type can; else it does nothing and says so.
+    fn store_row<D, G: Guest>(
+        _cx: &mut LowerContext<'_, D, G>,
+        _ty: InterfaceType,
+        _offset: u64,
+        _items: &[Self],
+    ) -> bool
+    where
+        Self: Sized,
+        requires known { Knows (component_types _cx.old.core.now) _ty }
+        requires fits { Self.fits _cx.old.core.now.component.types _ty }
+        requires room { _offset + length _items.now * size false (shape_of (component_types _cx.old.core.now) _ty) ≤ length _cx.old.core.now.memory }
+        ensures stores { IsTrue result → TypedMembersStore G.seen G.moves _cx.old.options _cx.old.core.now _cx.new.core.now (copies (length _items.now) (shape_of (component_types _cx.old.core.now) _ty)) 0 _offset (EachMeans Self.walks _items.now)
+            (flat_map (gives _cx.old.core.now.component.types (shape_of (component_types _cx.old.core.now) _ty)) _items.now) (Ok tt) }
+        ensures left { IsFalse result → _cx.new.core.now ≡ _cx.old.core.now }
+        ensures same_reference { _cx.new.core.ghost_name ≡ _cx.old.core.ghost_name }
+        ensures same_options { _cx.new.options ≡ _cx.old.options }
+    {
+        false
+    }
+
     /// Stores values of the type `ty` in a row, the first at the address `offset` (CanonicalABI.md,
     /// "store_list_into_valid_range").
     final fn linear_store_list_to_memory<D, G: Guest>(
@@ -79,6 +100,9 @@ pub trait Lower: ComponentType {
         ensures same_reference { cx.new.core.ghost_name ≡ cx.old.core.ghost_name }
         ensures same_options { cx.new.options ≡ cx.old.options }
     {
+        if Self::store_row(cx, ty, offset, items) {
+            return Ok(());
+        }
         let _memory = cx.core.memory(); // memory has at most 2^32 bytes
         let size = u64::from(cx.types().canonical_abi(&ty).size32);
         for k in 0..items.len() {
@@ -134,6 +158,27 @@ pub trait LowerShared: ComponentType {
         ensures same_reference { cx.new.core.ghost_name ≡ cx.old.core.ghost_name }
         ensures same_options { cx.new.options ≡ cx.old.options };
 
+    /// Stores values in a row at once, where the type can; else it does nothing and says so.
+    fn store_row<D, G: Guest>(
+        _cx: &mut LowerContext<'_, D, G>,
+        _ty: InterfaceType,
+        _offset: u64,
+        _items: &[Self],
+    ) -> bool
+    where
+        Self: Sized,
+        requires known { Knows (component_types _cx.old.core.now) _ty }
+        requires fits { Self.fits _cx.old.core.now.component.types _ty }
+        requires room { _offset + length _items.now * size false (shape_of (component_types _cx.old.core.now) _ty) ≤ length _cx.old.core.now.memory }
+        ensures stores { IsTrue result → TypedMembersStore G.seen G.moves _cx.old.options _cx.old.core.now _cx.new.core.now (copies (length _items.now) (shape_of (component_types _cx.old.core.now) _ty)) 0 _offset (EachMeans Self.walks _items.now)
+            (flat_map (gives _cx.old.core.now.component.types (shape_of (component_types _cx.old.core.now) _ty)) _items.now) (Ok tt) }
+        ensures left { IsFalse result → _cx.new.core.now ≡ _cx.old.core.now }
+        ensures same_reference { _cx.new.core.ghost_name ≡ _cx.old.core.ghost_name }
+        ensures same_options { _cx.new.options ≡ _cx.old.options }
+    {
+        false
+    }
+
     /// Stores values of the type `ty` in a row, the first at the address `offset` (CanonicalABI.md,
     /// "store_list_into_valid_range").
     final fn linear_store_list_to_memory<D, G: Guest>(
@@ -152,6 +197,9 @@ pub trait LowerShared: ComponentType {
         ensures same_reference { cx.new.core.ghost_name ≡ cx.old.core.ghost_name }
         ensures same_options { cx.new.options ≡ cx.old.options }
     {
+        if Self::store_row(cx, ty, offset, items) {
+            return Ok(());
+        }
         let _memory = cx.core.memory(); // memory has at most 2^32 bytes
         let size = u64::from(cx.types().canonical_abi(&ty).size32);
         for k in 0..items.len() {

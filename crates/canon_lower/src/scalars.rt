@@ -5,7 +5,7 @@ ghost use Rattle.canon_lower_parts.specs.Gives.{no_handles};
 
 use crate::{Lower, LowerShared};
 use canon_context::{Fault, LowerContext};
-use canon_lower_parts::{WordScalar, lower_scalar, store_scalar};
+use canon_lower_parts::{RowScalar, lower_scalar, store_scalar, store_scalars};
 use canon_memory::{Guest, ValRaw};
 use canon_typed::{Float32Bits, Float64Bits};
 use canon_types::InterfaceType;
@@ -18,7 +18,7 @@ pub struct Of<S>(PhantomData<S>);
 /// The marked type is a scalar, which is lowered as one word.
 pub trait Scalar {}
 
-impl<S: WordScalar> Lower for S
+impl<S: RowScalar> Lower for S
 where
     Of<S>: Scalar,
 {
@@ -40,6 +40,16 @@ where
         offset: u64,
     ) -> Result<(), Fault> {
         store_scalar(*self, cx, ty, offset)
+    }
+
+    fn store_row<D, G: Guest>(
+        cx: &mut LowerContext<'_, D, G>,
+        ty: InterfaceType,
+        offset: u64,
+        items: &[S],
+    ) -> bool {
+        store_scalars(cx, ty, offset, items);
+        true
     }
 
     ghost walkable = { S.is_scalar.walkable };
@@ -47,7 +57,7 @@ where
     ghost given = { scalar_given S.kind S.walks S.is_scalar.shape };
 }
 
-impl<S: WordScalar> LowerShared for S
+impl<S: RowScalar> LowerShared for S
 where
     Of<S>: Scalar,
 {
@@ -69,6 +79,16 @@ where
         offset: u64,
     ) -> Result<(), Fault> {
         store_scalar(*self, cx, ty, offset)
+    }
+
+    fn store_row<D, G: Guest>(
+        cx: &mut LowerContext<'_, D, G>,
+        ty: InterfaceType,
+        offset: u64,
+        items: &[S],
+    ) -> bool {
+        store_scalars(cx, ty, offset, items);
+        true
     }
 
     ghost walkable = { S.is_scalar.walkable };

@@ -20,6 +20,7 @@ use Rattle.canon_model.specs.Tree.{Tree, number}
 use Rattle.canon_typed.specs.Meaning.{EachMeans}
 use Rattle.canon_lower_parts.proofs.Rows.{Row, RowFrom, row_more, row_nothing}
 use Rattle.canon_lower_parts.proofs.ScalarSteps.{lower_scalar_stores}
+use Rattle.canon_lower_parts.specs.Scalars.{IsWordOfScalar}
 use Rattle.canon_lower_parts.specs.ScalarRows.{AreWritten, IsScalarWritten}
 use Rattle.canon_lower_parts.specs.Stores.{IsPut, TypedMembersStore, TypedStores}
 
@@ -40,6 +41,14 @@ module _ {A : Type 0} (k : Scalar) (Walks : A → Tree → Type 0) where
       let here : at + suc (length ys) * scalar_size k ≡ at + scalar_size k + length ys * scalar_size k = omega (arith, suc-mul (length ys) (scalar_size k)) in
       (between, first, written_more ys x between mid after (at + scalar_size k) rest (subst (λ (a : ℕ). IsScalarWritten k (Walks x) mid a after) here one))
 
+  pub one_written : (x : A) (before after : List ℕ) (at p w n : ℕ) → scalar_size k ≡ n → p ≡ at → IsWordOfScalar k (Walks x) w → num (narrow after) at n ≡ w % 256 ^ n → Writes (block at n) before after → IsScalarWritten k (Walks x) before p after
+  one_written x before after at p w n size place is stored writes = record {
+    word = w;
+    is = is;
+    writes = subst (λ (q : ℕ). Writes (block q (scalar_size k)) before after) (sym place) (subst (λ (j : ℕ). Writes (block at j) before after) (sym size) writes);
+    stored = subst (λ (q : ℕ). num (narrow after) q (scalar_size k) ≡ w % 256 ^ scalar_size k) (sym place) (subst (λ (j : ℕ). num (narrow after) at j ≡ w % 256 ^ j) (sym size) stored);
+  }
+
   written_length : (xs : List A) (before after : List ℕ) (at : ℕ) → AreWritten k Walks before at xs after → length after ≡ length before
   written_length [] before after at h = ap length h
   written_length (x ∷ xs) before after at (between, first, rest) = written_length xs between after (at + scalar_size k) rest ∙ first.writes.same_length
@@ -57,13 +66,10 @@ scalar_bytes_are s k is = ap (size false) is
 -- ---- as a row of typed values
 
 module _ {D G : Type 0} (L : GuestLaws G) (options : ℕ) {A : Type 0} (Walks : A → Tree → Type 0) (s : Shape) (k : Scalar) (is : s ≡ scalar k) (at : ℕ) where
-  bytes_of : size false s ≡ scalar_size k
-  bytes_of = scalar_bytes_are s k is
-
   one_stored : (a : Parts D G) (i n : ℕ) (x : A) (mid : List ℕ) → length a.memory ≤ 2 ^ 32 → at + i * size false s + suc n * size false s ≤ length a.memory → IsScalarWritten k (Walks x) a.memory (at + i * size false s) mid
       → TypedStores L.seen L.moves options a (record a { memory = mid }) s (at + i * size false s) (Walks x) [] (Ok tt)
   one_stored a i n x mid small room one =
-      lower_scalar_stores L options a (record a { memory = mid }) s k (at + i * size false s) one.word (scalar_size k) (Walks x) small is (omega (arith, room, suc-mul n (size false s))) (sym bytes_of)
+      lower_scalar_stores L options a (record a { memory = mid }) s k (at + i * size false s) one.word (scalar_size k) (Walks x) small is (omega (arith, room, suc-mul n (size false s))) (sym (scalar_bytes_are s k is))
       (record { writes = one.writes; stored = one.stored; same = refl }) one.is
 
   scalars_from : (xs : List A) (i : ℕ) (a : Parts D G) (m : List ℕ) → length a.memory ≤ 2 ^ 32 → at + i * size false s + length xs * size false s ≤ length a.memory → AreWritten k Walks a.memory (at + i * size false s) xs m
@@ -72,7 +78,7 @@ module _ {D G : Type 0} (L : GuestLaws G) (options : ℕ) {A : Type 0} (Walks : 
       subst (λ (n : List ℕ). TypedMembersStore L.seen L.moves options a (record a { memory = n }) (copies 0 s) (i * size false s) at (EachMeans Walks []) [] (Ok tt)) (sym h) (row_nothing L options Walks (λ x. []) s at a i small)
   scalars_from (x ∷ xs) i a m small room (mid, one, rest) =
       let b : Parts D G = record a { memory = mid } in
-      let next : at + i * size false s + scalar_size k ≡ at + (i + 1) * size false s = omega (arith, bytes_of, add-mul i 1 (size false s), one-mul (size false s)) in
+      let next : at + i * size false s + scalar_size k ≡ at + (i + 1) * size false s = omega (arith, scalar_bytes_are s k is, add-mul i 1 (size false s), one-mul (size false s)) in
       row_more L options Walks (λ x. []) s at a b (record a { memory = m }) i x xs (Ok tt) (one_stored a i (length xs) x mid small room one)
       (scalars_from xs (i + 1) b m (omega (arith, small, one.writes.same_length)) (omega (arith, room, one.writes.same_length, suc-mul (length xs) (size false s), add-mul i 1 (size false s), one-mul (size false s)))
       (subst (λ (p : ℕ). AreWritten k Walks mid p xs m) next rest))
