@@ -10,7 +10,7 @@ ghost use Rattle.canon_lowering.specs.Storing.{narrow};
 use crate::WasmList;
 use canon_abi::OutOfMemory;
 use canon_context::MemoryView;
-use canon_lift_parts::numbers;
+use canon_lift_parts::{copied_bytes, numbers};
 use std::alloc::Global;
 
 impl WasmList<i8> {
@@ -31,7 +31,7 @@ impl WasmList<u8> {
         ensures count { IfOk result (λ v. length v.items ≡ self.now.count) }
         ensures items { IfOk result (λ v. AreSpelled (λ x n. x ≡ n) 1 (narrow view.now.bytes.now) self.now.pointer v.items) }
     {
-        numbers(alloc, view.memory(), self.pointer, self.count)
+        copied_bytes(alloc, view.memory(), self.pointer, self.count)
     }
 }
 

@@ -1,6 +1,6 @@
 //! The trait of Rust types that values are lifted to.
 
-ghost use Rattle.std.specs.Prelude.{◌≡◌, ◌≤◌, ◌+◌, ◌%◌, IfErr, IsTrue, MatchOption, false, length, true};
+ghost use Rattle.std.specs.Prelude.{◌≡◌, ◌≤◌, ◌+◌, ◌%◌, IfErr, IfSome, IsTrue, MatchOption, false, length, true};
 ghost use Rattle.canon_context.specs.Core.{component_types};
 ghost use Rattle.canon_model.specs.Layout.{align, flat, size};
 ghost use Rattle.canon_types.specs.Table.{Knows, shape_of};
@@ -70,6 +70,21 @@ pub trait Lift: ComponentType {
         ensures same_reference { cx.new.core.ghost_name ≡ cx.old.core.ghost_name }
         ensures same_options { cx.new.options ≡ cx.old.options };
 
+    /// Lifts the items of a list at once, where the type's are; else there is no answer.
+    fn lift_row<U, G>(
+        alloc: Global,
+        cx: &LiftContext<'_, U, G>,
+        list: &WasmList<Self>,
+    ) -> Option<Result<Vec<Self>, Fault>>
+    where
+        Self: Sized,
+        requires items { HasItems Self.fits (setting_in cx.now.core.now cx.now.options) list.now }
+        ensures lifts { IfSome result (λ r. Lifts (vec_reading list.now.count reading) (setting_in cx.now.core.now cx.now.options) (stored list.now.pointer) (shape_of (component_types cx.now.core.now) list.now.element)
+            cx.now.core.now.ledger cx.now.fuel r cx.now.core.now.ledger cx.now.fuel) }
+    {
+        None
+    }
+
     /// The same with an index of 32 bits.
     final fn linear_lift_from_flat<U, G>(
         alloc: Global,
@@ -106,6 +121,9 @@ pub trait Lift: ComponentType {
         ensures same_reference { cx.new.core.ghost_name ≡ cx.old.core.ghost_name }
         ensures same_options { cx.new.options ≡ cx.old.options }
     {
+        if let Some(items) = Self::lift_row(alloc, cx, list) {
+            return items;
+        }
         let _memory = cx.core.memory(); // memory has at most 2^32 bytes
         let size = u64::from(cx.types().canonical_abi(&list.element).size32);
         let mut items = Vec::new(alloc);

@@ -7,11 +7,12 @@ ghost use Rattle.canon_reading.specs.Readings.{scalar_reading};
 ghost use Rattle.canon_reading.specs.Scopes.{plain_kept};
 ghost use Rattle.canon_reading.specs.Taken.{scalar_taken};
 
-use crate::Lift;
+use crate::{Lift, WasmList};
 use crate::words::LoadedScalar;
+use canon_abi::OutOfMemory;
 use canon_bytes::{load_u8, load_u16, load_u32, load_u64};
 use canon_context::{At, Fault, LiftContext};
-use canon_lift_parts::{word_at, word_of};
+use canon_lift_parts::{copied_bytes, numbers, word_at, word_of};
 use canon_memory::ValRaw;
 use canon_typed::{Float32Bits, Float64Bits};
 use canon_types::InterfaceType;
@@ -51,6 +52,18 @@ impl<S: LoadedScalar> Lift for S {
         }
     }
 
+    fn lift_row<U, G>(
+        alloc: Global,
+        cx: &LiftContext<'_, U, G>,
+        list: &WasmList<S>,
+    ) -> Option<Result<Vec<S>, Fault>> {
+        match S::read_row(alloc, cx.memory(), list.pointer, list.count) {
+            Some(Ok(items)) => Some(Ok(items)),
+            Some(Err(_)) => Some(Err(Fault::OutOfMemory)),
+            None => None,
+        }
+    }
+
     ghost taken = { scalar_taken S.lifts };
 
     ghost apart = { tree_apart };
@@ -70,6 +83,15 @@ impl LoadedScalar for i8 {
     fn of_word(word: &ValRaw) -> Option<i8> {
         Some(((word.get_u32() % 256) as u8).cast_signed())
     }
+
+    fn read_row(
+        alloc: Global,
+        memory: &[u8],
+        at: u64,
+        count: u64,
+    ) -> Option<Result<Vec<i8>, OutOfMemory>> {
+        Some(numbers(alloc, memory, at, count))
+    }
 }
 
 impl LoadedScalar for u8 {
@@ -79,6 +101,15 @@ impl LoadedScalar for u8 {
 
     fn of_word(word: &ValRaw) -> Option<u8> {
         Some((word.get_u32() % 256) as u8)
+    }
+
+    fn read_row(
+        alloc: Global,
+        memory: &[u8],
+        at: u64,
+        count: u64,
+    ) -> Option<Result<Vec<u8>, OutOfMemory>> {
+        Some(copied_bytes(alloc, memory, at, count))
     }
 }
 
@@ -90,6 +121,15 @@ impl LoadedScalar for i16 {
     fn of_word(word: &ValRaw) -> Option<i16> {
         Some(((word.get_u32() % 65536) as u16).cast_signed())
     }
+
+    fn read_row(
+        alloc: Global,
+        memory: &[u8],
+        at: u64,
+        count: u64,
+    ) -> Option<Result<Vec<i16>, OutOfMemory>> {
+        Some(numbers(alloc, memory, at, count))
+    }
 }
 
 impl LoadedScalar for u16 {
@@ -99,6 +139,15 @@ impl LoadedScalar for u16 {
 
     fn of_word(word: &ValRaw) -> Option<u16> {
         Some((word.get_u32() % 65536) as u16)
+    }
+
+    fn read_row(
+        alloc: Global,
+        memory: &[u8],
+        at: u64,
+        count: u64,
+    ) -> Option<Result<Vec<u16>, OutOfMemory>> {
+        Some(numbers(alloc, memory, at, count))
     }
 }
 
@@ -110,6 +159,15 @@ impl LoadedScalar for i32 {
     fn of_word(word: &ValRaw) -> Option<i32> {
         Some(word.get_i32())
     }
+
+    fn read_row(
+        alloc: Global,
+        memory: &[u8],
+        at: u64,
+        count: u64,
+    ) -> Option<Result<Vec<i32>, OutOfMemory>> {
+        Some(numbers(alloc, memory, at, count))
+    }
 }
 
 impl LoadedScalar for u32 {
@@ -119,6 +177,15 @@ impl LoadedScalar for u32 {
 
     fn of_word(word: &ValRaw) -> Option<u32> {
         Some(word.get_u32())
+    }
+
+    fn read_row(
+        alloc: Global,
+        memory: &[u8],
+        at: u64,
+        count: u64,
+    ) -> Option<Result<Vec<u32>, OutOfMemory>> {
+        Some(numbers(alloc, memory, at, count))
     }
 }
 
@@ -130,6 +197,15 @@ impl LoadedScalar for i64 {
     fn of_word(word: &ValRaw) -> Option<i64> {
         Some(word.get_u64().cast_signed())
     }
+
+    fn read_row(
+        alloc: Global,
+        memory: &[u8],
+        at: u64,
+        count: u64,
+    ) -> Option<Result<Vec<i64>, OutOfMemory>> {
+        Some(numbers(alloc, memory, at, count))
+    }
 }
 
 impl LoadedScalar for u64 {
@@ -139,6 +215,15 @@ impl LoadedScalar for u64 {
 
     fn of_word(word: &ValRaw) -> Option<u64> {
         Some(word.get_u64())
+    }
+
+    fn read_row(
+        alloc: Global,
+        memory: &[u8],
+        at: u64,
+        count: u64,
+    ) -> Option<Result<Vec<u64>, OutOfMemory>> {
+        Some(numbers(alloc, memory, at, count))
     }
 }
 

@@ -63,21 +63,21 @@ pub trait Lower: ComponentType {
 
     /// Stores values in a row at once, where the type can; else it does nothing and says so.
     fn store_row<D, G: Guest>(
-        _cx: &mut LowerContext<'_, D, G>,
-        _ty: InterfaceType,
-        _offset: u64,
-        _items: &[Self],
+        cx: &mut LowerContext<'_, D, G>,
+        ty: InterfaceType,
+        offset: u64,
+        items: &[Self],
     ) -> bool
     where
         Self: Sized,
-        requires known { Knows (component_types _cx.old.core.now) _ty }
-        requires fits { Self.fits _cx.old.core.now.component.types _ty }
-        requires room { _offset + length _items.now * size false (shape_of (component_types _cx.old.core.now) _ty) ≤ length _cx.old.core.now.memory }
-        ensures stores { IsTrue result → TypedMembersStore G.seen G.moves _cx.old.options _cx.old.core.now _cx.new.core.now (copies (length _items.now) (shape_of (component_types _cx.old.core.now) _ty)) 0 _offset (EachMeans Self.walks _items.now)
-            (flat_map (gives _cx.old.core.now.component.types (shape_of (component_types _cx.old.core.now) _ty)) _items.now) (Ok tt) }
-        ensures left { IsFalse result → _cx.new.core.now ≡ _cx.old.core.now }
-        ensures same_reference { _cx.new.core.ghost_name ≡ _cx.old.core.ghost_name }
-        ensures same_options { _cx.new.options ≡ _cx.old.options }
+        requires known { Knows (component_types cx.old.core.now) ty }
+        requires fits { Self.fits cx.old.core.now.component.types ty }
+        requires room { offset + length items.now * size false (shape_of (component_types cx.old.core.now) ty) ≤ length cx.old.core.now.memory }
+        ensures stores { IsTrue result → TypedMembersStore G.seen G.moves cx.old.options cx.old.core.now cx.new.core.now (copies (length items.now) (shape_of (component_types cx.old.core.now) ty)) 0 offset (EachMeans Self.walks items.now)
+            (flat_map (gives cx.old.core.now.component.types (shape_of (component_types cx.old.core.now) ty)) items.now) (Ok tt) }
+        ensures left { IsFalse result → cx.new.core.now ≡ cx.old.core.now }
+        ensures same_reference { cx.new.core.ghost_name ≡ cx.old.core.ghost_name }
+        ensures same_options { cx.new.options ≡ cx.old.options }
     {
         false
     }
@@ -160,21 +160,21 @@ pub trait LowerShared: ComponentType {
 
     /// Stores values in a row at once, where the type can; else it does nothing and says so.
     fn store_row<D, G: Guest>(
-        _cx: &mut LowerContext<'_, D, G>,
-        _ty: InterfaceType,
-        _offset: u64,
-        _items: &[Self],
+        cx: &mut LowerContext<'_, D, G>,
+        ty: InterfaceType,
+        offset: u64,
+        items: &[Self],
     ) -> bool
     where
         Self: Sized,
-        requires known { Knows (component_types _cx.old.core.now) _ty }
-        requires fits { Self.fits _cx.old.core.now.component.types _ty }
-        requires room { _offset + length _items.now * size false (shape_of (component_types _cx.old.core.now) _ty) ≤ length _cx.old.core.now.memory }
-        ensures stores { IsTrue result → TypedMembersStore G.seen G.moves _cx.old.options _cx.old.core.now _cx.new.core.now (copies (length _items.now) (shape_of (component_types _cx.old.core.now) _ty)) 0 _offset (EachMeans Self.walks _items.now)
-            (flat_map (gives _cx.old.core.now.component.types (shape_of (component_types _cx.old.core.now) _ty)) _items.now) (Ok tt) }
-        ensures left { IsFalse result → _cx.new.core.now ≡ _cx.old.core.now }
-        ensures same_reference { _cx.new.core.ghost_name ≡ _cx.old.core.ghost_name }
-        ensures same_options { _cx.new.options ≡ _cx.old.options }
+        requires known { Knows (component_types cx.old.core.now) ty }
+        requires fits { Self.fits cx.old.core.now.component.types ty }
+        requires room { offset + length items.now * size false (shape_of (component_types cx.old.core.now) ty) ≤ length cx.old.core.now.memory }
+        ensures stores { IsTrue result → TypedMembersStore G.seen G.moves cx.old.options cx.old.core.now cx.new.core.now (copies (length items.now) (shape_of (component_types cx.old.core.now) ty)) 0 offset (EachMeans Self.walks items.now)
+            (flat_map (gives cx.old.core.now.component.types (shape_of (component_types cx.old.core.now) ty)) items.now) (Ok tt) }
+        ensures left { IsFalse result → cx.new.core.now ≡ cx.old.core.now }
+        ensures same_reference { cx.new.core.ghost_name ≡ cx.old.core.ghost_name }
+        ensures same_options { cx.new.options ≡ cx.old.options }
     {
         false
     }
