@@ -5,8 +5,9 @@ ghost use Rattle.canon_lift.specs.Views.{ListFits};
 use crate::cores::{over_bytes, stays};
 use canon_context::MemoryView;
 use canon_lift::{Lift, WasmList};
-use canon_test_core::{TestCore, list_of};
-use canon_types::{InterfaceType, OutOfMemory};
+use canon_memory::{Memory, MemoryError};
+use canon_test_core::{TestCore, list_of, with_core};
+use canon_types::{InterfaceType, OutOfMemory, StringEncoding};
 use std::alloc::Global;
 
 /// Integers that are copied from memory.
@@ -180,4 +181,53 @@ fn integers_of_8_bytes_are_copied_lowest_byte_first(rt: HostRuntime) {
             &[0x0200_0000_0000_0001i64, -1]
         )
     );
+}
+
+/// The number at a place of a row.
+fn number(place: u8) -> u32 {
+    u32::from(place).wrapping_mul(2_654_435_761)
+}
+
+/// The numbers of a row, and their bytes behind the pointer and the length of a list of them.
+fn row_of(alloc: Global, count: u8) -> Option<(Vec<u32>, Vec<u8>)> {
+    let mut items = Vec::new(alloc);
+    let mut bytes = vec![in alloc; 8u8, 0, 0, 0, count, 0, 0, 0].ok()?;
+    for place in 0..count {
+        let number = number(place);
+        items.push(number).ok()?;
+        bytes.push((number % 256) as u8).ok()?;
+        bytes.push((number / 256 % 256) as u8).ok()?;
+        bytes.push((number / 65_536 % 256) as u8).ok()?;
+        bytes.push((number / 16_777_216) as u8).ok()?;
+    }
+    Some((items, bytes))
+}
+
+/// A memory of 512 bytes that begins with these.
+fn memory_of(alloc: Global, bytes: &[u8]) -> Result<Memory, MemoryError> {
+    if bytes.len() > 512 {
+        return Err(MemoryError::TooLarge);
+    }
+    let mut memory = Memory::new(alloc, 512)?;
+    memory.as_slice_mut()[..bytes.len()].copy_from_slice(bytes);
+    Ok(memory)
+}
+
+/// Whether a row of so many numbers is read as a plain loop spelled them, both where it stays in memory and as a vector.
+fn is_row_read(alloc: Global, count: u8) -> Option<bool> {
+    let (items, bytes) = row_of(alloc, count)?;
+    let memory = memory_of(alloc, bytes.as_slice());
+    let list = list_of(alloc, InterfaceType::U32);
+    with_core(alloc, StringEncoding::Utf8, memory, list, |alloc, core, ty| {
+        let is_same = is_copied::<u32>(alloc, core, ty, items.as_slice())?;
+        let lifted: Vec<u32> = stays(alloc, core, ty)?;
+        Some(is_same && lifted.as_slice() == items.as_slice())
+    })
+}
+
+#[test]
+fn rows_are_read_as_a_plain_loop_reads_them(rt: HostRuntime) {
+    for count in [0u8, 1, 31, 32, 33, 64, 65] {
+        assert!(rt; is_row_read(rt.alloc(), count) == Some(true));
+    }
 }

@@ -100,11 +100,11 @@ pub trait Lower: ComponentType {
         ensures same_reference { cx.new.core.ghost_name ≡ cx.old.core.ghost_name }
         ensures same_options { cx.new.options ≡ cx.old.options }
     {
+        let _memory = cx.core.memory(); // memory has at most 2^32 bytes
+        let size = u64::from(cx.types().canonical_abi(&ty).size32);
         if Self::store_row(cx, ty, offset, items) {
             return Ok(());
         }
-        let _memory = cx.core.memory(); // memory has at most 2^32 bytes
-        let size = u64::from(cx.types().canonical_abi(&ty).size32);
         for k in 0..items.len() {
             match items[k].linear_lower_to_memory(cx, ty, offset + k as u64 * size) {
                 Ok(()) => {}
@@ -197,11 +197,11 @@ pub trait LowerShared: ComponentType {
         ensures same_reference { cx.new.core.ghost_name ≡ cx.old.core.ghost_name }
         ensures same_options { cx.new.options ≡ cx.old.options }
     {
+        let _memory = cx.core.memory(); // memory has at most 2^32 bytes
+        let size = u64::from(cx.types().canonical_abi(&ty).size32);
         if Self::store_row(cx, ty, offset, items) {
             return Ok(());
         }
-        let _memory = cx.core.memory(); // memory has at most 2^32 bytes
-        let size = u64::from(cx.types().canonical_abi(&ty).size32);
         for k in 0..items.len() {
             match items[k].linear_lower_to_memory(cx, ty, offset + k as u64 * size) {
                 Ok(()) => {}

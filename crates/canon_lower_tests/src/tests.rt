@@ -408,3 +408,39 @@ fn values_in_a_row_are_stored(rt: HostRuntime) {
     assert!(rt; shared == Some(true));
     assert!(rt; owned == Some(true));
 }
+
+/// The number at a place of a row.
+fn number(place: u8) -> u16 {
+    u16::from(place).wrapping_mul(40_503)
+}
+
+/// Whether a row of so many numbers is stored as a plain loop spells them, and no byte behind it is written.
+fn is_row_stored(alloc: Global, count: u8) -> Option<bool> {
+    let mut items = Vec::new(alloc);
+    let mut bytes = Vec::new(alloc);
+    for place in 0..count {
+        let number = number(place);
+        items.push(number).ok()?;
+        bytes.push((number % 256) as u8).ok()?;
+        bytes.push((number / 256) as u8).ok()?;
+    }
+    bytes.push(0xaa).ok()?;
+    let words = [ValRaw::u32(1024), ValRaw::u32(u32::from(count))];
+    let place = [0, 4, 0, 0, count, 0, 0, 0];
+    let found = lowers(
+        alloc,
+        list_of(alloc, U16),
+        Some(items),
+        &words,
+        &place,
+        bytes.as_slice(),
+    );
+    Some(found == ALL)
+}
+
+#[test]
+fn rows_are_stored_as_a_plain_loop_stores_them(rt: HostRuntime) {
+    for count in [0u8, 1, 31, 32, 33, 64, 65] {
+        assert!(rt; is_row_stored(rt.alloc(), count) == Some(true));
+    }
+}

@@ -1,0 +1,19 @@
+use Rattle.std.proofs.Common.{◌≡◌}
+use Rattle.canon_context.specs.Core.{component_types}
+use Rattle.canon_types.specs.Table.{shape_of}
+use Rattle.canon_reading.specs.Reading.{setting_in}
+use Rattle.canon_reading.specs.Spots.{stored}
+use Rattle.canon_lift.proofs.IntegerRows.{row_lifts, row_lost, row_room}
+use Rattle.canon_lift.proofs.scalars.AnyLift.lift_row.Goals as goal
+
+pub read_row-requires : goal.read_row-requires
+read_row-requires g c =
+    let core = c.args.cx.now.core.now in
+    let list = c.args.list.now in
+    record {
+      inside = row_room c.memory.result.now core.memory (shape_of (component_types core) list.element) g.S.ScalarType.kind list.pointer list.count
+          (g.met.S.ScalarType.is_scalar.shape core.component.types list.element c.requires.items.fits) c.requires.items.good.1 c.memory.ensures;
+    }
+
+pub returns : goal.returns
+returns g c = ?
