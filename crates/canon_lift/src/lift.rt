@@ -71,7 +71,7 @@ pub trait Lift: ComponentType {
         ensures same_options { cx.new.options ≡ cx.old.options };
 
     /// Lifts the items of a list at once, where the type's are; else there is no answer.
-    fn lift_row<U, G>(
+    fn load_row<U, G>(
         alloc: Global,
         cx: &LiftContext<'_, U, G>,
         list: &WasmList<Self>,
@@ -121,7 +121,7 @@ pub trait Lift: ComponentType {
         ensures same_reference { cx.new.core.ghost_name ≡ cx.old.core.ghost_name }
         ensures same_options { cx.new.options ≡ cx.old.options }
     {
-        if let Some(items) = Self::lift_row(alloc, cx, list) {
+        if let Some(items) = Self::load_row(alloc, cx, list) {
             return items;
         }
         let _memory = cx.core.memory(); // memory has at most 2^32 bytes

@@ -52,7 +52,7 @@ impl<S: LoadedScalar> Lift for S {
         }
     }
 
-    fn lift_row<U, G>(
+    fn load_row<U, G>(
         alloc: Global,
         cx: &LiftContext<'_, U, G>,
         list: &WasmList<S>,

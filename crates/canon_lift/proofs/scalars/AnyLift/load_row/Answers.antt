@@ -4,7 +4,7 @@ use Rattle.canon_types.specs.Table.{shape_of}
 use Rattle.canon_reading.specs.Reading.{setting_in}
 use Rattle.canon_reading.specs.Spots.{stored}
 use Rattle.canon_lift.proofs.IntegerRows.{row_lifts, row_lost, row_room}
-use Rattle.canon_lift.proofs.scalars.AnyLift.lift_row.Goals as goal
+use Rattle.canon_lift.proofs.scalars.AnyLift.load_row.Goals as goal
 
 pub read_row-requires : goal.read_row-requires
 read_row-requires g c =
