@@ -52,7 +52,7 @@ row_stands k Means Held law m p count (Err e) c h = tt
 module _ {A : Type 0} (Means : A → Tree → Type 0) (w : Setting) (s : Shape) where
   scalars_reach : (n : ℕ) (at : Spot) → each_reach (scalar_reading Means) w s at n ≡ 0
   scalars_reach zero at = refl
-  scalars_reach (suc n) at = scalars_reach n (behind w.memory s at)
+  scalars_reach (suc n) at = omega (arith, scalars_reach n (behind w.memory s at))
 
   -- no room was found for them
   pub row_lost : (n : ℕ) (at : Spot) (l : LedgerState) (fuel : ℕ) → Refused (vec_reading n (scalar_reading Means)) w at s l fuel fault.OutOfMemory l fuel

@@ -1,4 +1,3 @@
-use Rattle.std.proofs.Common.{◌≡◌}
 use Rattle.canon_context.specs.Core.{component_types}
 use Rattle.canon_types.specs.Table.{shape_of}
 use Rattle.canon_reading.specs.Reading.{setting_in}
@@ -15,5 +14,19 @@ read_row-requires g c =
           (g.met.S.ScalarType.is_scalar.shape core.component.types list.element c.requires.items.fits) c.requires.items.good.1 c.memory.ensures;
     }
 
-pub returns : goal.returns
-returns g c = ?
+pub returns-in-Some-Ok : goal.returns-in-Some-Ok
+returns-in-Some-Ok g c =
+    let cx = c.args.cx.now in
+    let core = cx.core.now in
+    let list = c.args.list.now in
+    record {
+      lifts = row_lifts g.S.ComponentType.lifts core cx.options list.element g.S.ScalarType.kind (g.met.S.ScalarType.is_scalar.shape core.component.types list.element c.requires.items.fits)
+          c.memory.result.now list.pointer list.count cx.fuel c.in-Some-Ok.items c.memory.ensures c.requires.items.good.1 c.in-Some-Ok.ensures;
+    }
+
+pub returns-in-Some-Err : goal.returns-in-Some-Err
+returns-in-Some-Err g c =
+    let cx = c.args.cx.now in
+    let core = cx.core.now in
+    let list = c.args.list.now in
+    record { lifts = row_lost g.S.ComponentType.lifts (setting_in core cx.options) (shape_of (component_types core) list.element) list.count (stored list.pointer) core.ledger cx.fuel }
