@@ -1,9 +1,9 @@
-use Rattle.std.proofs.Common.{◌≡◌, ◌∙◌, Err, Ok, arith, false, length}
+use Rattle.std.proofs.Common.{rules, ◌≡◌, ◌∙◌, Err, Ok, arith, false, length, subst, sym}
 use Rattle.canon_context.proofs.Moves.{GuestLaws}
-use Rattle.canon_context.specs.Core.{component_types}
+use Rattle.canon_context.specs.Core.{Parts, component_types}
 use Rattle.canon_model.specs.Layout.{size}
 use Rattle.canon_types.specs.Table.{shape_of}
-use Rattle.canon_lower_parts.proofs.Rows.{item_stood, row_broken, row_end, row_go_on}
+use Rattle.canon_lower_parts.proofs.Rows.{RowIsStored, item_stood, row_begin, row_broken, row_end, row_go_on}
 use Rattle.canon_plan.proofs.Lookups.{drop_at, item_size}
 use Rattle.canon_passing.proofs.Passing.{handles_instance}
 use Rattle.canon_lower.proofs.lower.LowerShared.linear_store_list_to_memory.Goals as goal
@@ -52,3 +52,17 @@ returns-clause-stores g c =
     let t = component_types core in
     let all : c.loop-k.k ≡ length a.items.now = omega (arith, c.loop-k-test.false, c.loop-k.auto.k-end) in
     row_end L a.cx.now.options g.Self.ComponentType.walks (g.Self.LowerShared.gives core.component.types (shape_of t a.ty)) (shape_of t a.ty) a.offset a.items.now core c.loop-k.cx.core.now c.loop-k.k all c.loop-k.invariant.stored
+
+pub loop-k-init : goal.loop-k-init
+loop-k-init g c =
+    let L : GuestLaws _ = record { seen = g.G.Guest.seen; moves = g.G.Guest.moves; stays = g.met.G.Guest.stays; goes_on = g.met.G.Guest.goes_on } in
+    let a = c.args in
+    let core = a.cx.now.core.now in
+    let s = shape_of (component_types core) a.ty in
+    let left : c.store_row.new.cx.core.now ≡ core = c.store_row.ensures.left (search rules) in
+    record {
+      stored = subst (λ (z : Parts g.row.D.Denot g.row.G.Denot). RowIsStored L a.cx.now.options g.Self.ComponentType.walks (g.Self.LowerShared.gives core.component.types s) s a.offset a.items.now core z 0) (sym left)
+          (row_begin L a.cx.now.options g.Self.ComponentType.walks (g.Self.LowerShared.gives core.component.types s) s a.offset a.items.now core c.memory-memory.ensures.small);
+      options = c.store_row.ensures.same_options;
+      reference = c.store_row.ensures.same_reference;
+    }
