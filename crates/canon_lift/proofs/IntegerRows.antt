@@ -9,7 +9,7 @@ use Rattle.canon_lift_parts.proofs.IntegerRows.{held_as}
 use Rattle.canon_lift_parts.specs.Integers.{AreSpelled}
 use Rattle.canon_lowering.specs.Storing.{narrow}
 use Rattle.canon_model.specs.Layout.{scalar_size, size}
-use Rattle.canon_model.specs.Memory.{Memory, num}
+use Rattle.canon_model.specs.Memory.{Memory}
 use Rattle.canon_model.specs.Shape.{Scalar, Shape, scalar}
 use Rattle.canon_model.specs.Tree.{Tree}
 use Rattle.canon_reading.specs.Items.{vec_reading}
@@ -68,9 +68,12 @@ module _ {D G A : Type 0} (Means : A → Tree → Type 0) (core : Parts D G) (o 
   row_reads (x ∷ xs) p inside ((t, stands, means), rest) =
       let s = shape_of (component_types core) type in
       let one : p + size false s ≤ length core.memory = omega (arith, inside, suc-mul (length xs) (size false s)) in
-      let (read, spent) = scalar_lifts Means core o type k p 0 _ core.memory x t is one refl refl stands means in
-      (core.ledger, read, row_reads xs (p + size false s) (omega (arith, inside, suc-mul (length xs) (size false s)))
-      (subst (λ (n : ℕ). AreSpelled (λ x n. StandsFor k Means n x) (scalar_size k) (narrow core.memory) (p + n) xs) (sym bytes_are) rest))
+      let (read, spent) = scalar_lifts Means core o type k p 0 _ core.memory x t is one refl refl stands means in (
+        core.ledger,
+        read,
+        row_reads xs (p + size false s) (omega (arith, inside, suc-mul (length xs) (size false s)))
+            (subst (λ (n : ℕ). AreSpelled (λ x n. StandsFor k Means n x) (scalar_size k) (narrow core.memory) (p + n) xs) (sym bytes_are) rest),
+      )
 
   pub row_lifts : (bytes : List ℕ) (p n fuel : ℕ) (v : Vec A Global) → bytes ≡ core.memory → p + n * size false (shape_of (component_types core) type) ≤ length core.memory
       → (length v.items ≡ n) × AreSpelled (λ x j. StandsFor k Means j x) (scalar_size k) (narrow bytes) p v.items

@@ -7,8 +7,8 @@ ghost use Rattle.canon_reading.specs.Readings.{scalar_reading};
 ghost use Rattle.canon_reading.specs.Scopes.{plain_kept};
 ghost use Rattle.canon_reading.specs.Taken.{scalar_taken};
 
-use crate::{Lift, WasmList};
 use crate::words::LoadedScalar;
+use crate::{Lift, WasmList};
 use canon_abi::OutOfMemory;
 use canon_bytes::{load_u8, load_u16, load_u32, load_u64};
 use canon_context::{At, Fault, LiftContext};

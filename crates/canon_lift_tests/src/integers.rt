@@ -218,11 +218,17 @@ fn is_row_read(alloc: Global, count: u8) -> Option<bool> {
     let (items, bytes) = row_of(alloc, count)?;
     let memory = memory_of(alloc, bytes.as_slice());
     let list = list_of(alloc, InterfaceType::U32);
-    with_core(alloc, StringEncoding::Utf8, memory, list, |alloc, core, ty| {
-        let is_same = is_copied::<u32>(alloc, core, ty, items.as_slice())?;
-        let lifted: Vec<u32> = stays(alloc, core, ty)?;
-        Some(is_same && lifted.as_slice() == items.as_slice())
-    })
+    with_core(
+        alloc,
+        StringEncoding::Utf8,
+        memory,
+        list,
+        |alloc, core, ty| {
+            let is_same = is_copied::<u32>(alloc, core, ty, items.as_slice())?;
+            let lifted: Vec<u32> = stays(alloc, core, ty)?;
+            Some(is_same && lifted.as_slice() == items.as_slice())
+        },
+    )
 }
 
 #[test]

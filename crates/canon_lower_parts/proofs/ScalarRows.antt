@@ -18,11 +18,11 @@ use Rattle.canon_model.specs.Shape as shape
 use Rattle.canon_model.specs.Shape.{Scalar, Shape, scalar}
 use Rattle.canon_model.specs.Tree.{Tree, number}
 use Rattle.canon_typed.specs.Meaning.{EachMeans}
-use Rattle.canon_lower_parts.proofs.Rows.{Row, RowFrom, row_more, row_nothing}
+use Rattle.canon_lower_parts.proofs.Rows.{row_more, row_nothing}
 use Rattle.canon_lower_parts.proofs.ScalarSteps.{lower_scalar_stores}
 use Rattle.canon_lower_parts.specs.Scalars.{IsWordOfScalar}
 use Rattle.canon_lower_parts.specs.ScalarRows.{AreWritten, IsScalarWritten}
-use Rattle.canon_lower_parts.specs.Stores.{IsPut, TypedMembersStore, TypedStores}
+use Rattle.canon_lower_parts.specs.Stores.{TypedMembersStore, TypedStores}
 
 -- ---- one after another
 
@@ -112,9 +112,9 @@ put_writes xs ys a k room count = record {
   same_length = same_len_mid a k xs ys (count ∙ sym (length-take-le k (drop a xs) (omega (arith, room, length-drop a xs))));
   kept = λ i out. ⊎_elim (λ lt. put_below xs ys a k i (omega (arith, room)) lt)
       (λ le. ⊎_elim (λ lt. absurd (out (inl (le, lt))))
-          (λ past. let is : a + k + (i - (a + k)) ≡ i = omega (arith, past) in
-              subst (λ (j : ℕ). slice_index (put_mid a k xs ys) j ≡ slice_index xs j) is (put_behind xs ys a k (i - (a + k)) (omega (arith, room)) count))
-          (below_or i (a + k)))
+      (λ past. let is : a + k + (i - (a + k)) ≡ i = omega (arith, past) in
+      subst (λ (j : ℕ). slice_index (put_mid a k xs ys) j ≡ slice_index xs j) is (put_behind xs ys a k (i - (a + k)) (omega (arith, room)) count))
+      (below_or i (a + k)))
       (below_or i a);
 }
 
@@ -136,16 +136,19 @@ put_next m xs x at room =
     let back : drop (at + 1) mid ≡ drop (at + 1) m = drop-put_mid at 1 m (x ∷ []) (at + 1) (omega arith) (omega (arith, room)) refl in
     let place : at + 1 + length xs ≡ at + suc (length xs) = omega arith in
     let rest : drop (length xs) (drop (at + 1) mid) ≡ drop (suc (length xs)) (drop at m) =
-      ap (drop (length xs)) back ∙ drop-drop (length xs) (at + 1) m ∙ ap (λ j. drop j m) place ∙ sym (drop-drop (suc (length xs)) at m) in
+    ap (drop (length xs)) back ∙ drop-drop (length xs) (at + 1) m ∙ ap (λ j. drop j m) place ∙ sym (drop-drop (suc (length xs)) at m) in
     ap₂ (λ f r. f ++ (xs ++ r)) front rest ∙ append_assoc (take at m) (x ∷ []) (xs ++ drop (suc (length xs)) (drop at m))
 
 bytes_written : (xs m : List ℕ) (at : ℕ) → at + length xs ≤ length m → ((i : ℕ) → get_or xs i 0 < 256) → AreWritten shape.u8 (λ n t. t ≡ number (pos n)) m at xs (put_mid at (length xs) m xs)
 bytes_written [] m at room small = put_same at 0 m
 bytes_written (x ∷ xs) m at room small =
     let mid : List ℕ = put_mid at 1 m (x ∷ []) in
-    let one = byte_written (λ t. t ≡ number (pos x)) m at x refl (small 0) (omega (arith, room)) in
-    (mid, one, subst (λ (after : List ℕ). AreWritten shape.u8 (λ n t. t ≡ number (pos n)) mid (at + 1) xs after) (put_next m xs x at room)
-    (bytes_written xs mid (at + 1) (omega (arith, room, one.writes.same_length)) (λ i. small (suc i))))
+    let one = byte_written (λ t. t ≡ number (pos x)) m at x refl (small 0) (omega (arith, room)) in (
+      mid,
+      one,
+      subst (λ (after : List ℕ). AreWritten shape.u8 (λ n t. t ≡ number (pos n)) mid (at + 1) xs after) (put_next m xs x at room)
+          (bytes_written xs mid (at + 1) (omega (arith, room, one.writes.same_length)) (λ i. small (suc i))),
+    )
 
 pub bytes_copied : (xs ys m : List ℕ) (at n : ℕ) → ys ≡ xs → n ≡ length xs → at + length xs ≤ length m → ((i : ℕ) → get_or xs i 0 < 256) → AreWritten shape.u8 (λ n t. t ≡ number (pos n)) m at xs (put_mid at n m ys)
 bytes_copied xs ys m at n same count room small =

@@ -1,4 +1,4 @@
-use Rattle.std.proofs.Common.{◌≡◌, ◌+◌, ◌*◌, ◌∙◌, ap₂, arith, length, length-take-le, refl, subst, sym, take, ℕ}
+use Rattle.std.proofs.Common.{◌≡◌, ◌+◌, ◌*◌, ◌∙◌, ap₂, arith, length, length-take-le, subst, sym, take, ℕ}
 use Rattle.canon_model.specs.Layout.{scalar_size}
 use Rattle.canon_lower_parts.specs.ScalarRows.{AreWritten}
 use Rattle.canon_lower_parts.proofs.ScalarRows.{one_written, take_more, written_more}
