@@ -7,4 +7,6 @@ use Rattle.canon_lift.proofs.IntegerRows.{row_stands}
 use Rattle.canon_lift.proofs.scalars.I64LoadedScalar.read_row.Goals as goal
 
 pub returns : goal.returns
-returns c = row_stands shape.s64 (λ n t. t ≡ number n) (λ (x : ℤ) (n : ℕ). x ≡ cast_signed w64 n) (λ x n e. (number x, ap number e, refl)) (narrow c.args.memory.now) c.args.at c.args.count c.numbers.result c.numbers.ensures.count c.numbers.ensures.held
+returns c =
+    row_stands shape.s64 (λ n t. t ≡ number n) (λ (x : ℤ) (n : ℕ). x ≡ cast_signed w64 n) (λ x n e. (number x, ap number e, refl))
+    (narrow c.args.memory.now) c.args.at c.args.count c.numbers.result c.numbers.ensures.count c.numbers.ensures.held

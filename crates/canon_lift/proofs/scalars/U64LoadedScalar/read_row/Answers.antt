@@ -6,4 +6,6 @@ use Rattle.canon_lift.proofs.IntegerRows.{row_stands}
 use Rattle.canon_lift.proofs.scalars.U64LoadedScalar.read_row.Goals as goal
 
 pub returns : goal.returns
-returns c = row_stands shape.u64 (λ n t. t ≡ number (pos n)) (λ (x : ℕ) (n : ℕ). x ≡ n) (λ x n e. (number (pos x), ap (λ (j : ℕ). number (pos j)) e, refl)) (narrow c.args.memory.now) c.args.at c.args.count c.numbers.result c.numbers.ensures.count c.numbers.ensures.held
+returns c =
+    row_stands shape.u64 (λ n t. t ≡ number (pos n)) (λ (x : ℕ) (n : ℕ). x ≡ n) (λ x n e. (number (pos x), ap (λ (j : ℕ). number (pos j)) e, refl))
+    (narrow c.args.memory.now) c.args.at c.args.count c.numbers.result c.numbers.ensures.count c.numbers.ensures.held
